@@ -2,7 +2,8 @@
 -- that it names, which are those that the direction's sender finds newly acknowledged (RFC 4960 section 6.2.1).
 use Rattle.std.proofs.Common.{ℕ, suc, ◌+◌, ◌-◌, ◌<◌, ◌≤◌, ◌≡◌, Bool, true, false, not, cond, eqb, ◌&&◌, List, []}
 use Rattle.std.proofs.Common.{◌∷◌, length, Option, Some, None, is_some, refl, sym, ap, ◌∙◌, ⊎_elim, arith}
-use Rattle.std.proofs.lemmas.Bool.{cases_Bool, cond-true, cond-false, eq-eqb, eqb-true, ne_eqb, false≢true, true≢false}
+use Rattle.std.proofs.lemmas.Bool.{cases_Bool, cond_both, cond-true, cond-false, eq-eqb, eqb-true, ne_eqb}
+use Rattle.std.proofs.lemmas.Bool.{false≢true, true≢false}
 use Rattle.sctp_outbound_queue.specs.declared.message.InFlight.{InFlight}
 use Rattle.sctp_outbound_queue.specs.Message.{outstanding_bytes}
 use Rattle.sctp_outbound.specs.GapAcks.{released_among}
@@ -63,13 +64,13 @@ own_less p freed s bytes (Some t) l h = omega (arith, l, h)
 
 -- One piece
 
--- each live stream is of its generation
-abbrev pub AreOf : (ℕ → ℕ) → StreamMap → Type 0
-AreOf generations m = (s : ℕ) (t : StreamView) → stream_at m s ≡ Some t → t.stats.generation ≡ generations s
+-- the stream s, if it is live, is of this generation
+abbrev pub IsOf : ℕ → StreamMap → ℕ → Type 0
+IsOf generation m s = (t : StreamView) → stream_at m s ≡ Some t → t.stats.generation ≡ generation
 
--- bytes of a live stream are released in its generation
+-- bytes of a live stream are released in its generation, and those of another one are nothing to it
 pub released_at : (m : StreamMap) (id generation bytes s : ℕ) (o : Option StreamView) → stream_at m id ≡ o
-    → ((t : StreamView) → o ≡ Some t → t.stats.generation ≡ generation)
+    → (id ≡ s → (t : StreamView) → o ≡ Some t → t.stats.generation ≡ generation)
     → stream_at (cond (is_generation o generation) (change_at (λ t. released_from t bytes) o m id) m) s
     ≡ less (cond (eqb id s) bytes 0) (stream_at m s)
 released_at m id generation bytes s None e g =
@@ -81,28 +82,33 @@ released_at m id generation bytes s None e g =
     sym (ap (λ z. less (cond z bytes 0) (stream_at m s)) b ∙ less_none (stream_at m s)))
     (cases_Bool (eqb id s))
 released_at m id generation bytes s (Some t) e g =
-    ap (λ z. stream_at (cond z (with_stream m id (released_from t bytes)) m) s) (eq-eqb _ _ (g t refl))
-    ∙ at_with m id s t (released_from t bytes) e
-    ∙ ⊎_elim
+    ⊎_elim
     (λ (b : eqb id s ≡ true).
     let n : stream_at m s ≡ Some t = ap (stream_at m) (sym (eqb-true id s b)) ∙ e in
-    cond-true (eqb s id) (Some (released_from t bytes)) (stream_at m s) (eq-eqb s id (sym (eqb-true id s b)))
+    ap (λ z. stream_at (cond z (with_stream m id (released_from t bytes)) m) s)
+    (eq-eqb _ _ (g (eqb-true id s b) t refl))
+    ∙ at_with m id s t (released_from t bytes) e
+    ∙ cond-true (eqb s id) (Some (released_from t bytes)) (stream_at m s) (eq-eqb s id (sym (eqb-true id s b)))
     ∙ sym (ap (λ z. less (cond z bytes 0) (stream_at m s)) b ∙ ap (less bytes) n))
     (λ (b : eqb id s ≡ false).
-    cond-false (eqb s id) (Some (released_from t bytes)) (stream_at m s)
-    (ne_eqb s id (λ (c : s ≡ id). false≢true (sym b ∙ eq-eqb id s (sym c))))
+    cond_both (eqb t.stats.generation generation) (with_stream m id (released_from t bytes)) m
+    (λ (z : StreamMap). stream_at z s ≡ stream_at m s)
+    (λ c. at_with m id s t (released_from t bytes) e
+    ∙ cond-false (eqb s id) (Some (released_from t bytes)) (stream_at m s)
+    (ne_eqb s id (λ (d : s ≡ id). false≢true (sym b ∙ eq-eqb id s (sym d)))))
+    (λ c. refl)
     ∙ sym (ap (λ z. less (cond z bytes 0) (stream_at m s)) b ∙ less_none (stream_at m s)))
     (cases_Bool (eqb id s))
 
 -- a piece releases its outstanding bytes, where a SACK names it
-released_step : (generations : ℕ → ℕ) (m : StreamMap) (x : InFlight) (s : ℕ) (named : Bool) → AreOf generations m
-    → x.message.generation ≡ generations x.message.stream_identifier
+released_step : (m : StreamMap) (x : InFlight) (s : ℕ) (named : Bool)
+    → (x.message.stream_identifier ≡ s → IsOf x.message.generation m x.message.stream_identifier)
     → stream_at (cond named (streams_after (Some x) m) m) s
     ≡ less (cond named (cond (eqb x.message.stream_identifier s) (outstanding_bytes x) 0) 0) (stream_at m s)
-released_step generations m x s true all e =
+released_step m x s true is =
     released_at m x.message.stream_identifier x.message.generation (outstanding_bytes x) s
-    (stream_at m x.message.stream_identifier) refl (λ t h. all _ t h ∙ sym e)
-released_step generations m x s false all e = sym (less_none (stream_at m s))
+    (stream_at m x.message.stream_identifier) refl is
+released_step m x s false is = sym (less_none (stream_at m s))
 
 -- All pieces
 
@@ -112,20 +118,26 @@ freed named s j [] = 0
 freed named s j (x ∷ xs) =
     cond (named j) (cond (eqb x.message.stream_identifier s) (outstanding_bytes x) 0) 0 + freed named s (suc j) xs
 
-module _ (n : Names) (p : Plan) (acked : ℕ → Bool) (gone : ℕ → ℕ → Bool) (named : ℕ → Bool) (s : ℕ) where
-  -- each live stream has what was released of it less
-  pub released_all : (o j : ℕ) (xs : List InFlight) (m : StreamMap) → AreOf n.generations m
+module _ (n : Names) (p : Plan) (acked : ℕ → Bool) (gone : ℕ → ℕ → Bool) (named : ℕ → Bool) (s : ℕ)
+    (within : n.within s ≡ true) where
+  -- a piece of the stream is of its generation
+  same_generation : (m : StreamMap) (o : ℕ) (x : InFlight) → IsOf (n.generations s) m s → IsInFlight n p acked gone o x
+      → x.message.stream_identifier ≡ s → IsOf x.message.generation m x.message.stream_identifier
+  same_generation m o x is h e t there =
+      is t (ap (stream_at m) (sym e) ∙ there) ∙ ap n.generations (sym e)
+      ∙ sym (h.message.generation (ap n.within e ∙ within))
+
+  -- if it is live, it has what was released of it less
+  pub released_all : (o j : ℕ) (xs : List InFlight) (m : StreamMap) → IsOf (n.generations s) m s
       → AreInFlight n p acked gone o xs
       → stream_at (released_among named j xs m) s ≡ less (freed named s j xs) (stream_at m s)
-  released_all o j [] m all h = sym (less_none (stream_at m s))
-  released_all o j (x ∷ xs) m all (h, hs) =
+  released_all o j [] m is h = sym (less_none (stream_at m s))
+  released_all o j (x ∷ xs) m is (h, hs) =
+      let here = released_step m x s (named j) (same_generation m o x is h) in
       released_all (suc o) (suc j) xs (cond (named j) (streams_after (Some x) m) m)
-      (λ t u e.
-      generation_less (n.generations t) _ (stream_at m t) (all t) u
-      (sym (released_step n.generations m x t (named j) all h.message.generation) ∙ e))
+      (λ u e. generation_less (n.generations s) _ (stream_at m s) is u (sym here ∙ e))
       hs
-      ∙ ap (less (freed named s (suc j) xs))
-      (released_step n.generations m x s (named j) all h.message.generation)
+      ∙ ap (less (freed named s (suc j) xs)) here
       ∙ less_more _ _ (stream_at m s)
 
 -- The model

@@ -38,13 +38,13 @@ spelt : (initial reach o : ℕ) → reach ≤ o → o < 2 ^ 31 → reach + tsn_p
 spelt initial reach o l m = omega arith
 
 module _ (a : Receiving) (piece : ChunkPayloadData) (k : ℕ) (d : Data) (w : Direction)
-    (e : slice_get w.datas k ≡ Some d) (said : IsSaid a.peer piece d) (new : is_new w.receiver d.offset ≡ true)
+    (e : slice_get w.datas k ≡ Some d) (said : IsSaid w.over a.peer piece d) (new : is_new w.receiver d.offset ≡ true)
     (within : IsWithin w) (inv : Invariant w) (fits : FitsIncoming a w) where
   -- DATA that is new has the offset that its TSN spells past the reach
   spells_its_offset : offset_of a piece.tsn ≡ d.offset
   spells_its_offset =
       ap (λ z. z + tsn_past (tsn a.peer z) piece.tsn) (same_reach a w fits)
-      ∙ ap (λ z. reach w.receiver + tsn_past (tsn a.peer (reach w.receiver)) z) said.carries.tsn
+      ∙ ap (λ z. reach w.receiver + tsn_past (tsn a.peer (reach w.receiver)) z) said.tsn
       ∙ spelt a.peer (reach w.receiver) d.offset (leb-true _ _ past) small
     where
       given : IsPiece w.sender.plan d
@@ -71,7 +71,7 @@ came_in w k d e o n =
     (record w { receiver = model_took w.receiver d }) w (and_from w.receiver.is_open (is_new w.receiver d.offset) o n)
 
 module _ (a : Receiving) (piece : ChunkPayloadData) (k : ℕ) (d : Data) (t : StreamView) (limit : ℕ) (w : Direction)
-    (e : slice_get w.datas k ≡ Some d) (said : IsSaid a.peer piece d) (new : is_new w.receiver d.offset ≡ true)
+    (e : slice_get w.datas k ≡ Some d) (said : IsSaid w.over a.peer piece d) (new : is_new w.receiver d.offset ≡ true)
     (there : stream_at a.streams piece.stream_identifier ≡ Some t) (v : w.over piece.stream_identifier ≡ false)
     (within : IsWithin w) (inv : Invariant w) (fits : FitsIncoming a w) where
   -- what an association takes in of new DATA comes to the receiver, ordered or not
@@ -117,10 +117,10 @@ module _ (a : Receiving) (piece : ChunkPayloadData) (k : ℕ) (d : Data) (t : St
           ⊎_elim
           (λ (b : d.ordered ≡ true).
           data_that_comes_stands a.peer w k limit t.reassembly piece d within inv spans e fits.is_open new b
-          said.carries stood)
+          (said.carries spans) stood)
           (λ (b : d.ordered ≡ false).
           unordered_data_that_comes_stands a.peer w k limit t.reassembly piece d within inv spans e fits.is_open new b
-          said.carries stood)
+          (said.carries spans) stood)
           (cases_Bool d.ordered)
 
       pushed_stream : StreamView

@@ -20,6 +20,7 @@ use Rattle.sctp_fit.specs.Outgoing.{AreInFlight, FitsOutgoing, IsInFlight, IsOwn
 use Rattle.sctp_fit.specs.Outgoing.{Sending, numbers_after}
 use Rattle.sctp_fit.specs.Acknowledgements.{AcknowledgementsAreAlike, acknowledged}
 use Rattle.sctp_fit.proofs.BytesReleased.{bytes_of_flight, freed, less, numbered_less, own_less, released_all}
+use Rattle.sctp_fit.proofs.SpansNamed.{named_within}
 
 -- What is in flight
 
@@ -135,18 +136,19 @@ module _ (a : Sending) (n k : ℕ) (named : ℕ → Bool) (x : Sack) (w : Direct
       let same = same_freed s in
       omega arith
 
-  -- each live stream has what was released of it less
-  streams_now : (s : ℕ)
+  -- each live stream within its span has what was released of it less
+  streams_now : (s : ℕ) → w.over s ≡ false
       → stream_at (released_among named 0 a.queue.in_flight a.streams) s
       ≡ less (freed named s 0 a.queue.in_flight) (stream_at a.streams s)
-  streams_now s =
-      released_all f.named w.sender.plan w.sender.acknowledged w.sender.gone named s w.sender.reach 0
-      a.queue.in_flight a.streams (λ t u e. (f.live t u e).generation) f.flight
+  streams_now s v =
+      released_all f.named w.sender.plan w.sender.acknowledged w.sender.gone named s (named_within a w f s v)
+      w.sender.reach 0 a.queue.in_flight a.streams (λ u e. (f.live s u v e).generation) f.flight
 
   -- what the association is then fits what the sender is then
   fits_now : FitsOutgoing (acknowledged n named a) (record w { sender = acknowledged_by w.sender x })
   fits_now = record {
     named = f.named;
+    within = f.within;
     names = f.names;
     size = f.size;
     base = (let b = f.base in omega arith);
@@ -159,16 +161,16 @@ module _ (a : Sending) (n k : ℕ) (named : ℕ → Bool) (x : Sack) (w : Direct
         (flight_acked f.named w.sender.plan w.sender.acknowledged w.sender.gone (names x) named w.sender.reach 0
         a.queue.in_flight said_from f.flight));
     waiting = f.waiting;
-    live = λ s t e.
+    live = λ s t v e.
         numbered_less f.named (numbers_after w.sender.ssn a.queue.pending s) s (freed named s 0 a.queue.in_flight)
-        (stream_at a.streams s) (f.live s) t (sym (streams_now s) ∙ e);
-    own_streams = λ s e.
+        (stream_at a.streams s) (λ u there. f.live s u v there) t (sym (streams_now s v) ∙ e);
+    own_streams = λ s v.
         subst (λ z. IsOwnAt w.sender.plan z s (stream_at (released_among named 0 a.queue.in_flight a.streams) s))
         (ap (λ z. w.sender.released s + z) (sym (same_freed s)))
         (subst (IsOwnAt w.sender.plan (w.sender.released s + freed named s 0 a.queue.in_flight) s)
-        (sym (streams_now s))
+        (sym (streams_now s v))
         (own_less w.sender.plan (w.sender.released s) s (freed named s 0 a.queue.in_flight) (stream_at a.streams s)
-        (most s) (f.own_streams s e)));
+        (most s) (f.own_streams s v)));
   }
 
   acknowledged_alike : FitsOutgoing (acknowledged n named a) (happens w (Event.SackComes k))

@@ -33,7 +33,8 @@ module _ (peer : ℕ) (p : Plan) (s o ahead : ℕ) (number : Option ℕ) where
 
 module _ (a : Receiving) (k o : ℕ) (f : Forward) (m : StreamMap) (w : Direction) (e : slice_get w.forwards k ≡ Some f)
     (ahead : ltb (reach w.receiver) f.reach ≡ true) (at : f.reach ≡ suc o)
-    (streams : (s : ℕ) → stream_at m s ≡ option_map (passed_stream a.peer o (skips f s)) (stream_at a.streams s))
+    (streams : (s : ℕ) → w.over s ≡ false
+    → stream_at m s ≡ option_map (passed_stream a.peer o (skips f s)) (stream_at a.streams s))
     (within : IsWithin w) (inv : Invariant w) (fits : FitsIncoming a w) where
   -- A FORWARD TSN that comes and lies ahead is taken on both sides.
   forward_taken : FitsIncoming (record a { streams = m; passed = f.reach }) (happens w (Event.ForwardComes k))
@@ -45,7 +46,7 @@ module _ (a : Receiving) (k o : ℕ) (f : Forward) (m : StreamMap) (w : Directio
         passed = refl;
         queues = λ s v.
             subst (λ z. IsQueueAt a.peer w.sender.plan s z (forwarded (w.receiver.queues s) f.reach (skips f s)))
-            (sym (streams s))
+            (sym (streams s v))
             (queue_passed a.peer w.sender.plan s o f.reach (skips f s) (stream_at a.streams s) (w.receiver.queues s)
             (stood s v) (fits.queues s v));
       })

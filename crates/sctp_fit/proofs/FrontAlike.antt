@@ -2,7 +2,8 @@
 -- reach, so the FORWARD TSN that an association makes says what its direction's does (RFC 3758 sections 3.2 and 3.5).
 use Rattle.std.proofs.Common.{◌≡◌, refl, sym, ap, ◌∙◌, subst, ⊎_elim, ℕ, suc, ◌+◌, ◌%◌, ◌<◌, arith, Bool, true, false}
 use Rattle.std.proofs.Common.{not, ◌&&◌, cond, eqb, List, [], ◌∷◌, ◌++◌, length, take, drop, Option, Some, None}
-use Rattle.std.proofs.lemmas.Bool.{cases_Bool, cond-true, cond-false, false≢true, lt-ltb, true≢false}
+use Rattle.std.proofs.lemmas.Bool.{and_parts, cases_Bool, cond-true, cond-false, eqb-true, false≢true, lt-ltb}
+use Rattle.std.proofs.lemmas.Bool.{true≢false}
 use Rattle.std.proofs.lemmas.List.{drop_all}
 use Rattle.std.proofs.Math.Seq.{drop-cons}
 use Rattle.sctp_outbound_queue.specs.declared.message.InFlight.{InFlight}
@@ -13,6 +14,7 @@ use Rattle.sctp_model.specs.Machine.{Direction, Event, Sender, forward_of, gone_
 use Rattle.sctp_model.specs.Machine.{is_gone, is_ordered_of, last_ssn}
 use Rattle.sctp_fit.specs.Outgoing.{AreInFlight, FitsOutgoing, IsInFlight, Names}
 use Rattle.sctp_fit.specs.Forwards.{ForwardsSayTheSame, IsForwardOf, last_ordered}
+use Rattle.sctp_fit.proofs.SpansNamed.{named_within}
 
 -- the pieces before the first one that stays, one by one
 front_more : (x : InFlight) (xs : List InFlight) → x.abandoned ≡ true
@@ -23,12 +25,13 @@ front_none : (x : InFlight) (xs : List InFlight) → x.abandoned ≡ false → a
 front_none x xs e = rw e refl
 
 -- a found number that is wrapped is that of the piece, where this is an ordered one of the stream
-module _ (m k : ℕ) (found seen : Option ℕ) (number : m ≡ k % 65536) (before : seen ≡ wrapped found) where
-  found_here : (b c : Bool) → b ≡ c → cond b (Some m) seen ≡ wrapped (cond c (Some k) found)
-  found_here true true same = ap (λ z. Some z) number
-  found_here false false same = before
-  found_here true false same = absurd (true≢false same)
-  found_here false true same = absurd (false≢true same)
+module _ (m k : ℕ) (found seen : Option ℕ) (before : seen ≡ wrapped found) where
+  found_here : (b c : Bool) → b ≡ c → (b ≡ true → m ≡ k % 65536)
+      → cond b (Some m) seen ≡ wrapped (cond c (Some k) found)
+  found_here true true same number = ap (λ z. Some z) (number refl)
+  found_here false false same number = before
+  found_here true false same number = absurd (true≢false same)
+  found_here false true same number = absurd (false≢true same)
 
 not_twice : (b : Bool) → not (not b) ≡ b
 not_twice true = refl
@@ -67,23 +70,26 @@ module _ (n : Names) (v : Sender) where
       front : gone_among v (drop o v.plan.places) ≡ cond (is_gone v y) (y ∷ rest) []
       front = ap (gone_among v) (drop-cons v.plan.places o no_place h.known)
 
-  -- and of each stream the last ordered one among them has the number that is told
-  numbers_alike : (s o : ℕ) (xs : List InFlight) (found seen : Option ℕ) → seen ≡ wrapped found
+  -- and of each stream within its span the last ordered one among them has the number that is told
+  numbers_alike : (s o : ℕ) (xs : List InFlight) (found seen : Option ℕ) → n.within s ≡ true → seen ≡ wrapped found
       → AreInFlight n v.plan v.acknowledged v.gone o xs
       → last_ordered s (take (abandoned_in_front_of xs) xs) seen
       ≡ wrapped (last_ssn v.plan s (gone_among v (drop o v.plan.places)) found)
-  numbers_alike s o [] found seen same h =
+  numbers_alike s o [] found seen within same h =
       same
       ∙ sym (ap (λ z. wrapped (last_ssn v.plan s (gone_among v z) found))
       (drop_all o v.plan.places (omega (arith, h))))
-  numbers_alike s o (x ∷ xs) found seen same (h, hs) =
+  numbers_alike s o (x ∷ xs) found seen within same (h, hs) =
       ⊎_elim
       (λ (b : x.abandoned ≡ true).
       ap (λ z. last_ordered s (take z (x ∷ xs)) seen) (front_more x xs b)
       ∙ numbers_alike s (suc o) xs (cond (is_ordered_of v.plan s y) (Some y.ssn) found)
       (cond (eqb x.message.stream_identifier s && not x.message.unordered) (Some x.message.stream_sequence_number) seen)
-      (found_here x.message.stream_sequence_number y.ssn found seen h.message.ssn same
-      (eqb x.message.stream_identifier s && not x.message.unordered) (is_ordered_of v.plan s y) (ordered_here s o x h))
+      within
+      (found_here x.message.stream_sequence_number y.ssn found seen same
+      (eqb x.message.stream_identifier s && not x.message.unordered) (is_ordered_of v.plan s y) (ordered_here s o x h)
+      (λ c. h.message.ssn (ap n.within (eqb-true x.message.stream_identifier s
+      (and_parts (eqb x.message.stream_identifier s) (not x.message.unordered) c).0) ∙ within)))
       hs
       ∙ sym (told (cond-true _ (y ∷ rest) [] (sym h.abandoned ∙ b))))
       (λ (b : x.abandoned ≡ false).
@@ -118,6 +124,7 @@ pub forwards_say_the_same : ForwardsSayTheSame
 forwards_say_the_same a w some f = (
   subst (FitsOutgoing a) (sym event) (record {
     named = f.named;
+    within = f.within;
     names = f.names;
     size = f.size;
     base = f.base;
@@ -140,5 +147,7 @@ forwards_say_the_same a w some f = (
       made = ap (λ (z : Direction). z.forwards) event;
       reach =
           ap (λ z. w.sender.reach + z) (sym alike) ∙ ap (λ z. z + abandoned_in_front_of a.queue.in_flight) (sym f.base);
-      streams = λ s. sym (numbers_alike f.named w.sender s w.sender.reach a.queue.in_flight None None refl f.flight);
+      streams = λ s v.
+          sym (numbers_alike f.named w.sender s w.sender.reach a.queue.in_flight None None (named_within a w f s v) refl
+          f.flight);
     }

@@ -28,6 +28,7 @@ pub mod ReachClimbs
 pub mod ReadsAnswered
 pub mod SentAgain
 pub mod GrownPlansStand
+mod SpansNamed
 pub mod StreamsChanged
 pub mod StreamsThere
 pub mod TailMarked

@@ -13,9 +13,9 @@ pub message_same : (n : Names) (p : Plan) (i number : ℕ) (a b : Attributes) �
 message_same n p i number a b e h = record {
   known = subst (λ s. i < length (p.accepted s)) (sym e.stream) h.known;
   id = e.id ∙ h.id ∙ ap (λ s. n.ids s i) (sym e.stream);
-  generation = e.generation ∙ h.generation ∙ ap n.generations (sym e.stream);
+  generation = λ v. e.generation ∙ h.generation (sym (ap n.within e.stream) ∙ v) ∙ ap n.generations (sym e.stream);
   ordered = e.unordered ∙ h.ordered ∙ ap (λ s. not (message_at p s i).ordered) (sym e.stream);
-  ssn = e.ssn ∙ h.ssn;
+  ssn = λ v. e.ssn ∙ h.ssn (sym (ap n.within e.stream) ∙ v);
   payload_type =
       ap number_of e.payload_type ∙ h.payload_type ∙ ap (λ s. (message_at p s i).payload_type) (sym e.stream);
   policy = ap policy_of e.policy ∙ h.policy ∙ ap (λ s. (message_at p s i).policy) (sym e.stream);
@@ -47,6 +47,7 @@ module _ (n : Names) (p : Plan) (acknowledged : ℕ → Bool) (gone : ℕ → �
 pub marks_are_no_events : MarksAreNoEvents
 marks_are_no_events a pieces w same f = record {
   named = f.named;
+  within = f.within;
   names = f.names;
   size = f.size;
   base = f.base;

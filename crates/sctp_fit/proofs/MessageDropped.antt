@@ -7,7 +7,8 @@ use Rattle.std.specs.Prelude.{slice_get}
 use Rattle.std.specs.List.{sum_by}
 use Rattle.std.proofs.lemmas.List.{length-take, length-drop}
 use Rattle.std.proofs.lemmas.List.Sums.{sum_by-cons}
-use Rattle.std.proofs.lemmas.Bool.{and_from, and_parts, cases_eq, cases_lt, cond-true, eq-eqb, ne_eqb}
+use Rattle.std.proofs.lemmas.Bool.{and_from, and_parts, cases_eq, cases_lt, cond_both, cond-false, cond-true}
+use Rattle.std.proofs.lemmas.Bool.{eq-eqb, ne_eqb}
 use Rattle.std.proofs.lemmas.Bool.{false≢true, leb-true, leb-false, not-true, true≢false}
 use Rattle.sctp_outbound_queue.specs.declared.message.Attributes.{Attributes}
 use Rattle.sctp_outbound_queue.specs.declared.message.InFlight.{InFlight}
@@ -29,7 +30,8 @@ use Rattle.sctp_fit.specs.Outgoing.{policy_of}
 use Rattle.sctp_fit.proofs.BytesReleased.{own_less}
 use Rattle.sctp_fit.proofs.FirstPiece.{at_put_2, off_put_2}
 use Rattle.sctp_fit.proofs.NumbersMoveDown.{above_itself, after_without, one_if, steps, unsent_down, wrapped_down}
-use Rattle.sctp_fit.proofs.StreamsChanged.{each_with}
+use Rattle.sctp_fit.proofs.SpansNamed.{named_within}
+use Rattle.sctp_fit.proofs.StreamsThere.{at_with}
 use Rattle.sctp_fit.proofs.UnsentKept.{AreUnsentAlike, unsent_kept}
 
 -- What is unsent
@@ -240,31 +242,47 @@ module _ (n : Names) (p : Plan) (acknowledged : ℕ → Bool) (gone : ℕ → �
 -- Streams
 
 -- What holds of each other stream, and of the message's own if it is live no longer, or as it is once it has its number
--- and its bytes back, holds of all.
-each_given : (m : StreamMap) (d : Attributes) (bytes : ℕ) (P : ℕ → Option StreamView → Type 0)
-    → ((t : StreamView) → stream_at m d.stream_identifier ≡ Some t → t.stats.generation ≡ d.generation)
-    → ((s : ℕ) → (s ≡ d.stream_identifier → ⊥) → P s (stream_at m s))
-    → (stream_at m d.stream_identifier ≡ None → P d.stream_identifier None)
-    → ((t : StreamView) → stream_at m d.stream_identifier ≡ Some t
-    → P d.stream_identifier (Some (released_from (cond d.unordered t (with_ssn_given_back t)) bytes)))
-    → (s : ℕ) → P s (stream_at (given_back_in m d.stream_identifier d.generation d.unordered bytes) s)
-each_given m d bytes P live others none some = by_live (stream_at m d.stream_identifier) refl
-  where
-    by_live : (o : Option StreamView) → stream_at m d.stream_identifier ≡ o → (s : ℕ)
-        → P s (stream_at (cond (is_generation o d.generation)
-        (change_at (λ t. released_from (cond d.unordered t (with_ssn_given_back t)) bytes) o m d.stream_identifier) m)
-        s)
-    by_live None e s = ⊎_elim
-        (λ (a : s ≡ d.stream_identifier).
-        subst (λ z. P z (stream_at m z)) (sym a) (subst (P d.stream_identifier) (sym e) (none e)))
-        (λ (ne : s ≡ d.stream_identifier → ⊥). others s ne)
-        (cases_eq s d.stream_identifier)
-    by_live (Some t) e s =
-        subst (λ z. P s (stream_at (cond z
-        (with_stream m d.stream_identifier (released_from (cond d.unordered t (with_ssn_given_back t)) bytes)) m) s))
-        (sym (eq-eqb t.stats.generation d.generation (live t e)))
-        (each_with m d.stream_identifier t (released_from (cond d.unordered t (with_ssn_given_back t)) bytes) P e others
-        (some t e) s)
+-- and its bytes back, holds of all; of streams past their span it need not hold.
+module _ (m : StreamMap) (d : Attributes) (bytes : ℕ) (over : ℕ → Bool) (P : ℕ → Option StreamView → Type 0)
+    (live : over d.stream_identifier ≡ false → (t : StreamView) → stream_at m d.stream_identifier ≡ Some t
+    → t.stats.generation ≡ d.generation)
+    (others : (s : ℕ) → over s ≡ false → (s ≡ d.stream_identifier → ⊥) → P s (stream_at m s))
+    (none : over d.stream_identifier ≡ false → stream_at m d.stream_identifier ≡ None → P d.stream_identifier None)
+    (some : over d.stream_identifier ≡ false → (t : StreamView) → stream_at m d.stream_identifier ≡ Some t
+    → P d.stream_identifier (Some (released_from (cond d.unordered t (with_ssn_given_back t)) bytes))) where
+  each_given : (s : ℕ) → over s ≡ false
+      → P s (stream_at (given_back_in m d.stream_identifier d.generation d.unordered bytes) s)
+  each_given s within = by_live (stream_at m d.stream_identifier) refl
+    where
+      span : s ≡ d.stream_identifier → over d.stream_identifier ≡ false
+      span a = ap over (sym a) ∙ within
+
+      by_live : (o : Option StreamView) → stream_at m d.stream_identifier ≡ o
+          → P s (stream_at (cond (is_generation o d.generation)
+          (change_at (λ t. released_from (cond d.unordered t (with_ssn_given_back t)) bytes) o m d.stream_identifier) m)
+          s)
+      by_live None e = ⊎_elim
+          (λ (a : s ≡ d.stream_identifier).
+          subst (λ z. P z (stream_at m z)) (sym a) (subst (P d.stream_identifier) (sym e) (none (span a) e)))
+          (λ (ne : s ≡ d.stream_identifier → ⊥). others s within ne)
+          (cases_eq s d.stream_identifier)
+      by_live (Some t) e = ⊎_elim
+          (λ (a : s ≡ d.stream_identifier).
+          subst (λ z. P s (stream_at (cond z (with_stream m d.stream_identifier u) m) s))
+          (sym (eq-eqb t.stats.generation d.generation (live (span a) t e)))
+          (subst (P s) (sym (at_with m d.stream_identifier s t u e
+          ∙ cond-true _ (Some u) (stream_at m s) (eq-eqb s d.stream_identifier a)))
+          (subst (λ z. P z (Some u)) (sym a) (some (span a) t e))))
+          (λ (ne : s ≡ d.stream_identifier → ⊥).
+          cond_both (eqb t.stats.generation d.generation) (with_stream m d.stream_identifier u) m
+          (λ (z : StreamMap). P s (stream_at z s))
+          (λ c. subst (P s) (sym (at_with m d.stream_identifier s t u e
+          ∙ cond-false _ (Some u) (stream_at m s) (ne_eqb s d.stream_identifier ne))) (others s within ne))
+          (λ c. others s within ne))
+          (cases_eq s d.stream_identifier)
+        where
+          u : StreamView
+          u = released_from (cond d.unordered t (with_ssn_given_back t)) bytes
 
 -- the next numbers of other streams don't move down
 steps_aside : (d : Attributes) (s : ℕ) → (s ≡ d.stream_identifier → ⊥) → steps d s ≡ 0
@@ -352,34 +370,36 @@ module _ (a : Sending) (k : ℕ) (x : Waiting) (w : Direction) (at : slice_get a
       let same = bytes_same in
       omega arith
 
-  -- a stream that is live is of the message's generation
-  generation_same : (t : StreamView) → stream_at a.streams x.message.stream_identifier ≡ Some t
+  -- a stream that is live within its span is of the message's generation
+  generation_same : w.over x.message.stream_identifier ≡ false → (t : StreamView)
+      → stream_at a.streams x.message.stream_identifier ≡ Some t
       → t.stats.generation ≡ x.message.generation
-  generation_same t e =
-      (f.live x.message.stream_identifier t e).generation ∙ sym r.waits.message.generation
+  generation_same v t e =
+      (f.live x.message.stream_identifier t v e).generation
+      ∙ sym (r.waits.message.generation (named_within a w f x.message.stream_identifier v))
 
   -- each live stream counts on from its next number
-  live_now : (s : ℕ) (u : StreamView) → stream_at (dropped k x a).streams s ≡ Some u
+  live_now : (s : ℕ) (u : StreamView) → w.over s ≡ false → stream_at (dropped k x a).streams s ≡ Some u
       → IsNumbered f.named (numbers_after w.sender.ssn (without_at k a.queue.pending) s) s u
-  live_now =
-      each_given a.streams x.message (message_bytes x)
+  live_now s u within there =
+      each_given a.streams x.message (message_bytes x) w.over
       (λ s o. (u : StreamView) → o ≡ Some u
       → IsNumbered f.named (numbers_after w.sender.ssn (without_at k a.queue.pending) s) s u)
       generation_same
-      (λ s ne u e.
+      (λ s v ne u e.
       let above = (after_without k x w.sender.ssn a.queue.pending at fresh).at s in
       let none = steps_aside x.message s ne in
       record {
-        generation = (f.live s u e).generation;
+        generation = (f.live s u v e).generation;
         ssn =
-            (f.live s u e).ssn
+            (f.live s u v e).ssn
             ∙ ap (λ z. z % 65536)
             (let q : numbers_after w.sender.ssn a.queue.pending s
             ≡ numbers_after w.sender.ssn (without_at k a.queue.pending) s
             = omega arith in q);
       })
-      (λ e u d. absurd (false≢true (ap is_some d)))
-      (λ t e u d.
+      (λ v e u d. absurd (false≢true (ap is_some d)))
+      (λ v t e u d.
       subst
       (IsNumbered f.named
       (numbers_after w.sender.ssn (without_at k a.queue.pending) x.message.stream_identifier)
@@ -388,7 +408,8 @@ module _ (a : Sending) (k : ℕ) (x : Waiting) (w : Direction) (at : slice_get a
       (numbered_down (numbers_after w.sender.ssn (without_at k a.queue.pending) x.message.stream_identifier)
       (steps x.message x.message.stream_identifier) (message_bytes x)
       ((after_without k x w.sender.ssn a.queue.pending at fresh).at x.message.stream_identifier)
-      (f.live x.message.stream_identifier t e) x.message.unordered (steps_here x.message)))
+      (f.live x.message.stream_identifier t v e) x.message.unordered (steps_here x.message)))
+      s within u there
 
   -- and counts its bytes
   own_now : (s : ℕ) → w.over s ≡ false
@@ -396,22 +417,21 @@ module _ (a : Sending) (k : ℕ) (x : Waiting) (w : Direction) (at : slice_get a
       ((machine.dropped w.sender x.message.stream_identifier r.index).released s) s
       (stream_at (dropped k x a).streams s)
   own_now =
-      each_given a.streams x.message (message_bytes x)
-      (λ s o. w.over s ≡ false
-      → IsOwnAt w.sender.plan
+      each_given a.streams x.message (message_bytes x) w.over
+      (λ s o. IsOwnAt w.sender.plan
       ((machine.dropped w.sender x.message.stream_identifier r.index).released s) s o)
       generation_same
-      (λ s ne within.
+      (λ s within ne.
       subst (λ z. IsOwnAt w.sender.plan z s (stream_at a.streams s))
       (sym (off_put w.sender.released x.message.stream_identifier s
       (w.sender.released x.message.stream_identifier
       + length (message_at w.sender.plan x.message.stream_identifier r.index).bytes) ne))
       (f.own_streams s within))
-      (λ e within.
+      (λ within e.
       subst
       (IsOwnAt w.sender.plan (w.sender.released x.message.stream_identifier) x.message.stream_identifier) e
       (f.own_streams x.message.stream_identifier within))
-      (λ t e within.
+      (λ within t e.
       subst
       (λ z. IsOwnAt w.sender.plan z x.message.stream_identifier
       (Some (released_from (cond x.message.unordered t (with_ssn_given_back t)) (message_bytes x))))
@@ -430,6 +450,7 @@ module _ (a : Sending) (k : ℕ) (x : Waiting) (w : Direction) (at : slice_get a
       (record w { sender = machine.dropped w.sender x.message.stream_identifier r.index })
   fits_now = record {
     named = f.named;
+    within = f.within;
     names = f.names;
     size = f.size;
     base = f.base;

@@ -25,6 +25,7 @@ use Rattle.sctp_fit.specs.Outgoing.{IsOwnAt, IsWaiting, Names, Sending, number_a
 use Rattle.sctp_fit.specs.Outgoing.{policy_of}
 use Rattle.sctp_fit.specs.Writes.{IsWritten, WritesAreAccepted, message_on, written}
 use Rattle.sctp_fit.proofs.NamesKept.{KeepsMessages, all_waiting_kept, flight_kept}
+use Rattle.sctp_fit.proofs.SpansNamed.{not_over}
 use Rattle.sctp_fit.proofs.StreamsChanged.{each_with}
 use Rattle.sctp_fit.proofs.LastUnsent.{IsOneMore, numbers_push, past_others, waiting_push}
 
@@ -177,6 +178,7 @@ module _ (n : Names) (p : Plan) (s next : ℕ) (m : Message) where
     known = λ t i l. let a = e.longer t in omega arith;
     ids = id_old;
     generations = λ t i l. refl;
+    within = λ t v. v;
     messages = e.messages;
   }
 
@@ -296,10 +298,11 @@ module _ (a : Sending) (kind : PayloadProtocolIdentifier) (bytes : List ℕ) (x 
       keeps_more f.named w.sender.plan x.message.stream_identifier a.queue.next_message_id (message_on t kind bytes)
       (message_extended w.sender.plan x.message.stream_identifier (message_on t kind bytes) inv.planned.known)
 
-  -- its stream was numbered before
-  numbered : IsNumbered f.named (numbers_after w.sender.ssn a.queue.pending x.message.stream_identifier)
+  -- its stream was numbered before, if it is within its span
+  numbered : w.over x.message.stream_identifier ≡ false
+      → IsNumbered f.named (numbers_after w.sender.ssn a.queue.pending x.message.stream_identifier)
       x.message.stream_identifier t
-  numbered = f.live x.message.stream_identifier t live
+  numbered v = f.live x.message.stream_identifier t v live
 
   -- the message is its stream's last
   last_written : message_on t kind bytes
@@ -321,10 +324,12 @@ module _ (a : Sending) (kind : PayloadProtocolIdentifier) (bytes : List ℕ) (x 
         sym (id_new f.named w.sender.plan x.message.stream_identifier a.queue.next_message_id
         (message_on t kind bytes) x.message.stream_identifier
         (length (w.sender.plan.accepted x.message.stream_identifier)) refl refl);
-    generation = is.generation ∙ numbered.generation;
+    generation = λ v. is.generation ∙ (numbered (not_over a w f x.message.stream_identifier v)).generation;
     ordered =
         is.unordered ∙ sym (not_not (params_for t kind).unordered) ∙ ap (λ z. not z.ordered) last_written;
-    ssn = number_given (numbers_after w.sender.ssn a.queue.pending) x.message t.next_ssn numbered.ssn is.ssn;
+    ssn = λ v.
+        number_given (numbers_after w.sender.ssn a.queue.pending) x.message t.next_ssn
+        (numbered (not_over a w f x.message.stream_identifier v)).ssn is.ssn;
     payload_type = ap number_of is.payload_type ∙ ap (λ z. z.payload_type) last_written;
     policy = ap policy_of is.policy ∙ ap (λ z. z.policy) last_written;
   }
@@ -357,34 +362,34 @@ module _ (a : Sending) (kind : PayloadProtocolIdentifier) (bytes : List ℕ) (x 
   numbers_written = numbers_push w.sender.ssn a.queue.pending (accepted a.queue.next_message_id x) refl
 
   -- each stream counts on from there
-  live_written : (s : ℕ) (u : StreamView)
+  live_written : (s : ℕ) (u : StreamView) → w.over s ≡ false
       → stream_at (with_stream a.streams x.message.stream_identifier (accepted_by t kind (length bytes))) s ≡ Some u
       → IsNumbered (names_written f.named a w x)
       (numbers_after w.sender.ssn (a.queue.pending ++ accepted a.queue.next_message_id x ∷ []) s) s u
   live_written =
       each_with a.streams x.message.stream_identifier t (accepted_by t kind (length bytes))
-      (λ s o. (u : StreamView) → o ≡ Some u
+      (λ s o. (u : StreamView) → w.over s ≡ false → o ≡ Some u
       → IsNumbered (names_written f.named a w x)
       (numbers_after w.sender.ssn (a.queue.pending ++ accepted a.queue.next_message_id x ∷ []) s) s u)
       live
-      (λ s ne u e. record {
-        generation = (f.live s u e).generation;
+      (λ s ne u v e. record {
+        generation = (f.live s u v e).generation;
         ssn =
-            (f.live s u e).ssn
+            (f.live s u v e).ssn
             ∙ ap (λ z. z % 65536) (sym (ap (λ (z : ℕ → ℕ). z s) numbers_written
             ∙ past_others (numbers_after w.sender.ssn a.queue.pending) x.message s ne));
       })
-      (λ u e. subst
+      (λ u v e. subst
       (IsNumbered (names_written f.named a w x)
       (numbers_after w.sender.ssn (a.queue.pending ++ accepted a.queue.next_message_id x ∷ [])
       x.message.stream_identifier)
       x.message.stream_identifier)
       (let same : accepted_by t kind (length bytes) ≡ u = cc in same)
       (record {
-        generation = numbered.generation;
+        generation = (numbered v).generation;
         ssn =
             ap (λ b. cond b t.next_ssn ((t.next_ssn + 1) % 2 ^ 16)) (sym is.unordered)
-            ∙ number_behind (numbers_after w.sender.ssn a.queue.pending) x.message t.next_ssn numbered.ssn
+            ∙ number_behind (numbers_after w.sender.ssn a.queue.pending) x.message t.next_ssn (numbered v).ssn
             ∙ ap (λ (z : ℕ → ℕ). z x.message.stream_identifier % 65536) (sym numbers_written);
       }))
 
@@ -416,6 +421,7 @@ module _ (a : Sending) (kind : PayloadProtocolIdentifier) (bytes : List ℕ) (x 
       (record w { sender = machine.written w.sender x.message.stream_identifier (message_on t kind bytes) })
   fits_written = record {
     named = names_written f.named a w x;
+    within = f.within;
     names =
         names_more f.named w.sender.plan x.message.stream_identifier a.queue.next_message_id (message_on t kind bytes)
         f.names;

@@ -1,5 +1,5 @@
 -- How messages that wait and pieces in flight stand to a plan stays so when more is accepted and named.
-use Rattle.std.proofs.Common.{ℕ, suc, ◌*◌, ◌<◌, ◌≡◌, Bool, not, leb, List, [], ◌∷◌, length, Option, Some, None}
+use Rattle.std.proofs.Common.{ℕ, suc, ◌*◌, ◌<◌, ◌≡◌, Bool, true, not, leb, List, [], ◌∷◌, length, Option, Some, None}
 use Rattle.std.proofs.Common.{get_or, sym, ap, ◌∙◌, subst}
 use Rattle.sctp_outbound_queue.specs.declared.message.Attributes.{Attributes}
 use Rattle.sctp_outbound_queue.specs.declared.message.InFlight.{InFlight}
@@ -9,12 +9,14 @@ use Rattle.sctp_model.specs.Machine.{put}
 use Rattle.sctp_fit.specs.Outgoing.{AreInFlight, ArePieces, AreUnsent, AreWaiting, IsGoingOn, IsInFlight, IsMessage}
 use Rattle.sctp_fit.specs.Outgoing.{IsPieceOf, IsWaiting, Names, numbers_past}
 
--- The plan q has the messages of p, and the names m say of these what n says.
+-- The plan q has the messages of p, and the names m say of these what n says. A stream that is within its span by m is
+-- so by n.
 pub record KeepsMessages (n m : Names) (p q : Plan) : Type 0 where
   pub size : q.size ≡ p.size
   pub known : (s i : ℕ) → i < length (p.accepted s) → i < length (q.accepted s)
   pub ids : (s i : ℕ) → i < length (p.accepted s) → m.ids s i ≡ n.ids s i
   pub generations : (s i : ℕ) → i < length (p.accepted s) → m.generations s ≡ n.generations s
+  pub within : (s : ℕ) → m.within s ≡ true → n.within s ≡ true
   pub messages : (s i : ℕ) → i < length (p.accepted s) → message_at q s i ≡ message_at p s i
 
 module _ {n m : Names} {p q : Plan} (k : KeepsMessages n m p q) where
@@ -25,9 +27,10 @@ module _ {n m : Names} {p q : Plan} (k : KeepsMessages n m p q) where
       record {
         known = k.known a.stream_identifier i h.known;
         id = h.id ∙ sym (k.ids a.stream_identifier i h.known);
-        generation = h.generation ∙ sym (k.generations a.stream_identifier i h.known);
+        generation = λ v.
+            h.generation (k.within a.stream_identifier v) ∙ sym (k.generations a.stream_identifier i h.known);
         ordered = h.ordered ∙ ap (λ z. not z.ordered) e;
-        ssn = h.ssn;
+        ssn = λ v. h.ssn (k.within a.stream_identifier v);
         payload_type = h.payload_type ∙ ap (λ z. z.payload_type) e;
         policy = h.policy ∙ ap (λ z. z.policy) e;
       }

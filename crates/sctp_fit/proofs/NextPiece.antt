@@ -29,6 +29,7 @@ use Rattle.sctp_fit.specs.Outgoing.{IsGoingOn, IsInFlight, IsMessage, IsNumbered
 use Rattle.sctp_fit.specs.Outgoing.{IsWaiting, Names, Sending, number_at, numbers_after, numbers_past}
 use Rattle.sctp_fit.specs.Sendings.{IsGiven, IsSentBy, SendsNext, SentPiecesAreEvents, next_chunks, sent}
 use Rattle.sctp_fit.proofs.SentAgain.{flight_length, got_last, said_at}
+use Rattle.sctp_fit.proofs.SpansNamed.{named_within}
 use Rattle.sctp_fit.proofs.UnsentKept.{alike_same, attributes_kept, unsent_kept}
 use Rattle.sctp_fit.proofs.FirstPiece.{Counters, PassesTo, alike_begun, counters_of, happens_begin, happens_go_on}
 use Rattle.sctp_fit.proofs.FirstPiece.{passable, passes, with_piece}
@@ -134,12 +135,13 @@ module _ (n : Names) (w : Direction) (inv : Invariant w) (x : Waiting) (y : Plac
   }
 
   -- it is said to be the DATA of that offset
-  said : (own : ℕ) → IsSaid own (next_chunk_of x (tsn own (length w.sender.plan.places))) (next_data w.sender y)
-  said own =
-      subst (λ z. IsSaid own (next_chunk_of x (tsn own (length w.sender.plan.places)))
+  said : (own : ℕ) → ((s : ℕ) → w.over s ≡ false → n.within s ≡ true)
+      → IsSaid w.over own (next_chunk_of x (tsn own (length w.sender.plan.places))) (next_data w.sender y)
+  said own within =
+      subst (λ z. IsSaid w.over own (next_chunk_of x (tsn own (length w.sender.plan.places)))
       (data_of (with_place w.sender.plan y) (length w.sender.plan.places) z)) (sym now_on)
-      (said_at own n (with_place w.sender.plan y) (length w.sender.plan.places) y (sent_once 0 x) message h.stream
-      (carries 0))
+      (said_at w.over own n within (with_place w.sender.plan y) (length w.sender.plan.places) y (sent_once 0 x) message
+      h.stream (carries 0))
 
   -- what waits once it went out
   waiting_left : (unsent : ℕ → ℕ → Bool) (numbers : ℕ → ℕ) (xs : List Waiting)
@@ -205,13 +207,13 @@ module _ (own : ℕ) (a : Sending) (now : ℕ) (w : Direction) (inv : Invariant 
     length w.datas,
     next_data w.sender y,
     got_last w.datas _,
-    subst (λ o. IsSaid own (next_chunk_of x (tsn own o)) (next_data w.sender y))
+    subst (λ o. IsSaid w.over own (next_chunk_of x (tsn own o)) (next_data w.sender y))
         (let l =
         flight_length f.named w.sender.plan w.sender.acknowledged w.sender.gone w.sender.reach a.queue.in_flight
         f.flight in
         let b = f.base in
         let g : length w.sender.plan.places ≡ a.base + length a.queue.in_flight = omega arith in g)
-        (said f.named w inv x y h own),
+        (said f.named w inv x y h own (named_within a w f)),
   )
 
   -- events that lead to the direction in which it went out are those by which the next piece is sent
@@ -226,6 +228,7 @@ module _ (own : ℕ) (a : Sending) (now : ℕ) (w : Direction) (inv : Invariant 
         (subst (λ ps. FitsOutgoing (record a { queue = sent_from ps a.queue now }) (with_piece w y c)) (sym e)
         (record {
           named = f.named;
+          within = f.within;
           names = record { below = f.names.below; one = f.names.one };
           size = f.size;
           base = f.base;
@@ -234,10 +237,10 @@ module _ (own : ℕ) (a : Sending) (now : ℕ) (w : Direction) (inv : Invariant 
               w.sender.reach a.queue.in_flight (sent_once now x) (length_placed w.sender.plan y)
               (flies f.named w inv x y h now) f.flight;
           waiting = waiting_left f.named w inv x y h (is_unsent (with_piece w y c).sender) c.ssn xs all;
-          live = λ s t there.
+          live = λ s t v there.
               subst (λ z. IsNumbered f.named z s t)
               (ap (λ ps. numbers_after w.sender.ssn ps s) e ∙ sym (numbers s) ∙ sym (numbers_left c.ssn x xs s))
-              (f.live s t there);
+              (f.live s t v there);
           own_streams = λ s v.
               own_placed w.sender.plan y (w.sender.released s) s (stream_at a.streams s) (f.own_streams s v);
         }));

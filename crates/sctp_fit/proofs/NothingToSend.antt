@@ -88,6 +88,7 @@ module _ (p : Plan) (n : Names) (s generation : ℕ) (none : p.accepted s ≡ []
     ids = λ t i l. refl;
     generations = λ t i l. off_put n.generations s t generation
         (λ (e : t ≡ s). no_message_of p s none i (subst (λ z. i < length (p.accepted z)) e l));
+    within = λ t v. v;
     messages = λ t i l. refl;
   }
 
@@ -98,6 +99,7 @@ module _ (a : Sending) (id first : ℕ) (kind : PayloadProtocolIdentifier) (w : 
   opened_sends_nothing : FitsOutgoing (record a { streams = made a.streams id first kind }) w
   opened_sends_nothing = record {
     named = record f.named { generations = put f.named.generations id a.streams.next_generation };
+    within = f.within;
     names = record { below = f.names.below; one = f.names.one };
     size = f.size;
     base = f.base;
@@ -105,15 +107,15 @@ module _ (a : Sending) (id first : ℕ) (kind : PayloadProtocolIdentifier) (w : 
     waiting = all_waiting_kept keeps (is_unsent w.sender) w.sender.ssn w.sender.current a.queue.pending f.waiting;
     live =
         each_made a.streams id first kind
-        (λ s o. (u : StreamView) → o ≡ Some u
+        (λ s o. (u : StreamView) → w.over s ≡ false → o ≡ Some u
         → IsNumbered (record f.named { generations = put f.named.generations id a.streams.next_generation })
         (numbers_after w.sender.ssn a.queue.pending s) s u) e
-        (λ s ne u d. record {
+        (λ s ne u v d. record {
           generation =
-              (f.live s u d).generation ∙ sym (off_put f.named.generations id s a.streams.next_generation ne);
-          ssn = (f.live s u d).ssn;
+              (f.live s u v d).generation ∙ sym (off_put f.named.generations id s a.streams.next_generation ne);
+          ssn = (f.live s u v d).ssn;
         })
-        (λ u d. subst
+        (λ u v d. subst
         (IsNumbered (record f.named { generations = put f.named.generations id a.streams.next_generation })
         (numbers_after w.sender.ssn a.queue.pending id) id)
         (let same : fresh_stream id a.streams.next_generation first kind ≡ u = cc in same) first_numbered);
@@ -162,13 +164,14 @@ none_below i =
 pub fresh_ones_fit : FreshOnesFit
 fresh_ones_fit size tsn = (
   record {
-    named = record { ids = λ s i. 0; generations = λ s. 0 };
+    named = record { ids = λ s i. 0; generations = λ s. 0; within = λ s. true };
+    within = λ s. refl;
     names = record { below = λ s i l. absurd (omega arith); one = λ s i t j l m e. absurd (omega arith) };
     size = refl;
     base = refl;
     flight = refl;
     waiting = λ s i l. none_below i;
-    live = λ s t e. absurd (cc);
+    live = λ s t v e. absurd (cc);
     own_streams = λ s e. refl;
   },
   record {

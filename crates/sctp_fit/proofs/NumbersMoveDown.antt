@@ -2,7 +2,7 @@
 use Rattle.std.proofs.Common.{ℕ, zero, suc, ◌+◌, ◌-◌, ◌≡◌, ◌%◌, ◌^◌, Bool, true, false, not, cond, eqb, ◌&&◌}
 use Rattle.std.proofs.Common.{List, [], ◌∷◌, map, Some, refl, sym, ap, ◌∙◌, subst, ⊎_elim, arith}
 use Rattle.std.specs.Prelude.{slice_get}
-use Rattle.std.proofs.lemmas.Bool.{cases_eq, cond_both, cond-false, eq-eqb, eqb-true, true≢false}
+use Rattle.std.proofs.lemmas.Bool.{cases_Bool, cases_eq, cond_both, cond-false, eq-eqb, eqb-true, true≢false}
 use Rattle.sctp_outbound_queue.specs.declared.message.Attributes.{Attributes}
 use Rattle.sctp_outbound_queue.specs.Waiting.{Waiting}
 use Rattle.sctp_outbound_queue.specs.Message.{moved_down, share_ssns}
@@ -101,19 +101,43 @@ down m = record m {
       (let a = m.message in record a { stream_sequence_number = (a.stream_sequence_number + 2 ^ 16 - 1) % 2 ^ 16 });
 }
 
-module _ (n : Names) (p : Plan) (d : Attributes) (live : d.generation ≡ n.generations d.stream_identifier) where
+-- of a message of a stream past its span no number is said
+unsent_anyhow : {n : Names} {p : Plan} {unsent : ℕ → ℕ → Bool} (from number other i : ℕ) (x : Waiting)
+    → n.within x.message.stream_identifier ≡ false → IsUnsent n p unsent from number i x
+    → IsUnsent n p unsent from other i x
+unsent_anyhow from number other i x past h = record {
+  waits = record {
+    message = record {
+      known = h.waits.message.known;
+      id = h.waits.message.id;
+      generation = h.waits.message.generation;
+      ordered = h.waits.message.ordered;
+      ssn = λ v. absurd (true≢false (sym v ∙ past));
+      payload_type = h.waits.message.payload_type;
+      policy = h.waits.message.policy;
+    };
+    pieces = h.waits.pieces;
+  };
+  begun = h.begun;
+  is = h.is;
+  past = h.past;
+  next = h.next;
+}
+
+module _ (n : Names) (p : Plan) (d : Attributes)
+    (live : n.within d.stream_identifier ≡ true → d.generation ≡ n.generations d.stream_identifier) where
   -- where the two share their numbers, one that waits moves down with its stream's
   ssn_down : {high low : ℕ → ℕ} (i : ℕ) (a : Attributes) → AreAbove d high low → share_ssns d a ≡ true
-      → IsMessage n p i (number_at high a) a
+      → IsMessage n p i (number_at high a) a → n.within a.stream_identifier ≡ true
       → (a.stream_sequence_number + 2 ^ 16 - 1) % 2 ^ 16
       ≡ cond a.unordered ((a.stream_sequence_number + 2 ^ 16 - 1) % 2 ^ 16) (low a.stream_identifier) % 65536
-  ssn_down {high} {low} i a above e h =
+  ssn_down {high} {low} i a above e h within =
       let t =
       share_tells d.unordered a.unordered (eqb d.stream_identifier a.stream_identifier)
       (eqb d.generation a.generation) e in
       wrapped_down a.stream_sequence_number (high a.stream_identifier) (low a.stream_identifier)
       (steps d a.stream_identifier)
-      (h.ssn ∙ ap (λ z. z % 65536)
+      (h.ssn within ∙ ap (λ z. z % 65536)
       (cond-false a.unordered a.stream_sequence_number (high a.stream_identifier) t.0))
       (above.at a.stream_identifier) t.1
       ∙ ap (λ z. z % 65536) (sym (cond-false a.unordered ((a.stream_sequence_number + 2 ^ 16 - 1) % 2 ^ 16)
@@ -121,8 +145,9 @@ module _ (n : Names) (p : Plan) (d : Attributes) (live : d.generation ≡ n.gene
 
   -- and where they don't, it stays
   number_stays : {high low : ℕ → ℕ} (a : Attributes) → AreAbove d high low → share_ssns d a ≡ false
-      → a.generation ≡ n.generations a.stream_identifier → number_at high a ≡ number_at low a
-  number_stays {high} {low} a above e g = by_order a.unordered refl
+      → n.within a.stream_identifier ≡ true → a.generation ≡ n.generations a.stream_identifier
+      → number_at high a ≡ number_at low a
+  number_stays {high} {low} a above e within g = by_order a.unordered refl
     where
       by_order : (u : Bool) → a.unordered ≡ u
           → cond u a.stream_sequence_number (high a.stream_identifier)
@@ -133,8 +158,9 @@ module _ (n : Names) (p : Plan) (d : Attributes) (live : d.generation ≡ n.gene
           let c =
           apart_tells d.unordered a.unordered (eqb d.stream_identifier a.stream_identifier)
           (eqb d.generation a.generation) e f
-          (λ k. eq-eqb d.generation a.generation
-          (live ∙ ap n.generations (eqb-true d.stream_identifier a.stream_identifier k) ∙ sym g)) in
+          (λ k. let same = eqb-true d.stream_identifier a.stream_identifier k in
+          eq-eqb d.generation a.generation
+          (live (ap n.within same ∙ within) ∙ ap n.generations same ∙ sym g)) in
           omega arith
 
   -- What waits unsent behind the message moves down with the next numbers.
@@ -174,8 +200,14 @@ module _ (n : Names) (p : Plan) (d : Attributes) (live : d.generation ≡ n.gene
       ))
       (λ e. (
         i,
-        subst (λ z. IsUnsent n p unsent (from x.message.stream_identifier) z i x)
-            (number_stays x.message above e h.waits.message.generation) h,
+        ⊎_elim
+            (λ (v : n.within x.message.stream_identifier ≡ true).
+            subst (λ z. IsUnsent n p unsent (from x.message.stream_identifier) z i x)
+            (number_stays x.message above e v (h.waits.message.generation v)) h)
+            (λ (v : n.within x.message.stream_identifier ≡ false).
+            unsent_anyhow (from x.message.stream_identifier) (number_at high x.message) (number_at low x.message) i x v
+            h)
+            (cases_Bool (n.within x.message.stream_identifier)),
         behind,
       ))
 

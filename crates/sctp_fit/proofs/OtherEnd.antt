@@ -77,6 +77,7 @@ sent_kept : (a : Sending) (w : Direction) (r : Receiver) (sacks : List Sack) (re
     → FitsOutgoing a (record w { receiver = r; sacks = sacks; reads = reads; skipped = skipped })
 sent_kept a w r sacks reads skipped fits = record {
   named = fits.named;
+  within = fits.within;
   names = fits.names;
   size = fits.size;
   base = fits.base;

@@ -18,6 +18,7 @@ use Rattle.sctp_fit.specs.Incoming.{IsSaid}
 use Rattle.sctp_fit.specs.Outgoing.{AreInFlight, FitsOutgoing, IsInFlight, IsMessage, IsPieceOf, Names, Sending}
 use Rattle.sctp_fit.specs.Sendings.{IsGiven, IsSamePiece, PiecesAreGiven}
 use Rattle.sctp_fit.proofs.MarksSayNothing.{in_flight_same}
+use Rattle.sctp_fit.proofs.SpansNamed.{named_within}
 use Rattle.sctp_model.specs.Invariants.{Invariant}
 
 -- the last of a list
@@ -25,15 +26,17 @@ pub got_last : {X : Type 0} (xs : List X) (x : X) → slice_get (xs ++ x ∷ [])
 got_last [] x = refl
 got_last (y ∷ ys) x = got_last ys x
 
-module _ (initial : ℕ) (n : Names) (p : Plan) (o : ℕ) (y : Place) (x : InFlight) where
+module _ (over : ℕ → Bool) (initial : ℕ) (n : Names) (within : (s : ℕ) → over s ≡ false → n.within s ≡ true)
+    (p : Plan) (o : ℕ) (y : Place) (x : InFlight) where
   -- a piece that carries what its place says is said to be DATA of the place's offset
   pub said_at : IsMessage n p y.message y.ssn x.message → x.message.stream_identifier ≡ y.stream → IsPieceOf p y x
-      → IsSaid initial (chunk_of x (tsn initial o)) (data_of p o y)
+      → IsSaid over initial (chunk_of x (tsn initial o)) (data_of p o y)
   said_at m e k = record {
     stream = e;
-    carries = record {
+    tsn = refl;
+    carries = λ v. record {
       tsn = refl;
-      ssn = m.ssn;
+      ssn = m.ssn (ap n.within e ∙ within y.stream v);
       ordered = m.ordered ∙ ap (λ s. not (message_at p s y.message).ordered) e;
       first = k.first;
       last = k.last;
@@ -118,6 +121,7 @@ module _ (own : ℕ) (a : Sending) (by : Retransmission) (index : ℕ) (x : InFl
         (resent w (w.sender.reach + index))) (sym e)
         (record {
           named = f.named;
+          within = f.within;
           names = f.names;
           size = f.size;
           base = f.base;
@@ -132,9 +136,10 @@ module _ (own : ℕ) (a : Sending) (by : Retransmission) (index : ℕ) (x : InFl
       length w.datas,
       data_at w.sender.plan (w.sender.reach + index),
       got_last w.datas _,
-      subst (λ b. IsSaid own (chunk_of x (tsn own (b + index))) (data_at w.sender.plan (w.sender.reach + index)))
+      subst (λ b. IsSaid w.over own (chunk_of x (tsn own (b + index))) (data_at w.sender.plan (w.sender.reach + index)))
           (sym f.base)
-          (said_at own f.named w.sender.plan (w.sender.reach + index) _ x here.message here.stream (here.piece sent)),
+          (said_at w.over own f.named (named_within a w f) w.sender.plan (w.sender.reach + index) _ x here.message
+          here.stream (here.piece sent)),
     ),
   )
     where

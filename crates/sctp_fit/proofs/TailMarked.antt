@@ -35,6 +35,7 @@ use Rattle.sctp_fit.proofs.BytesReleased.{less, numbered_less, own_less, release
 use Rattle.sctp_fit.proofs.FirstPiece.{at_put_2}
 use Rattle.sctp_fit.proofs.NextPiece.{flight_placed, none_past}
 use Rattle.sctp_fit.proofs.SentAgain.{flight_at}
+use Rattle.sctp_fit.proofs.SpansNamed.{named_within}
 use Rattle.sctp_fit.proofs.UnsentKept.{AreUnsentAlike, attributes_kept, unsent_kept}
 use Rattle.sctp_fit.proofs.WholeAbandoned.{flagged_before, flight_bytes, flight_flagged, none_flagged}
 use Rattle.sctp_fit.proofs.WholeAbandoned.{none_outstanding}
@@ -148,12 +149,13 @@ module _ (a : Sending) (w : Direction) (inv : Invariant w) (f : FitsOutgoing a w
         omega arith)
         (cases_eq z s)
 
-    streams_now : (z : ℕ)
+    streams_now : (z : ℕ) → w.over z ≡ false
         → stream_at (released_in a.streams s t.generation bytes) z
         ≡ less (cond (eqb s z) bytes 0) (stream_at a.streams z)
-    streams_now z =
+    streams_now z v =
         released_at a.streams s t.generation bytes z (stream_at a.streams s) refl
-        (λ r k. (f.live s r k).generation ∙ sym can.is.generation)
+        (λ e r k. let span : w.over s ≡ false = ap w.over e ∙ v in
+        (f.live s r span k).generation ∙ sym (can.is.generation (named_within a w f s span)))
 
     -- no more are released than were accepted
     most : (z : ℕ) → w.sender.released z + cond (eqb s z) bytes 0 ≤ accepted_bytes p z
@@ -178,21 +180,23 @@ module _ (a : Sending) (w : Direction) (inv : Invariant w) (f : FitsOutgoing a w
         (record w { sender = left (with_places places current) s i })
     fits_left pending flight flies waits numbers = record {
       named = f.named;
+      within = f.within;
       names = record { below = f.names.below; one = f.names.one };
       size = f.size;
       base = f.base;
       flight = flies;
       waiting = waits;
-      live = λ z u e.
+      live = λ z u v e.
           numbered_less f.named (numbers_after w.sender.ssn pending z) z (cond (eqb s z) bytes 0)
           (stream_at a.streams z)
-          (λ r k. subst (λ y. IsNumbered f.named y z r) (sym (numbers z)) (f.live z r k)) u (sym (streams_now z) ∙ e);
+          (λ r k. subst (λ y. IsNumbered f.named y z r) (sym (numbers z)) (f.live z r v k)) u
+          (sym (streams_now z v) ∙ e);
       own_streams = λ z v.
           subst (λ y. IsOwnAt (record p { places = places }) y z
           (stream_at (released_in a.streams s t.generation bytes) z))
           (sym (released_now z))
           (subst (IsOwnAt (record p { places = places }) (w.sender.released z + cond (eqb s z) bytes 0) z)
-          (sym (streams_now z))
+          (sym (streams_now z v))
           (own_places p places (w.sender.released z + cond (eqb s z) bytes 0) z
           (less (cond (eqb s z) bytes 0) (stream_at a.streams z))
           (own_less p (w.sender.released z) z (cond (eqb s z) bytes 0) (stream_at a.streams z) (most z)

@@ -80,6 +80,7 @@ numbers_same now numbers (x ∷ xs) = numbers_same now (cond x.begun numbers (nu
 pub starts_are_no_events : StartsAreNoEvents
 starts_are_no_events a now w f = record {
   named = f.named;
+  within = f.within;
   names = f.names;
   size = f.size;
   base = f.base;
@@ -89,8 +90,8 @@ starts_are_no_events a now w f = record {
   waiting =
       waiting_fits now f.named w.sender.plan (is_unsent w.sender) w.sender.ssn w.sender.current a.queue.pending
       f.waiting;
-  live = λ s t e.
+  live = λ s t v e.
       subst (λ (z : ℕ → ℕ). IsNumbered f.named (z s) s t) (sym (numbers_same now w.sender.ssn a.queue.pending))
-      (f.live s t e);
+      (f.live s t v e);
   own_streams = f.own_streams;
 }

@@ -27,7 +27,7 @@ took a piece o = record a {
 -- reach,
 abbrev pub NewTsnsSpellTheirOffsets : Type 0
 NewTsnsSpellTheirOffsets = (a : Receiving) (piece : ChunkPayloadData) (k : ℕ) (d : Data) (w : Direction)
-    → slice_get w.datas k ≡ Some d → IsSaid a.peer piece d → is_new w.receiver d.offset ≡ true
+    → slice_get w.datas k ≡ Some d → IsSaid w.over a.peer piece d → is_new w.receiver d.offset ≡ true
     → IsWithin w → Invariant w → FitsIncoming a w
     → offset_of a piece.tsn ≡ d.offset
 
@@ -35,7 +35,7 @@ NewTsnsSpellTheirOffsets = (a : Receiving) (piece : ChunkPayloadData) (k : ℕ) 
 abbrev pub WhatIsTakenInComes : Type 0
 WhatIsTakenInComes = (a : Receiving) (piece : ChunkPayloadData) (k : ℕ) (d : Data) (t : StreamView) (limit : ℕ)
     (w : Direction)
-    → slice_get w.datas k ≡ Some d → IsSaid a.peer piece d → is_new w.receiver d.offset ≡ true
+    → slice_get w.datas k ≡ Some d → IsSaid w.over a.peer piece d → is_new w.receiver d.offset ≡ true
     → stream_at a.streams piece.stream_identifier ≡ Some t → w.over piece.stream_identifier ≡ false
     → IsWithin w → Invariant w → FitsIncoming a w
     → FitsIncoming (took a piece d.offset) (happens w (Event.DataComes k))

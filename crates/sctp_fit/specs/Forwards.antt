@@ -1,7 +1,7 @@
 -- The laws of FORWARD TSN (RFC 3758 sections 3.2, 3.5 and 3.6): the one that an association makes says what its
 -- direction's does, and one that comes skips the same on both sides.
 use Rattle.std.specs.Prelude.{◌≡◌, ℕ, suc, ◌+◌, ◌<◌, true, not, ◌&&◌, ◌==◌, List, [], ◌∷◌, ◌++◌, map, take, slice_get}
-use Rattle.std.specs.Prelude.{nat_lt}
+use Rattle.std.specs.Prelude.{Bool, false, nat_lt}
 use Rattle.std.specs.Prelude.{if◌then◌else◌, Option, Some, None}
 use Rattle.std.specs.Option.{option_map, option_to_list}
 use Rattle.sctp_wire_types.specs.declared.chunk.ChunkForwardTsn.{ChunkForwardTsn}
@@ -34,11 +34,12 @@ abbrev pub abandoned_front : Sending → List InFlight
 abandoned_front a = take (abandoned_in_front_of a.queue.in_flight) a.queue.in_flight
 
 -- The direction makes this FORWARD TSN, and of an association it says: the abandoned pieces in front of all others in
--- flight are passed over, and each stream with an ordered one among them is skipped up to the last one's number.
+-- flight are passed over, and each stream with an ordered one among them is skipped up to the last one's number, where
+-- it is within its span.
 pub record IsForwardOf (a : Sending) (w : Direction) (f : Forward) : Type 0 where
   pub made : (happens w Event.ForwardMade).forwards ≡ w.forwards ++ f ∷ []
   pub reach : f.reach ≡ a.base + abandoned_in_front_of a.queue.in_flight
-  pub streams : (s : ℕ) → skips f s ≡ last_ordered s (abandoned_front a) None
+  pub streams : (s : ℕ) → w.over s ≡ false → skips f s ≡ last_ordered s (abandoned_front a) None
 
 -- Where abandoned pieces stand in front of all others in flight, the direction makes the FORWARD TSN that says so.
 abbrev pub ForwardsSayTheSame : Type 0
@@ -58,11 +59,11 @@ PairsTellTheLast = (s : ℕ) (pieces : List InFlight)
     → numbers_told s (map skipped_stream (skipped_numbers pieces)) ≡ option_to_list (last_ordered s pieces None)
 
 -- A FORWARD TSN chunk is this one of a direction with this initial TSN: its new cumulative TSN is the one before that
--- of the reach. Its pairs tell of each stream that is skipped, once, the number up to which it is; they tell of no
--- other stream.
-pub record IsForwardSaid (initial : ℕ) (c : ChunkForwardTsn) (f : Forward) : Type 0 where
+-- of the reach. Of the streams within their span (their test is `over`) its pairs tell of each that is skipped, once,
+-- the number up to which it is; they tell of no other one.
+pub record IsForwardSaid (over : ℕ → Bool) (initial : ℕ) (c : ChunkForwardTsn) (f : Forward) : Type 0 where
   pub reach : c.new_cumulative_tsn ≡ tsn_before (tsn initial f.reach)
-  pub streams : (s : ℕ) → numbers_told s c.streams ≡ option_to_list (skips f s)
+  pub streams : (s : ℕ) → over s ≡ false → numbers_told s c.streams ≡ option_to_list (skips f s)
 
 -- a stream once a FORWARD TSN passed over everything up to the offset o: ordered messages up to the number that is told
 -- are skipped, and unordered pieces up to o are dropped
@@ -70,10 +71,12 @@ abbrev pub passed_stream : ℕ → ℕ → Option ℕ → StreamView → StreamV
 passed_stream peer o number t =
     record t { reassembly = unordered_skipped (skipped_if t.reassembly number) (tsn peer o) }
 
--- A FORWARD TSN that lies ahead is taken on both sides, with its skips in every live stream.
+-- A FORWARD TSN that lies ahead is taken on both sides, with its skips in every live stream within its span. Streams
+-- past it may become anything.
 abbrev pub ForwardsThatComeAreTaken : Type 0
 ForwardsThatComeAreTaken = (a : Receiving) (k o : ℕ) (f : Forward) (m : StreamMap) (w : Direction)
     → slice_get w.forwards k ≡ Some f → nat_lt (reach w.receiver) f.reach ≡ true → f.reach ≡ suc o
-    → ((s : ℕ) → stream_at m s ≡ option_map (passed_stream a.peer o (skips f s)) (stream_at a.streams s))
+    → ((s : ℕ) → w.over s ≡ false
+    → stream_at m s ≡ option_map (passed_stream a.peer o (skips f s)) (stream_at a.streams s))
     → IsWithin w → Invariant w → FitsIncoming a w
     → FitsIncoming (record a { streams = m; passed = f.reach }) (happens w (Event.ForwardComes k))

@@ -1,6 +1,6 @@
 -- How what an association took in and holds for its readers stands to the receiver of a direction: DATA in any order,
 -- ordered or not, of messages of several pieces (RFC 4960 sections 6.2, 6.5, 6.6 and 6.9).
-use Rattle.std.specs.Prelude.{◌≡◌, ℕ, ◌+◌, ◌-◌, ◌%◌, ◌^◌, true, false, List, Option, Some, None, ⊤}
+use Rattle.std.specs.Prelude.{◌≡◌, ℕ, ◌+◌, ◌-◌, ◌%◌, ◌^◌, Bool, true, false, List, Option, Some, None, ⊤}
 use Rattle.sctp_wire_types.specs.declared.chunk.ChunkPayloadData.{ChunkPayloadData}
 use Rattle.sctp_streams.specs.Stream.{StreamView}
 use Rattle.sctp_streams.specs.Streams.{StreamMap, stream_at}
@@ -47,7 +47,9 @@ pub record FitsIncoming (a : Receiving) (w : Direction) : Type 0 where
   pub queues : (s : ℕ) → w.over s ≡ false
       → IsQueueAt a.peer w.sender.plan s (stream_at a.streams s) (w.receiver.queues s)
 
--- A DATA chunk is this DATA of a direction with this initial TSN, on its stream.
-pub record IsSaid (initial : ℕ) (c : ChunkPayloadData) (d : Data) : Type 0 where
+-- A DATA chunk is this DATA of a direction with this initial TSN, on its stream. Where that one is past its span (its
+-- test is `over`), no more is said than its TSN.
+pub record IsSaid (over : ℕ → Bool) (initial : ℕ) (c : ChunkPayloadData) (d : Data) : Type 0 where
   pub stream : c.stream_identifier ≡ d.stream
-  pub carries : CarriesData initial c d
+  pub tsn : c.tsn ≡ tsn initial d.offset
+  pub carries : over d.stream ≡ false → CarriesData initial c d

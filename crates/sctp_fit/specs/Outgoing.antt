@@ -37,6 +37,8 @@ policy_of (policies.Timed milliseconds) = model.Policy.Timed milliseconds
 pub record Names : Type 0 where
   pub ids : ℕ → ℕ → ℕ
   pub generations : ℕ → ℕ
+  -- by stream whether it is within its span
+  pub within : ℕ → Bool
 
 -- Each accepted message has an identifier of its own, below the next one.
 pub record AreNames (n : Names) (p : Plan) (next : ℕ) : Type 0 where
@@ -44,13 +46,14 @@ pub record AreNames (n : Names) (p : Plan) (next : ℕ) : Type 0 where
   pub one : (s i t j : ℕ) → i < length (p.accepted s) → j < length (p.accepted t) → n.ids s i ≡ n.ids t j
       → (s ≡ t) × (i ≡ j)
 
--- The attributes are those of message i of their stream; `number` is its stream sequence number before that wraps.
+-- The attributes are those of message i of their stream; `number` is its stream sequence number before that wraps. Of
+-- a stream past its span nothing is said of the generation and the stream sequence number.
 pub record IsMessage (n : Names) (p : Plan) (i number : ℕ) (a : Attributes) : Type 0 where
   pub known : i < length (p.accepted a.stream_identifier)
   pub id : a.message_id ≡ n.ids a.stream_identifier i
-  pub generation : a.generation ≡ n.generations a.stream_identifier
+  pub generation : n.within a.stream_identifier ≡ true → a.generation ≡ n.generations a.stream_identifier
   pub ordered : a.unordered ≡ not (message_at p a.stream_identifier i).ordered
-  pub ssn : a.stream_sequence_number ≡ number % 65536
+  pub ssn : n.within a.stream_identifier ≡ true → a.stream_sequence_number ≡ number % 65536
   pub payload_type : number_of a.payload_type ≡ (message_at p a.stream_identifier i).payload_type
   pub policy : policy_of a.policy ≡ (message_at p a.stream_identifier i).policy
 
@@ -136,8 +139,8 @@ numbers_after numbers (x ∷ xs) = numbers_after (if x.begun then numbers else n
 
 -- Streams.
 
--- A live stream gives its next ordered message the number `next`, behind those that wait, and is of the generation of
--- what waits or is in flight.
+-- A live stream within its span gives its next ordered message the number `next`, behind those that wait, and is of the
+-- generation of what waits or is in flight.
 pub record IsNumbered (n : Names) (next s : ℕ) (t : StreamView) : Type 0 where
   pub generation : t.stats.generation ≡ n.generations s
   pub ssn : t.next_ssn ≡ next % 65536
@@ -148,16 +151,17 @@ abbrev pub IsOwnAt : Plan → ℕ → ℕ → Option StreamView → Type 0
 IsOwnAt p freed s None = p.accepted s ≡ []
 IsOwnAt p freed s (Some t) = t.buffered + freed ≡ accepted_bytes p s
 
--- The association has queued, in flight and buffered what the direction's sender has. What is said of a stream's
--- buffered bytes is of streams within their span. That the queue's first TSN is that of `base` is not said here.
+-- The association has queued, in flight and buffered what the direction's sender has. What is said of a live stream and
+-- of its buffered bytes is of streams within their span. That the queue's first TSN is that of `base` is not said here.
 pub record FitsOutgoing (a : Sending) (w : Direction) : Type 0 where
   pub named : Names
+  pub within : (s : ℕ) → named.within s ≡ not (w.over s)
   pub names : AreNames named w.sender.plan a.queue.next_message_id
   pub size : a.size ≡ w.sender.plan.size
   pub base : a.base ≡ w.sender.reach
   pub flight : AreInFlight named w.sender.plan w.sender.acknowledged w.sender.gone w.sender.reach a.queue.in_flight
   pub waiting : AreWaiting named w.sender.plan (is_unsent w.sender) w.sender.ssn w.sender.current a.queue.pending
-  pub live : (s : ℕ) (t : StreamView) → stream_at a.streams s ≡ Some t
+  pub live : (s : ℕ) (t : StreamView) → w.over s ≡ false → stream_at a.streams s ≡ Some t
       → IsNumbered named (numbers_after w.sender.ssn a.queue.pending s) s t
   pub own_streams : (s : ℕ) → w.over s ≡ false
       → IsOwnAt w.sender.plan (w.sender.released s) s (stream_at a.streams s)

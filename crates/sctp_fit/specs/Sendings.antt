@@ -19,7 +19,7 @@ use Rattle.sctp_fit.specs.Incoming.{IsSaid}
 
 -- it is DATA that the direction ever gave out
 abbrev pub IsGiven : ℕ → Direction → ChunkPayloadData → Type 0
-IsGiven initial w c = (k : ℕ) × (d : Data) × (slice_get w.datas k ≡ Some d) × IsSaid initial c d
+IsGiven initial w c = (k : ℕ) × (d : Data) × (slice_get w.datas k ≡ Some d) × IsSaid w.over initial c d
 
 -- events by which the next piece goes out
 abbrev pub SendsNext : Event → Type 0
