@@ -28,6 +28,7 @@ pub mod ReachClimbs
 pub mod ReadsAnswered
 pub mod SentAgain
 pub mod GrownPlansStand
+pub mod SpanEnded
 mod SpansNamed
 pub mod StreamsChanged
 pub mod StreamsThere

@@ -11,4 +11,5 @@ pub mod Incoming
 pub mod Outgoing
 pub mod CumulativeAcks
 pub mod Sendings
+pub mod Spans
 pub mod Writes

@@ -15,6 +15,7 @@ mod forwards;
 mod growth;
 mod held_set;
 mod sendings;
+mod spans;
 mod writes;
 
 pub use abandonments::abandonments_are_alike;
@@ -28,4 +29,5 @@ pub use forwards::forwards_are_alike;
 pub use growth::events_leave_the_other_end;
 pub use held_set::the_set_holds_what_lies_past_the_reach;
 pub use sendings::sent_pieces_are_events;
+pub use spans::spans_end;
 pub use writes::writes_are_accepted;
