@@ -1,8 +1,9 @@
 -- DATA that comes has the offset that its TSN spells, and what an association takes in of it the direction's receiver
 -- takes in. Streams that are made are opened, and a SACK that is made changes nothing.
-use Rattle.std.proofs.Common.{◌≡◌, refl, sym, ap, ◌∙◌, subst, ⊎_elim, ℕ, ◌+◌, ◌^◌, ◌<◌, ◌≤◌, arith, true, false}
+use Rattle.std.proofs.Common.{◌≡◌, refl, sym, ap, ◌∙◌, subst, subst₂, ⊎_elim, ℕ, ◌+◌, ◌^◌, ◌<◌, ◌≤◌, arith, true, false}
 use Rattle.std.proofs.Common.{not, ◌&&◌, cond, eqb, leb, ◌∷◌, slice_get, Some, None}
-use Rattle.std.proofs.lemmas.Bool.{cases_Bool, and_from, and_parts, cond-true, eqb-true, leb-true}
+use Rattle.std.proofs.lemmas.Bool.{cases_Bool, and_from, and_parts, cond-false, cond-true, eqb-true}
+use Rattle.std.proofs.lemmas.Bool.{false_from_ne_true, leb-true, true≢false}
 use Rattle.sctp_receive_queues.specs.Reassembly.{pushed, refusal}
 use Rattle.sctp_streams.specs.Stream.{StreamView, fresh_stream, stream_pushed}
 use Rattle.sctp_streams.specs.Streams.{made, pushed_at, pushed_in, stream_at}
@@ -18,8 +19,9 @@ use Rattle.sctp_model.proofs.Lists.{all_get}
 use Rattle.sctp_reassembly.specs.Stands.{IsForBytesAlone, StandsFor}
 use Rattle.sctp_reassembly.proofs.LawsInEvents.{data_that_comes_stands, unordered_data_that_comes_stands}
 use Rattle.sctp_reassembly.proofs.SkipsAlike.{empty_ones_stand}
-use Rattle.sctp_fit.specs.Incoming.{FitsIncoming, IsSaid, Receiving, offset_of, reach_of}
-use Rattle.sctp_fit.specs.Arrivals.{NewTsnsSpellTheirOffsets, OpenedStreamsAreAlike, ReportsChangeNothing, took}
+use Rattle.sctp_fit.specs.Incoming.{FitsIncoming, IsQueueAt, IsSaid, Receiving, offset_of, reach_of}
+use Rattle.sctp_fit.specs.Arrivals.{DataPastItsSpanComes, NewTsnsSpellTheirOffsets, OpenedStreamsAreAlike}
+use Rattle.sctp_fit.specs.Arrivals.{ReportsChangeNothing, took}
 use Rattle.sctp_fit.specs.Arrivals.{WhatIsTakenInComes}
 use Rattle.sctp_fit.proofs.StreamsThere.{at_made, at_with, no_queue_of, queue_of, queues_after}
 use Rattle.sctp_wire_types.specs.declared.chunk.ChunkPayloadData.{ChunkPayloadData}
@@ -143,6 +145,24 @@ module _ (a : Receiving) (piece : ChunkPayloadData) (k : ℕ) (d : Data) (t : St
 
 pub what_is_taken_in_comes : WhatIsTakenInComes
 what_is_taken_in_comes = taken_in_comes
+
+-- DATA of a stream past its span comes and changes no other stream
+pub data_past_its_span_comes : DataPastItsSpanComes
+data_past_its_span_comes a k d m w e new past same fits =
+    subst (FitsIncoming (record a { streams = m; taken = d.offset ∷ a.taken }))
+    (sym (came_in w k d e fits.is_open new)) (record {
+      is_open = fits.is_open;
+      taken = ap (λ z. d.offset ∷ z) fits.taken;
+      passed = fits.passed;
+      queues = λ s v.
+          let aside : eqb s d.stream ≡ false =
+          false_from_ne_true (eqb s d.stream) (λ (b : eqb s d.stream ≡ true).
+          true≢false (sym past ∙ ap w.over (sym (eqb-true s d.stream b)) ∙ v)) in
+          subst₂ (IsQueueAt a.peer w.sender.plan s) (sym (same s aside))
+          (sym (cond-false (eqb s d.stream) (Some (push (live (w.receiver.queues d.stream)) d)) (w.receiver.queues s)
+          aside))
+          (fits.queues s v);
+    })
 
 -- Streams that are made, and SACKs
 

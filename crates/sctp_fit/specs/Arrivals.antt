@@ -5,7 +5,7 @@ use Rattle.sctp_wire_types.specs.declared.chunk.ChunkPayloadData.{ChunkPayloadDa
 use Rattle.sctp_wire_types.specs.declared.ids.PayloadProtocolIdentifier.{PayloadProtocolIdentifier}
 use Rattle.sctp_receive_queues.specs.Reassembly.{Reassembly, ready, refusal}
 use Rattle.sctp_streams.specs.Stream.{StreamView}
-use Rattle.sctp_streams.specs.Streams.{made, pushed_in, read_in, stream_at}
+use Rattle.sctp_streams.specs.Streams.{StreamMap, made, pushed_in, read_in, stream_at}
 use Rattle.sctp_model.specs.Messages.{Plan}
 use Rattle.sctp_model.specs.Packets.{Data}
 use Rattle.sctp_model.specs.Reassembly as queue
@@ -40,6 +40,14 @@ WhatIsTakenInComes = (a : Receiving) (piece : ChunkPayloadData) (k : ℕ) (d : D
     → IsWithin w → Invariant w → FitsIncoming a w
     → FitsIncoming (took a piece d.offset) (happens w (Event.DataComes k))
     × IsForBytesAlone (refusal t.reassembly piece limit)
+
+-- New DATA of a stream past its span comes to the receiver too, and that stream alone becomes anything: the DATA may be
+-- kept apart, or taken in there.
+abbrev pub DataPastItsSpanComes : Type 0
+DataPastItsSpanComes = (a : Receiving) (k : ℕ) (d : Data) (m : StreamMap) (w : Direction)
+    → slice_get w.datas k ≡ Some d → is_new w.receiver d.offset ≡ true → w.over d.stream ≡ true
+    → ((s : ℕ) → (s == d.stream) ≡ false → stream_at m s ≡ stream_at a.streams s) → FitsIncoming a w
+    → FitsIncoming (record a { streams = m; taken = d.offset ∷ a.taken }) (happens w (Event.DataComes k))
 
 -- A stream that is made is opened at the receiver.
 abbrev pub OpenedStreamsAreAlike : Type 0
