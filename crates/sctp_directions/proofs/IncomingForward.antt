@@ -1,6 +1,7 @@
 -- A FORWARD TSN that lies ahead passes over all up to the offset that its new cumulative TSN spells, and is one event
 -- of the direction.
-use Rattle.std.proofs.Common.{◌≡◌, sym, ap, ◌∙◌, subst, ℕ, suc, ◌+◌, ◌-◌, ◌^◌, ◌<◌, arith, true, ltb, Some, slice_get}
+use Rattle.std.proofs.Common.{◌≡◌, sym, ap, ◌∙◌, subst, ℕ, suc, ◌+◌, ◌-◌, ◌^◌, ◌<◌, arith, true, false, ltb, Some}
+use Rattle.std.proofs.Common.{slice_get}
 use Rattle.std.proofs.lemmas.Bool.{lt-ltb}
 use Rattle.std.specs.Option.{option_map}
 use Rattle.sctp_serial.specs.Serial.{tsn, tsn_past}
@@ -32,7 +33,7 @@ spelt_ahead initial at o r s near = omega arith
 
 module _ (p : Parts) (c : ChunkForwardTsn) (k : ℕ) (f : Forward) (w : Direction)
     (can : Can (Act.PassedOver c.new_cumulative_tsn c.streams) p) (e : slice_get w.forwards k ≡ Some f)
-    (said : IsForwardSaid p.history.peer c f) (within : IsWithin w) (inv : Invariant w)
+    (said : IsForwardSaid w.over p.history.peer c f) (within : IsWithin w) (inv : Invariant w)
     (fits : FitsIncoming (receiving p) w) where
   -- an association that takes a FORWARD TSN does what the model's receiver does
   forward_taken : (f.reach ≡ suc (offset_in p.history c.new_cumulative_tsn))
@@ -88,12 +89,12 @@ module _ (p : Parts) (c : ChunkForwardTsn) (k : ℕ) (f : Forward) (w : Directio
       left : StreamMap
       left = passed_over c.new_cumulative_tsn c.streams p.streams
 
-      streams : (s : ℕ)
+      streams : (s : ℕ) → w.over s ≡ false
           → stream_at left s ≡ option_map (passed_stream p.history.peer o (skips f s)) (stream_at p.streams s)
-      streams s =
+      streams s v =
           at_passed c.new_cumulative_tsn c.streams p.streams s
           ∙ passed_alike c.new_cumulative_tsn p.history.peer o (numbers_told s c.streams) (skips f s)
-          (stream_at p.streams s) at (said.streams s)
+          (stream_at p.streams s) at (said.streams s v)
 
 pub forwards_it_takes_come : ForwardsItTakesCome
 forwards_it_takes_come = forward_taken

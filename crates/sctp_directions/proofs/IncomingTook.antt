@@ -45,7 +45,7 @@ new_at r at o taken reached same past missing =
     (ap (λ z. not (mem o z)) (sym same) ∙ ap not missing)
 
 module _ (p : Parts) (piece : ChunkPayloadData) (k : ℕ) (d : Data) (t : StreamView) (w : Direction)
-    (can : Can (Act.Took piece) p) (e : slice_get w.datas k ≡ Some d) (said : IsSaid p.history.peer piece d)
+    (can : Can (Act.Took piece) p) (e : slice_get w.datas k ≡ Some d) (said : IsSaid w.over p.history.peer piece d)
     (there : stream_at p.streams piece.stream_identifier ≡ Some t) (span : w.over piece.stream_identifier ≡ false)
     (within : IsWithin w) (inv : Invariant w) (fits : FitsIncoming (receiving p) w) where
   -- an association that takes in new DATA does what the model's receiver does
@@ -76,8 +76,8 @@ module _ (p : Parts) (piece : ChunkPayloadData) (k : ℕ) (d : Data) (t : Stream
       here : d.offset ≡ offset_in p.history piece.tsn
       here =
           spelt_near p.history.peer (reach_in p.history) d.offset reach_small small
-          (subst (λ t. spelt t < reach_in p.history + 65535) said.carries.tsn can.near)
-          ∙ ap spelt (sym said.carries.tsn)
+          (subst (λ t. spelt t < reach_in p.history + 65535) said.tsn can.near)
+          ∙ ap spelt (sym said.tsn)
 
       new : is_new w.receiver d.offset ≡ true
       new =

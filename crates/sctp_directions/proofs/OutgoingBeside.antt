@@ -32,14 +32,16 @@ fits_beside : (a : Sending) (id : ℕ) (t u : StreamView) (w : Direction) → st
     → FitsOutgoing (record a { streams = with_stream a.streams id u }) w
 fits_beside a id t u w e s f = record {
   named = f.named;
+  within = f.within;
   names = f.names;
   size = f.size;
   base = f.base;
   flight = f.flight;
   waiting = f.waiting;
   live =
-      each_with a.streams id t u (λ n o. (v : StreamView) → o ≡ Some v → Numbered n v) e (λ n ne. f.live n)
-      (λ v i. let k = f.live id t e in
+      each_with a.streams id t u (λ n o. (v : StreamView) → w.over n ≡ false → o ≡ Some v → Numbered n v) e
+      (λ n ne. f.live n)
+      (λ v within i. let k = f.live id t within e in
       let same : u ≡ v = cc in
       subst (Numbered id) same (record { generation = s.generation ∙ k.generation; ssn = s.ssn ∙ k.ssn }));
   own_streams =
@@ -97,13 +99,14 @@ fits_mapped : (a : Sending) (m : StreamMap) (w : Direction) (g : ℕ → StreamV
     → FitsOutgoing (record a { streams = m }) w
 fits_mapped a m w g same at f = record {
   named = f.named;
+  within = f.within;
   names = f.names;
   size = f.size;
   base = f.base;
   flight = f.flight;
   waiting = f.waiting;
-  live = λ s v e.
-      numbered s (stream_at a.streams s) (λ t i. f.live s t i) v (sym (at s) ∙ e);
+  live = λ s v within e.
+      numbered s (stream_at a.streams s) (λ t i. f.live s t within i) v (sym (at s) ∙ e);
   own_streams = λ s within.
       subst (IsOwnAt w.sender.plan (w.sender.released s) s) (sym (at s))
       (owned s (stream_at a.streams s) (f.own_streams s within));

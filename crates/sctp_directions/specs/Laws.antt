@@ -119,7 +119,7 @@ ItsForwardsSayTheSame = (p : Parts) (s : Sender) (w : Direction) → Can Act.For
 abbrev pub WhatItTakesInComes : Type 0
 WhatItTakesInComes = (p : Parts) (piece : ChunkPayloadData) (k : ℕ) (d : Data) (t : StreamView) (w : Direction)
     → Can (Act.Took piece) p
-    → slice_get w.datas k ≡ Some d → IsSaid p.history.peer piece d
+    → slice_get w.datas k ≡ Some d → IsSaid w.over p.history.peer piece d
     → stream_at p.streams piece.stream_identifier ≡ Some t → w.over piece.stream_identifier ≡ false
     → IsWithin w → Invariant w → FitsIncoming (receiving p) w
     → (d.offset ≡ offset_in p.history piece.tsn)
@@ -130,7 +130,7 @@ WhatItTakesInComes = (p : Parts) (piece : ChunkPayloadData) (k : ℕ) (d : Data)
 abbrev pub ForwardsItTakesCome : Type 0
 ForwardsItTakesCome = (p : Parts) (c : ChunkForwardTsn) (k : ℕ) (f : Forward) (w : Direction)
     → Can (Act.PassedOver c.new_cumulative_tsn c.streams) p
-    → slice_get w.forwards k ≡ Some f → IsForwardSaid p.history.peer c f
+    → slice_get w.forwards k ≡ Some f → IsForwardSaid w.over p.history.peer c f
     → IsWithin w → Invariant w → FitsIncoming (receiving p) w
     → (f.reach ≡ suc (offset_in p.history c.new_cumulative_tsn))
     × FitsIncoming (receiving (done (Act.PassedOver c.new_cumulative_tsn c.streams) p))

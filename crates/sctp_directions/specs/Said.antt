@@ -18,7 +18,8 @@ IsMade initial w c = (k : ℕ) × (x : Sack) × (slice_get w.sacks k ≡ Some x)
 
 -- A FORWARD TSN is one that the direction's sender ever made.
 abbrev pub IsForwardMade : ℕ → Direction → ChunkForwardTsn → Type 0
-IsForwardMade initial w c = (k : ℕ) × (f : Forward) × (slice_get w.forwards k ≡ Some f) × IsForwardSaid initial c f
+IsForwardMade initial w c =
+    (k : ℕ) × (f : Forward) × (slice_get w.forwards k ≡ Some f) × IsForwardSaid w.over initial c f
 
 -- a chunk that a side gives out: DATA or a FORWARD TSN of its own direction, or a SACK for the one that comes to it;
 -- own and peer are their initial TSNs
