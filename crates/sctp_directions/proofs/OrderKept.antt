@@ -1,5 +1,6 @@
--- Only what an application sets on a stream has the stream send other messages than ordered, reliable ones.
-use Rattle.std.proofs.Common.{◌≡◌, refl, sym, ap, ◌∙◌, subst, ⊎_elim, ℕ, suc, Bool, true, false, cond}
+-- Only what an application sets on a stream, or what the live streams are once a span ended, has a stream send other
+-- messages than ordered, reliable ones.
+use Rattle.std.proofs.Common.{◌≡◌, ◌⊎◌, refl, sym, ap, ◌∙◌, subst, ⊎_elim, inl, inr, ℕ, suc, Bool, true, false, cond}
 use Rattle.std.proofs.Common.{List, [], ◌∷◌, length, Option, Some, None, is_some, Ordering, Less, Equal, Greater}
 use Rattle.std.proofs.Common.{is_eq, nat_cmp}
 use Rattle.std.specs.Prelude.{slice_get}
@@ -7,9 +8,11 @@ use Rattle.std.specs.Option.{option_map}
 use Rattle.std.specs.Ordering.{match_ordering}
 use Rattle.std.specs.BTreeMap.{is_at, insert_entry}
 use Rattle.std.specs.Map.{lookup}
-use Rattle.std.proofs.lemmas.Bool.{cases_Bool, cond_both, cond-true, cond-false, false≢true}
+use Rattle.std.proofs.lemmas.Bool.{cases_Bool, cond_both, cond-true, cond-false, false≢true, true≢false}
 use Rattle.sctp_wire_types.specs.declared.ids.PayloadProtocolIdentifier.{PayloadProtocolIdentifier}
 use Rattle.sctp_wire_types.specs.declared.chunk.ChunkPayloadData.{ChunkPayloadData}
+use Rattle.sctp_wire_types.specs.declared.reliability.Policy.{Policy}
+use Rattle.sctp_wire_types.specs.declared.reliability.Policy.TheVariants as policies
 use Rattle.sctp_outbound_queue.specs.declared.message.InFlight.{InFlight}
 use Rattle.sctp_outbound_queue.specs.Message.{message_bytes, outstanding_bytes}
 use Rattle.sctp_outbound_queue.specs.Waiting.{Waiting}
@@ -17,6 +20,7 @@ use Rattle.sctp_outbound.specs.GapAcks.{released_among}
 use Rattle.sctp_outbound.specs.Sender.{streams_after}
 use Rattle.sctp_receive_queues.specs.Messages.{ReceivedMessage}
 use Rattle.sctp_receive_queues.specs.Reassembly.{Reassembly, taken}
+use Rattle.sctp_streams.specs.declared.halves.ReliabilityParams.{ReliabilityParams}
 use Rattle.sctp_streams.specs.declared.setting.Setting.{Setting}
 use Rattle.sctp_streams.specs.declared.setting.Setting.TheVariants as settings
 use Rattle.sctp_streams.specs.Stream.{StreamView, accepted_by, fresh_stream, ordered_and_reliable, read_with}
@@ -24,7 +28,9 @@ use Rattle.sctp_streams.specs.Stream.{released_from, stream_pushed, stream_read,
 use Rattle.sctp_streams.specs.Stream.{with_ssn_given_back}
 use Rattle.sctp_streams.specs.Streams.{StreamMap, change_at, is_generation, made, pushed_at, read_at, released_in}
 use Rattle.sctp_streams.specs.Streams.{stream_at, with_stream}
+use Rattle.sctp_model.specs.Messages.{is_reliable}
 use Rattle.sctp_fit.specs.Forwards.{numbers_told}
+use Rattle.sctp_fit.specs.Outgoing.{policy_of}
 use Rattle.sctp_fit.proofs.StreamsChanged.{each_with}
 use Rattle.sctp_directions.specs.Acts.{Act, IsKeptInOrder, Parts, SetsReliability, is_acknowledged_by, passed_over}
 use Rattle.sctp_directions.specs.Acts.{type_on, with_abandoned, with_dropped, with_tail_abandoned, with_written}
@@ -204,6 +210,28 @@ kept_made m id first kind s kept =
     insert_found (λ t. t.params ≡ ordered_and_reliable) s id (fresh_stream id m.next_generation first kind) refl m.by_id
     kept
 
+-- The live streams became others
+
+-- order and reliability
+abbrev params_with : Bool → Policy → ReliabilityParams
+params_with unordered policy = record { unordered = unordered; policy = policy }
+
+-- what is set on a stream is ordered and reliable, or isn't
+ordered_or_not : (unordered : Bool) (policy : Policy)
+    → (params_with unordered policy ≡ ordered_and_reliable) ⊎ (params_with unordered policy ≡ ordered_and_reliable → ⊥)
+ordered_or_not true policy = inr (λ e. true≢false (ap (λ z. z.unordered) e))
+ordered_or_not false policies.Reliable = inl refl
+ordered_or_not false (policies.Rexmit retries) = inr (λ e. false≢true (ap (λ z. is_reliable (policy_of z.policy)) e))
+ordered_or_not false (policies.Timed milliseconds) =
+    inr (λ e. false≢true (ap (λ z. is_reliable (policy_of z.policy)) e))
+
+-- so a stream that doesn't fail to be in order is in order
+kept_otherwise : (m : StreamMap) (s : ℕ) → ((IsKeptInOrder m s → ⊥) → ⊥) → IsKeptInOrder m s
+kept_otherwise m s others t e = ⊎_elim
+    (λ (is : t.params ≡ ordered_and_reliable). is)
+    (λ (no : t.params ≡ ordered_and_reliable → ⊥). absurd (others (λ kept. no (kept t e))))
+    (ordered_or_not t.params.unordered t.params.policy)
+
 -- Any act but one that sets its order or reliability leaves a stream that sends ordered, reliable messages at that.
 pub only_settings_loosen : OnlySettingsLoosen
 only_settings_loosen (Act.PeerKnown t) p s others kept = kept
@@ -215,6 +243,7 @@ only_settings_loosen (Act.Adjusted id setting) p s others kept =
     (setting_leaves setting id s others) kept
 only_settings_loosen (Act.Sent now) p s others kept = kept
 only_settings_loosen (Act.SentAgain by index) p s others kept = kept
+only_settings_loosen (Act.SpanEnded id m) p s others kept = kept_otherwise m s others
 only_settings_loosen Act.Marked p s others kept = kept
 only_settings_loosen (Act.Acknowledged n blocks missing) p s others kept =
     kept_acknowledged (is_acknowledged_by n blocks) 0 p.queue.in_flight p.streams s kept
@@ -229,6 +258,7 @@ only_settings_loosen (Act.PassedOver tsn skipped) p s others kept =
     (at_passed tsn skipped p.streams s) kept
 only_settings_loosen (Act.Took piece) p s others kept =
     kept_pushed (stream_at p.streams piece.stream_identifier) p.streams piece.stream_identifier s piece refl kept
+only_settings_loosen (Act.Deferred piece) p s others kept = kept
 only_settings_loosen Act.Reported p s others kept = kept
 only_settings_loosen (Act.WasRead id) p s others kept =
     kept_read (stream_at p.streams id) p.streams id s refl kept

@@ -8,7 +8,9 @@ pub use Rattle.sctp_directions.proofs.OutgoingAbandoned.{its_starts_are_no_event
 pub use Rattle.sctp_directions.proofs.OutgoingForward.{forwards_pass_over_the_front, its_forwards_say_the_same}
 pub use Rattle.sctp_directions.proofs.OutgoingBeside.{settings_are_no_events, what_comes_leaves_its_own}
 pub use Rattle.sctp_directions.proofs.OrderKept.{only_settings_loosen}
-pub use Rattle.sctp_directions.proofs.IncomingTook.{what_it_takes_in_comes}
+pub use Rattle.sctp_directions.proofs.IncomingTook.{what_it_defers_comes, what_it_takes_in_comes}
+pub use Rattle.sctp_directions.proofs.IncomingTook.{what_it_takes_in_past_its_span_comes}
+pub use Rattle.sctp_directions.proofs.SpansOver.{its_spans_end, spans_of_what_comes_end}
 pub use Rattle.sctp_directions.proofs.IncomingForward.{forwards_it_takes_come}
 pub use Rattle.sctp_directions.proofs.IncomingReports.{reports_say_what_was_taken}
 pub use Rattle.sctp_directions.proofs.IncomingBeside.{own_acts_leave_what_comes}

@@ -1,6 +1,6 @@
 -- What an association does to the two directions between which it stands: to its own DATA, and to the DATA that comes.
 use Rattle.std.specs.Prelude.{◌≡◌, ◌<◌, ◌≤◌, ℕ, true, List, [], ◌∷◌, ◌++◌, ◌+◌, is_some, length, slice_get, Option}
-use Rattle.std.specs.Prelude.{Some, None, false, Bool, ◌||◌, ◌&&◌, ◌-◌, ◌^◌, suc, not, nat_lt}
+use Rattle.std.specs.Prelude.{Some, None, false, Bool, ◌||◌, ◌&&◌, ◌-◌, ◌^◌, ◌==◌, suc, not, nat_lt}
 use Rattle.std.specs.List.{list_any}
 use Rattle.sctp_serial.specs.Serial.{tsn, tsn_past}
 use Rattle.sctp_wire_types.specs.declared.chunk.ChunkPayloadData.{ChunkPayloadData}
@@ -86,6 +86,8 @@ pub data Act : Type 0 where
   Wrote : ℕ → Option PayloadProtocolIdentifier → List ℕ → Act
   -- the application set this on a stream
   Adjusted : ℕ → Setting → Act
+  -- the span of a stream ended, and the live streams are these
+  SpanEnded : ℕ → StreamMap → Act
   -- the next piece that waits got the next offset and went out, at this moment
   Sent : ℕ → Act
   -- the piece in flight that is so many offsets past the first one went out again, for a reason
@@ -108,6 +110,8 @@ pub data Act : Type 0 where
   Forwarded : Act
   -- this DATA was taken in
   Took : ChunkPayloadData → Act
+  -- this DATA was taken in and is kept apart from its stream
+  Deferred : ChunkPayloadData → Act
   -- a FORWARD TSN passed over all up to this TSN, and on these streams skipped the ordered messages up to these SSNs
   PassedOver : ℕ → List SkippedStream → Act
   -- a SACK went out
@@ -214,6 +218,7 @@ done (PeerKnown t) p = record p { history = with_peer p.history t }
 done (Opened id first kind) p = record p { streams = made p.streams id first kind }
 done (Wrote id named bytes) p = with_written (stream_at p.streams id) p id named bytes
 done (Adjusted id setting) p = record p { streams = changed_stream (λ s. with_setting s setting) p.streams id }
+done (SpanEnded id m) p = record p { streams = m }
 done (Sent now) p = record p { queue = sent_next p.queue now }
 done (SentAgain by index) p = record p { queue = changed_at (counted_again by) p.queue index }
 done Marked p = record p { queue = all_marked p.queue }
@@ -227,6 +232,7 @@ done (Took piece) p = record p {
   streams = (pushed_in p.streams piece.stream_identifier piece).0;
   history = with_taken p.history (offset_in p.history piece.tsn);
 }
+done (Deferred piece) p = record p { history = with_taken p.history (offset_in p.history piece.tsn) }
 done (PassedOver tsn skipped) p = record p {
   streams = passed_over tsn skipped p.streams;
   history = with_passed p.history (offset_in p.history tsn);
@@ -273,6 +279,7 @@ pub record IsAhead (h : History) (t : ℕ) : Type 0 where
 
 -- an act can be done where the parts stand so
 abbrev pub Can : Act → Parts → Type 0
+Can (SpanEnded id m) p = (t : ℕ) → (t == id) ≡ false → stream_at m t ≡ stream_at p.streams t
 Can (Sent now) p = is_some (slice_get p.queue.pending 0) ≡ true
 Can (SentAgain by index) p = can_go_again (slice_get p.queue.in_flight index) ≡ true
 Can (Acknowledged n blocks missing) p = n ≤ length p.queue.in_flight
@@ -281,6 +288,7 @@ Can TailAbandoned p = can_abandon_tail (slice_get p.queue.pending 0) p.queue.in_
 Can (Dropped k) p = can_drop (slice_get p.queue.pending k) ≡ true
 Can Forwarded p = 0 < abandoned_in_front_of p.queue.in_flight
 Can (Took piece) p = IsNewTsn p.history piece.tsn
+Can (Deferred piece) p = IsNewTsn p.history piece.tsn
 Can (PassedOver tsn skipped) p = IsAhead p.history tsn
 Can act p = Unit {0}
 
@@ -329,6 +337,7 @@ IsOfItsOwn act = ⊥
 -- acts of the DATA that comes
 abbrev pub IsOfWhatComes : Act → Type 0
 IsOfWhatComes (Took piece) = Unit {0}
+IsOfWhatComes (Deferred piece) = Unit {0}
 IsOfWhatComes (PassedOver tsn skipped) = Unit {0}
 IsOfWhatComes Reported = Unit {0}
 IsOfWhatComes (WasRead id) = Unit {0}
@@ -338,7 +347,9 @@ IsOfWhatComes act = ⊥
 abbrev pub IsKeptInOrder : StreamMap → ℕ → Type 0
 IsKeptInOrder m s = (t : StreamView) → stream_at m s ≡ Some t → t.params ≡ ordered_and_reliable
 
--- this act sets order or reliability of the stream s
+-- this act sets order or reliability of the stream s: the application did, or a span ended and of the live streams of
+-- that moment this one sends other messages than ordered, reliable ones
 abbrev pub SetsReliability : Act → ℕ → Type 0
 SetsReliability (Adjusted id (settings.Reliability params)) s = id ≡ s
+SetsReliability (SpanEnded id m) s = IsKeptInOrder m s → ⊥
 SetsReliability act s = ⊥

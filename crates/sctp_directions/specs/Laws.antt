@@ -11,7 +11,7 @@ use Rattle.sctp_wire_types.specs.declared.chunk.ChunkSelectiveAck.{ChunkSelectiv
 use Rattle.sctp_wire_types.specs.declared.ids.PayloadProtocolIdentifier.{PayloadProtocolIdentifier}
 use Rattle.sctp_streams.specs.declared.setting.Setting.{Setting}
 use Rattle.sctp_streams.specs.Stream.{StreamView}
-use Rattle.sctp_streams.specs.Streams.{stream_at}
+use Rattle.sctp_streams.specs.Streams.{StreamMap, stream_at}
 use Rattle.sctp_outbound_queue.specs.declared.message.Retransmission.{Retransmission}
 use Rattle.sctp_outbound_queue.specs.Outbound.{abandoned_in_front_of}
 use Rattle.sctp_outbound.specs.declared.sender.Sender.{Sender}
@@ -99,6 +99,12 @@ ItsDropsAreAlike = (p : Parts) (k : ℕ) (w : Direction) → Can (Act.Dropped k)
     → FitsOutgoing (sending p) w
     → (s : ℕ) × (i : ℕ) × FitsOutgoing (sending (done (Act.Dropped k) p)) (happens w (Event.Drop s i))
 
+-- The span of a stream ends: so it does at the direction's sender, whatever becomes of the stream.
+abbrev pub ItsSpansEnd : Type 0
+ItsSpansEnd = (p : Parts) (id : ℕ) (m : StreamMap) (w : Direction) → Can (Act.SpanEnded id m) p
+    → FitsOutgoing (sending p) w
+    → FitsOutgoing (sending (done (Act.SpanEnded id m) p)) (happens w (Event.End id))
+
 -- Of the time that a message has the direction knows nothing.
 abbrev pub ItsStartsAreNoEvents : Type 0
 ItsStartsAreNoEvents = (p : Parts) (now : ℕ) (w : Direction) → FitsOutgoing (sending p) w
@@ -124,6 +130,32 @@ WhatItTakesInComes = (p : Parts) (piece : ChunkPayloadData) (k : ℕ) (d : Data)
     → IsWithin w → Invariant w → FitsIncoming (receiving p) w
     → (d.offset ≡ offset_in p.history piece.tsn)
     × FitsIncoming (receiving (done (Act.Took piece) p)) (happens w (Event.DataComes k))
+
+-- So it does where its stream is past its span, whatever the DATA says and whether or not the stream is live,
+abbrev pub WhatItTakesInPastItsSpanComes : Type 0
+WhatItTakesInPastItsSpanComes = (p : Parts) (piece : ChunkPayloadData) (k : ℕ) (d : Data) (w : Direction)
+    → Can (Act.Took piece) p
+    → slice_get w.datas k ≡ Some d → IsSaid w.over p.history.peer piece d
+    → w.over piece.stream_identifier ≡ true
+    → IsWithin w → Invariant w → FitsIncoming (receiving p) w
+    → (d.offset ≡ offset_in p.history piece.tsn)
+    × FitsIncoming (receiving (done (Act.Took piece) p)) (happens w (Event.DataComes k))
+
+-- and where it is kept apart from such a stream.
+abbrev pub WhatItDefersComes : Type 0
+WhatItDefersComes = (p : Parts) (piece : ChunkPayloadData) (k : ℕ) (d : Data) (w : Direction)
+    → Can (Act.Deferred piece) p
+    → slice_get w.datas k ≡ Some d → IsSaid w.over p.history.peer piece d
+    → w.over piece.stream_identifier ≡ true
+    → IsWithin w → Invariant w → FitsIncoming (receiving p) w
+    → (d.offset ≡ offset_in p.history piece.tsn)
+    × FitsIncoming (receiving (done (Act.Deferred piece) p)) (happens w (Event.DataComes k))
+
+-- The span of a stream ends: so it does at the direction's receiver, whatever becomes of the stream.
+abbrev pub SpansOfWhatComesEnd : Type 0
+SpansOfWhatComesEnd = (p : Parts) (id : ℕ) (m : StreamMap) (w : Direction) → Can (Act.SpanEnded id m) p
+    → FitsIncoming (receiving p) w
+    → FitsIncoming (receiving (done (Act.SpanEnded id m) p)) (happens w (Event.End id))
 
 -- A FORWARD TSN that lies ahead passes over all up to the offset that its new cumulative TSN spells, and comes to the
 -- direction's receiver.

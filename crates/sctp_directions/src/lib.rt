@@ -7,7 +7,9 @@ ghost use Rattle.sctp_directions.specs.Laws.{ActsKeepTheInitialTsns, ClosedRecei
 ghost use Rattle.sctp_directions.specs.Laws.{ForwardsItTakesCome, ForwardsPassOverTheFront};
 ghost use Rattle.sctp_directions.specs.Laws.{FreshDirectionsArePlain, ItsAbandonmentsAreAlike};
 ghost use Rattle.sctp_directions.specs.Laws.{ItsAcknowledgementsAreAlike, ItsDropsAreAlike, ItsForwardsSayTheSame};
-ghost use Rattle.sctp_directions.specs.Laws.{ItsMarksAreNoEvents, ItsPiecesAreGiven, ItsStartsAreNoEvents};
+ghost use Rattle.sctp_directions.specs.Laws.{ItsMarksAreNoEvents, ItsPiecesAreGiven, ItsSpansEnd};
+ghost use Rattle.sctp_directions.specs.Laws.{ItsStartsAreNoEvents, SpansOfWhatComesEnd, WhatItDefersComes};
+ghost use Rattle.sctp_directions.specs.Laws.{WhatItTakesInPastItsSpanComes};
 ghost use Rattle.sctp_directions.specs.Laws.{ItsTailsAreAbandonedAlike, ItsWritesAreAccepted, NothingIsAcceptedAtFirst};
 ghost use Rattle.sctp_directions.specs.Laws.{OnlyBeginningsAssign, OnlyForwardMadeGivesForwards, OnlyForwardsPassOver};
 ghost use Rattle.sctp_directions.specs.Laws.{OnlyReadsGiveMessages, OnlySettingsLoosen, OnlyWhatIsBroughtIsTakenIn};
@@ -19,8 +21,8 @@ ghost use Rattle.sctp_directions.specs.Laws.{ShortMessagesAreOnePiece, WhatComes
 ghost use Rattle.sctp_directions.specs.Laws.{WritesAreAcceptedLast};
 
 /// What an association writes, sends again, finds acknowledged, abandons and drops happens at the sender of its
-/// direction, and so does a FORWARD TSN that it makes. Of marks, of deadlines and of what an application sets on a
-/// stream that sender knows nothing.
+/// direction, and so do a FORWARD TSN that it makes and the end of a stream's span. Of marks, of deadlines and of what an
+/// application sets on a stream that sender knows nothing.
 pub fn its_own_acts_are_events()
     ensures writes { ItsWritesAreAccepted }
     ensures pieces { ItsPiecesAreGiven }
@@ -31,14 +33,18 @@ pub fn its_own_acts_are_events()
     ensures abandonments { ItsAbandonmentsAreAlike }
     ensures tails { ItsTailsAreAbandonedAlike }
     ensures drops { ItsDropsAreAlike }
+    ensures spans { ItsSpansEnd }
     ensures starts { ItsStartsAreNoEvents }
     ensures forwards { ItsForwardsSayTheSame }
 {}
 
-/// What an association takes in, passes over and reports happens at the receiver of the direction that comes to it;
-/// that the peer's initial TSN becomes known is nothing to it.
+/// What an association takes in, keeps apart, passes over and reports happens at the receiver of the direction that
+/// comes to it, and so does the end of a stream's span; that the peer's initial TSN becomes known is nothing to it.
 pub fn what_comes_to_it_are_events()
     ensures taken { WhatItTakesInComes }
+    ensures past { WhatItTakesInPastItsSpanComes }
+    ensures deferred { WhatItDefersComes }
+    ensures spans { SpansOfWhatComesEnd }
     ensures passed { ForwardsItTakesCome }
     ensures reports { ReportsSayWhatWasTaken }
     ensures peer_known { PeerKnownIsNoEvent }

@@ -1,7 +1,7 @@
 use Rattle.sctp_directions.proofs.Proved.{its_acknowledgements_are_alike, its_marks_are_no_events, its_pieces_are_given}
 use Rattle.sctp_directions.proofs.Proved.{sacks_mean_the_same, settings_are_no_events, its_writes_are_accepted}
 use Rattle.sctp_directions.proofs.Proved.{its_abandonments_are_alike, its_drops_are_alike, its_forwards_say_the_same}
-use Rattle.sctp_directions.proofs.Proved.{its_starts_are_no_events, its_tails_are_abandoned_alike}
+use Rattle.sctp_directions.proofs.Proved.{its_spans_end, its_starts_are_no_events, its_tails_are_abandoned_alike}
 use Rattle.sctp_directions.proofs.its_own_acts_are_events.Goals as goal
 
 pub returns-clause-writes : goal.returns-clause-writes
@@ -30,6 +30,9 @@ returns-clause-tails c = its_tails_are_abandoned_alike
 
 pub returns-clause-drops : goal.returns-clause-drops
 returns-clause-drops c = its_drops_are_alike
+
+pub returns-clause-spans : goal.returns-clause-spans
+returns-clause-spans c = its_spans_end
 
 pub returns-clause-starts : goal.returns-clause-starts
 returns-clause-starts c = its_starts_are_no_events
