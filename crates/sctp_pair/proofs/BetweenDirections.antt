@@ -46,6 +46,8 @@ pub record Goes (Brought : By → ℕ → Type 0) (w v : Direction) : Type 0 whe
   pub datas : (k : ℕ) (d : Data) → slice_get w.datas k ≡ Some d → slice_get v.datas k ≡ Some d
   pub forwards : (k : ℕ) (f : Forward) → slice_get w.forwards k ≡ Some f → slice_get v.forwards k ≡ Some f
   pub sacks : (k : ℕ) (x : Sack) → slice_get w.sacks k ≡ Some x → slice_get v.sacks k ≡ Some x
+  -- no span begins anew
+  pub spans : (s : ℕ) → v.over s ≡ false → w.over s ≡ false
   pub reach_on : w.sender.reach ≤ v.sender.reach
 
 pub run_append : (es fs : List Event) (w : Direction) → run (es ++ fs) w ≡ run fs (run es w)
@@ -64,6 +66,7 @@ goes_nowhere B w = record {
   datas = λ k d e. e;
   forwards = λ k f e. e;
   sacks = λ k x e. e;
+  spans = λ s e. e;
   reach_on = omega arith;
 }
 
@@ -87,6 +90,7 @@ goes_on B w v u g h = record {
   datas = λ k d e. h.datas k d (g.datas k d e);
   forwards = λ k f e. h.forwards k f (g.forwards k f e);
   sacks = λ k x e. h.sacks k x (g.sacks k x e);
+  spans = λ s e. g.spans s (h.spans s e);
   reach_on = (let a = g.reach_on in let b = h.reach_on in omega arith);
 }
 
@@ -106,6 +110,7 @@ goes_by_sender B w e at none =
       datas = sent.0.datas;
       forwards = sent.0.forwards;
       sacks = λ k x g. subst (λ (ks : List Sack). slice_get ks k ≡ Some x) (sym sent.0.sacks) g;
+      spans = λ s e. ap (λ (f : ℕ → Bool). f s) (sym sent.0.over) ∙ e;
       reach_on = sent.1;
     }
 
@@ -131,6 +136,7 @@ goes_by_receiver B w e at none brings passes =
       datas = λ k d g. subst (λ (ds : List Data). slice_get ds k ≡ Some d) (sym received.datas) g;
       forwards = λ k f g. subst (λ (fs : List Forward). slice_get fs k ≡ Some f) (sym received.forwards) g;
       sacks = received.sacks;
+      spans = λ s e. ap (λ (f : ℕ → Bool). f s) (sym received.over) ∙ e;
       reach_on = (let f = ap (λ (x : Sender). x.reach) received.sender in omega arith);
     }
 
@@ -301,6 +307,8 @@ pub record Does (Added : ℕ → List Message) (Read : ℕ → Option letters.Re
   pub datas : (k : ℕ) (d : Data) → slice_get w.datas k ≡ Some d → slice_get v.datas k ≡ Some d
   pub forwards : (k : ℕ) (f : Forward) → slice_get w.forwards k ≡ Some f → slice_get v.forwards k ≡ Some f
   pub sacks : (k : ℕ) (x : Sack) → slice_get w.sacks k ≡ Some x → slice_get v.sacks k ≡ Some x
+  -- no span begins anew
+  pub spans : (s : ℕ) → v.over s ≡ false → w.over s ≡ false
   pub reach_on : w.sender.reach ≤ v.sender.reach
 
 abbrev pub nothing_added : ℕ → List Message
@@ -321,6 +329,7 @@ does_by_goes B w v g = record {
   datas = g.datas;
   forwards = g.forwards;
   sacks = g.sacks;
+  spans = g.spans;
   reach_on = g.reach_on;
 }
 

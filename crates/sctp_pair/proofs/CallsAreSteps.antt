@@ -153,6 +153,7 @@ module _ {x : Surroundings} {b : Shown} {Added : ℕ → List Message} {Read : �
     datas = s.does_out.datas;
     forwards = s.does_out.forwards;
     sacks = s.does_coming.sacks;
+    spans = s.does_out.spans;
   }
 
   other_goes_on : StageGoesOn x.there x.there x.coming x.out s.coming2 s.out2
@@ -161,6 +162,7 @@ module _ {x : Surroundings} {b : Shown} {Added : ℕ → List Message} {Read : �
     datas = s.does_coming.datas;
     forwards = s.does_coming.forwards;
     sacks = s.does_out.sacks;
+    spans = s.does_coming.spans;
   }
 
 -- This step of the world's pair has this reply and leads to q.

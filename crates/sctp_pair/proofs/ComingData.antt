@@ -62,7 +62,7 @@ pub record MayTake (x : Surroundings) (p : Parts) (B : By → ℕ → Type 0) (p
   pub index : ℕ
   pub datum : Data
   pub there : slice_get x.coming.datas index ≡ Some datum
-  pub said : IsSaid x.peer piece datum
+  pub said : IsSaid x.coming.over x.peer piece datum
   pub brought : B By.ByData datum.offset
   pub known : p.history.peer ≡ x.peer
   pub can : Can (Act.Took piece) p
@@ -74,7 +74,7 @@ pub record MayPass (x : Surroundings) (p : Parts) (B : By → ℕ → Type 0) (c
   pub index : ℕ
   pub forward : Forward
   pub there : slice_get x.coming.forwards index ≡ Some forward
-  pub said : IsForwardSaid x.peer chunk forward
+  pub said : IsForwardSaid x.coming.over x.peer chunk forward
   pub brought : B By.ByForward forward.reach
   pub known : p.history.peer ≡ x.peer
   pub can : Can (Act.PassedOver chunk.new_cumulative_tsn chunk.streams) p
@@ -122,7 +122,7 @@ module _ (x : Surroundings) (p : Parts) (B : By → ℕ → Type 0) (h : Holds x
 
   pub act_took : (piece : ChunkPayloadData) → MayTake x p B piece → AfterComing x (done (Act.Took piece) p) B
   act_took piece m =
-      let named = subst (λ i. IsSaid i piece m.datum) (sym m.known) m.said in
+      let named = subst (λ i. IsSaid x.coming.over i piece m.datum) (sym m.known) m.said in
       let fits =
       what_it_takes_in_comes p piece m.index m.datum m.stream x.coming m.can m.there named m.live
       (h.sound_coming.plain.span piece.stream_identifier) within h.sound_coming.invariant h.between.incoming in
@@ -148,7 +148,7 @@ module _ (x : Surroundings) (p : Parts) (B : By → ℕ → Type 0) (h : Holds x
       → AfterComing x (done (Act.PassedOver chunk.new_cumulative_tsn chunk.streams) p) B
   act_passed chunk m =
       let act : Act = Act.PassedOver chunk.new_cumulative_tsn chunk.streams in
-      let named = subst (λ i. IsForwardSaid i chunk m.forward) (sym m.known) m.said in
+      let named = subst (λ i. IsForwardSaid x.coming.over i chunk m.forward) (sym m.known) m.said in
       let fits =
       forwards_it_takes_come p chunk m.index m.forward x.coming m.can m.there named within h.sound_coming.invariant
       h.between.incoming in

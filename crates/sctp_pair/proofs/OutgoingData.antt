@@ -30,6 +30,7 @@ use Rattle.sctp_directions.proofs.Proved.{only_settings_loosen, its_pieces_are_g
 use Rattle.sctp_sides.specs.SideLaws.{GivesNew, GivesUpOrAgain}
 use Rattle.sctp_pair.proofs.BetweenDirections.{Goes, Holds, IsOrderly, None_brought, OtherStands, Surroundings}
 use Rattle.sctp_pair.proofs.BetweenDirections.{goes_by_sender, goes_nowhere, goes_on, other_by_sender, sound_after}
+use Rattle.sctp_pair.proofs.SaidStaysSaid.{data_stays_said}
 use Rattle.sctp_pair.proofs.ForwardsMade.{abandonments_take_no_room, drops_take_no_room, resends_take_no_room, room}
 
 -- What was done at the sender of the own direction, and the DATA that it gave out.
@@ -220,7 +221,7 @@ pub given_grows : (own : ℕ) (w v : Direction) (ds : List ChunkPayloadData) →
     → AllByRecursion (IsGiven own w) ds → AllByRecursion (IsGiven own v) ds
 given_grows own w v ds g h =
     all_weaker (IsGiven own w) (IsGiven own v) ds
-    (λ c given. (given.0, given.1, g.datas given.0 given.1 given.2, given.3)) h
+    (λ c given. (given.0, given.1, g.datas given.0 given.1 given.2, data_stays_said own c given.1 g.spans given.3)) h
 
 -- what was given out first, and then more
 after_both : (x : Surroundings) (p : Parts) (mid : Direction) (first second : List ChunkPayloadData)

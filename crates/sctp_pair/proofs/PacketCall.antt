@@ -209,6 +209,7 @@ brings_more {x} {b} B s = record {
     datas = s.does_coming.datas;
     forwards = s.does_coming.forwards;
     sacks = s.does_coming.sacks;
+    spans = s.does_coming.spans;
     reach_on = s.does_coming.reach_on;
   };
   sound_out = s.sound_out;

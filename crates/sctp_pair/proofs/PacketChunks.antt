@@ -37,6 +37,7 @@ use Rattle.sctp_pair.specs.Fits.{IsSaidBy}
 use Rattle.sctp_pair.specs.World.{HasData, HasForward}
 use Rattle.sctp_pair.proofs.BetweenDirections.{By, Holds, None_brought, Surroundings, goes_nowhere, goes_on, moved}
 use Rattle.sctp_pair.proofs.OutgoingData.{AfterOut, act_acknowledged}
+use Rattle.sctp_pair.proofs.SaidStaysSaid.{data_stays_said, forward_stays_said}
 use Rattle.sctp_pair.proofs.HandshakeStages.{hearers_know}
 use Rattle.sctp_pair.proofs.HandshakeChunk.{greet_step}
 use Rattle.sctp_pair.proofs.BetweenChunks.{Underway, goes_same, meets_same, stands_by}
@@ -70,7 +71,7 @@ module _ (x : Surroundings) (B : By → ℕ → Type 0) (a : Shown) (h : History
       (act_opened x (parts a h) B holds within piece.stream_identifier o.first o.kind o.none)
 
   -- the piece is one that was given out
-  module _ (k : ℕ) (d : Data) (e : slice_get x.coming.datas k ≡ Some d) (said : IsSaid x.peer piece d)
+  module _ (k : ℕ) (d : Data) (e : slice_get x.coming.datas k ≡ Some d) (said : IsSaid x.coming.over x.peer piece d)
       (brought : B By.ByData d.offset) (acts : List Act) (can : CanAll acts (parts a h)) where
     data_takes : TakesOnly a piece acts → Comes x B (parts a h) acts
     data_takes t =
@@ -97,7 +98,7 @@ module _ (x : Surroundings) (B : By → ℕ → Type 0) (a : Shown) (h : History
           index = k;
           datum = d;
           there = one.goes.datas k d e;
-          said = said;
+          said = data_stays_said x.peer piece d one.goes.spans said;
           brought = brought;
           known = known;
           can = both.1.0;
@@ -119,9 +120,9 @@ module _ (x : Surroundings) (B : By → ℕ → Type 0) (a : Shown) (h : History
       subst (Comes x B (parts a h)) (sym n) (coming_nowhere B within holds)
   take_shape acts (inr (inl o)) can given brings = data_opens acts o
   take_shape acts (inr (inr (inl t))) can (k, d, e, said) brings =
-      data_opens_and_takes k d e said (brings d.offset said.carries.tsn) acts can t
+      data_opens_and_takes k d e said (brings d.offset said.tsn) acts can t
   take_shape acts (inr (inr (inr t))) can (k, d, e, said) brings =
-      data_takes k d e said (brings d.offset said.carries.tsn) acts can t
+      data_takes k d e said (brings d.offset said.tsn) acts can t
 
 taking_is_not_peer_known : (a : Shown) (piece : ChunkPayloadData) (acts : List Act) → IsTaking a piece acts
     → AllByRecursion IsNotPeerKnown acts
@@ -166,9 +167,10 @@ data_step {x} {B} header piece {a} {b} takes (k, d, e, said) brings u =
     let taking = data_opens_or_takes a header piece in
     let leads = takes.leads h u.stands.binds in
     let there = u.goes_coming.datas k d e in
+    let still = data_stays_said x.peer piece d u.goes_coming.spans said in
     came_on u acts leads takes.leaves (taking_is_not_peer_known a piece acts taking)
     (take_shape (moved x u.out2 u.coming2) B a h piece (data_is_known k d u there) u.within_coming u.holds acts taking
-    leads.1.can (k, d, there, said) brings)
+    leads.1.can (k, d, there, still) brings)
 
 -- FORWARD TSN
 
@@ -222,9 +224,10 @@ forward_step {x} {B} header c {a} {b} takes (k, f, e, said) brings u =
     let passing = forwards_pass_over a header c in
     let leads = takes.leads h u.stands.binds in
     let there = u.goes_coming.forwards k f e in
+    let still = forward_stays_said x.peer c f u.goes_coming.spans said in
     came_on u acts leads takes.leaves (passing_is_not_peer_known c.new_cumulative_tsn c.streams acts passing)
     (forward_shape (moved x u.out2 u.coming2) B a h c (forward_is_known k f u there) u.within_coming u.holds acts
-    passing leads.1.can (k, f, there, said) brings)
+    passing leads.1.can (k, f, there, still) brings)
 
 -- SACK
 

@@ -82,6 +82,7 @@ read_does w id message here others =
       datas = λ k d e. subst (λ (ds : List Data). slice_get ds k ≡ Some d) (sym event.datas) e;
       forwards = λ k f e. subst (λ (fs : List Forward). slice_get fs k ≡ Some f) (sym event.forwards) e;
       sacks = event.sacks;
+      spans = λ s e. ap (λ (f : ℕ → Bool). f s) (sym event.over) ∙ e;
       reach_on = (let e = ap (λ x. x.reach) event.sender in omega arith);
     }
 
@@ -104,6 +105,7 @@ does_on R w v u d g = record {
   datas = λ k x e. g.datas k x (d.datas k x e);
   forwards = λ k x e. g.forwards k x (d.forwards k x e);
   sacks = λ k x e. g.sacks k x (d.sacks k x e);
+  spans = λ s e. d.spans s (g.spans s e);
   reach_on = (let a = d.reach_on in let b = g.reach_on in omega arith);
 }
 
@@ -296,6 +298,7 @@ none_read {x} id message e h =
         datas = d.datas;
         forwards = d.forwards;
         sacks = d.sacks;
+        spans = d.spans;
         reach_on = d.reach_on;
       };
       sound_out = h.sound_out;

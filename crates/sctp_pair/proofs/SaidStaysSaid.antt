@@ -1,8 +1,10 @@
 -- What a side's packets say of its directions stays said while these go on.
-use Rattle.std.proofs.Common.{◌≡◌, inl, inr, ℕ, List, Option, Some, None}
+use Rattle.std.proofs.Common.{◌≡◌, inl, inr, ℕ, Bool, false, List, Option, Some, None}
 use Rattle.std.specs.Prelude.{slice_get}
 use Rattle.sctp_wire_types.specs.declared.chunk.Chunk.{Chunk}
 use Rattle.sctp_wire_types.specs.declared.chunk.Chunk.TheVariants as chunks
+use Rattle.sctp_wire_types.specs.declared.chunk.ChunkForwardTsn.{ChunkForwardTsn}
+use Rattle.sctp_wire_types.specs.declared.chunk.ChunkPayloadData.{ChunkPayloadData}
 use Rattle.sctp_wire.specs.declared.packet.Packet.{Packet}
 use Rattle.sctp_model.specs.Packets.{Data, Forward, Sack}
 use Rattle.sctp_model.specs.Machine.{Direction}
@@ -10,6 +12,8 @@ use Rattle.sctp_model.proofs.Lists.{all_weaker}
 use Rattle.sctp_sides.specs.Meeting.{IsNoEarlier, Stage}
 use Rattle.sctp_sides.specs.SideLaws.{OfEachChunk}
 use Rattle.sctp_sides.proofs.Proved.{greetings_stay_true}
+use Rattle.sctp_fit.specs.Forwards.{IsForwardSaid}
+use Rattle.sctp_fit.specs.Incoming.{IsSaid}
 use Rattle.sctp_directions.specs.Said.{Says}
 use Rattle.sctp_pair.specs.Steps.{packet_in}
 use Rattle.sctp_pair.specs.Fits.{AreSaid, IsSaidBy}
@@ -32,14 +36,33 @@ pub record StageGoesOn (s t : Stage) (out coming out2 coming2 : Direction) : Typ
   pub datas : KeepsDatas out out2
   pub forwards : KeepsForwards out out2
   pub sacks : KeepsSacks coming coming2
+  -- no span begins anew
+  pub spans : (s : ℕ) → out2.over s ≡ false → out.over s ≡ false
+
+-- what DATA and FORWARD TSNs say is said of streams within their span, and stays said of those that still are
+pub data_stays_said : (initial : ℕ) {over over2 : ℕ → Bool} (c : ChunkPayloadData) (d : Data)
+    → ((s : ℕ) → over2 s ≡ false → over s ≡ false) → IsSaid over initial c d → IsSaid over2 initial c d
+data_stays_said initial c d spans said = record {
+  stream = said.stream;
+  tsn = said.tsn;
+  carries = λ within. said.carries (spans d.stream within);
+}
+
+pub forward_stays_said : (initial : ℕ) {over over2 : ℕ → Bool} (c : ChunkForwardTsn) (f : Forward)
+    → ((s : ℕ) → over2 s ≡ false → over s ≡ false) → IsForwardSaid over initial c f → IsForwardSaid over2 initial c f
+forward_stays_said initial c f spans said = record {
+  reach = said.reach;
+  streams = λ s within. said.streams s (spans s within);
+}
 
 module _ (own peer : ℕ) {s t : Stage} {out coming out2 coming2 : Direction}
     (g : StageGoesOn s t out coming out2 coming2) where
   -- one chunk
   chunk_grows : (c : Chunk) → Says own peer out coming c → Says own peer out2 coming2 c
-  chunk_grows (chunks.Data c) (k, d, there, said) = (k, d, g.datas k d there, said)
+  chunk_grows (chunks.Data c) (k, d, there, said) = (k, d, g.datas k d there, data_stays_said own c d g.spans said)
   chunk_grows (chunks.SelectiveAck c) (k, x, there, made) = (k, x, g.sacks k x there, made)
-  chunk_grows (chunks.ForwardTsn c) (k, f, there, said) = (k, f, g.forwards k f there, said)
+  chunk_grows (chunks.ForwardTsn c) (k, f, there, said) =
+      (k, f, g.forwards k f there, forward_stays_said own c f g.spans said)
   chunk_grows c h = absurd h
 
   -- a chunk of the handshake says it of a later stage, too

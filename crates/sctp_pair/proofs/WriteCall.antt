@@ -81,6 +81,7 @@ write_does a id n named bytes t w there some =
       datas = sent.0.datas;
       forwards = sent.0.forwards;
       sacks = λ k x e. subst (λ (ks : List Sack). slice_get ks k ≡ Some x) (sym sent.0.sacks) e;
+      spans = λ s e. ap (λ (f : ℕ → Bool). f s) (sym sent.0.over) ∙ e;
       reach_on = sent.1;
     }
 
