@@ -144,6 +144,7 @@ act_marked (Act.PeerKnown t) p m = m
 act_marked (Act.Opened id first kind) p m = m
 act_marked (Act.Wrote id named bytes) p m = written_right (stream_at p.streams id) p id named bytes m
 act_marked (Act.Adjusted id setting) p m = m
+act_marked (Act.SpanEnded id live) p m = m
 act_marked (Act.Sent now) p m = sent_right p.queue.pending p.queue now m
 act_marked (Act.SentAgain by index) p m =
     again_right by (slice_get p.queue.in_flight index) p.queue index refl m
@@ -156,6 +157,7 @@ act_marked (Act.Dropped k) p m = dropped_right k (slice_get p.queue.pending k) p
 act_marked (Act.Started now) p m = started_right now p.queue.in_flight m
 act_marked Act.Forwarded p m = m
 act_marked (Act.Took piece) p m = m
+act_marked (Act.Deferred piece) p m = m
 act_marked (Act.PassedOver t skipped) p m = m
 act_marked Act.Reported p m = m
 act_marked (Act.WasRead id) p m = m
