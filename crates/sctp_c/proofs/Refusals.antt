@@ -301,15 +301,18 @@ when_made (Err e) P held holds same = absurd same
 
 -- what the timers asked for was done to the driver that lies in a box: `d` and `e` are what the box holds before and
 -- after, and `o` and `n` what the call was lent and what it left
-pub when_timed : (answer : Result Unit Error) (code now : ℕ) (before after : Option Driving) (d o e n : Driving)
-    → before ≡ Some d → after ≡ Some e → o ≡ d → e ≡ n
-    → OnOk answer (n ≡ with_association o (after_timeouts o.association now)) → code ≡ code_of answer → code ≡ 0
-    → OnHeld before after (λ d e. e ≡ with_association d (after_timeouts d.association now))
-when_timed answer code now before after d o e n is_d is_e lent left holds same done =
-    subst (λ (b : Option Driving). OnHeld b after (λ d e. e ≡ with_association d (after_timeouts d.association now)))
-    (sym is_d)
-    (subst (λ (a : Option Driving). OnHeld (Some d) a
-    (λ d e. e ≡ with_association d (after_timeouts d.association now)))
-    (sym is_e)
-    (left ∙ subst (λ (b : Driving). n ≡ with_association b (after_timeouts b.association now)) lent
-    (when_done answer (n ≡ with_association o (after_timeouts o.association now)) holds (sym same ∙ done))))
+module _ (now : ℕ) {before after : Option Driving} {d o e n : Driving} (is_d : before ≡ Some d) (is_e : after ≡ Some e)
+    (lent : o ≡ d) (left : e ≡ n)
+  where
+    pub when_timed : (answer : Result Unit Error) {code : ℕ}
+        → OnOk answer (n ≡ with_association o (after_timeouts o.association now)) → code ≡ code_of answer → code ≡ 0
+        → OnHeld before after (λ d e. e ≡ with_association d (after_timeouts d.association now))
+    when_timed answer holds same done =
+        subst
+        (λ (b : Option Driving). OnHeld b after (λ d e. e ≡ with_association d (after_timeouts d.association now)))
+        (sym is_d)
+        (subst (λ (a : Option Driving). OnHeld (Some d) a
+        (λ d e. e ≡ with_association d (after_timeouts d.association now)))
+        (sym is_e)
+        (left ∙ subst (λ (b : Driving). n ≡ with_association b (after_timeouts b.association now)) lent
+        (when_done answer (n ≡ with_association o (after_timeouts o.association now)) holds (sym same ∙ done))))

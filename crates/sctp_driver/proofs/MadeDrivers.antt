@@ -15,16 +15,30 @@ unfolding sends_init
 addressed None config size tag initial_tsn cookie remote_addr now = refl
 addressed (Some of_server) config size tag initial_tsn cookie remote_addr now = refl
 
+-- what a side is made of, but for the peer's address and the moment
+pub record Making : Type 0 where
+  pub of_server : Option ServerConfig
+  pub config : Settings
+  pub size : ℕ
+  pub tag : ℕ
+  pub initial_tsn : ℕ
+  pub cookie : List ℕ
+
+-- the side that is made of it
+abbrev made : Making → SocketAddr → ℕ → Shown
+made of remote_addr now =
+    created of.of_server of.config of.size of.tag of.initial_tsn of.cookie remote_addr None now
+
 -- a is what was made at the moment m, and d what a driver is then
-pub made_driver : (of_server : Option ServerConfig) (d : Driving) (a : Shown) (config : Settings)
-    (size tag initial_tsn : ℕ) (cookie : List ℕ) (remote_addr : SocketAddr) (m now : ℕ)
-    → d ≡ begun_with a tag → a ≡ created of_server config size tag initial_tsn cookie remote_addr None m → m ≡ now
-    → d ≡ begun_with (created of_server config size tag initial_tsn cookie d.association.remote_addr None now) tag
-made_driver of_server d a config size tag initial_tsn cookie remote_addr m now is made moment =
-    let same : a ≡ created of_server config size tag initial_tsn cookie remote_addr None now =
-    made ∙ ap (created of_server config size tag initial_tsn cookie remote_addr None) moment in
-    let there : d.association.remote_addr ≡ remote_addr =
-    ap (λ (x : Driving). x.association.remote_addr) is ∙ ap (λ (x : Shown). x.remote_addr) same
-    ∙ addressed of_server config size tag initial_tsn cookie remote_addr now in
-    is ∙ ap (λ x. begun_with x tag) same
-    ∙ ap (λ x. begun_with (created of_server config size tag initial_tsn cookie x None now) tag) (sym there)
+module _ (of : Making) (remote_addr : SocketAddr) {a : Shown} {m now : ℕ} (is_made : a ≡ made of remote_addr m)
+    (moment : m ≡ now)
+  where
+    pub made_driver : {d : Driving} → d ≡ begun_with a of.tag
+        → d ≡ begun_with (made of d.association.remote_addr now) of.tag
+    made_driver {d} is =
+        let same : a ≡ made of remote_addr now = is_made ∙ ap (made of remote_addr) moment in
+        let there : d.association.remote_addr ≡ remote_addr =
+        ap (λ (x : Driving). x.association.remote_addr) is ∙ ap (λ (x : Shown). x.remote_addr) same
+        ∙ addressed of.of_server of.config of.size of.tag of.initial_tsn of.cookie remote_addr now in
+        is ∙ ap (λ x. begun_with x of.tag) same
+        ∙ ap (λ x. begun_with (made of x now) of.tag) (sym there)

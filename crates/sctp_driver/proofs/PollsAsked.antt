@@ -33,12 +33,14 @@ error_of (Err x) z = x
 error_of (Ok x) z = z
 
 -- what lacks memory is the association's poll
-pub lacking_given : (r : Result (Unit {0}) Error) (inner error other : Error) (a : Shown) (moment now : ℕ)
-    → moment ≡ now → r ≡ Err error → error ≡ inner
-    → (IsErrOf {T = Option Transmit} (Err inner) other → has_something_to_give a moment ≡ true) → IsErrOf r other
-    → has_something_to_give a now ≡ true
-unfolding error_of
-lacking_given r inner error other a moment now e is same given lacks =
-    let error_is : error ≡ other = ap (λ (z : Result (Unit {0}) Error). error_of z error) (sym is ∙ lacks) in
-    subst (λ (m : ℕ). has_something_to_give a m ≡ true) e
-    (given (ap (λ (z : Error). let s : Result (Option Transmit) Error = Err z in s) (sym same ∙ error_is)))
+module _ (a : Shown) {moment now : ℕ} (at_now : moment ≡ now) {inner error other : Error}
+    (given : IsErrOf {T = Option Transmit} (Err inner) other → has_something_to_give a moment ≡ true)
+    (same : error ≡ inner)
+  where
+    pub lacking_given : {r : Result (Unit {0}) Error} → r ≡ Err error → IsErrOf r other
+        → has_something_to_give a now ≡ true
+    unfolding error_of
+    lacking_given {r} is lacks =
+        let error_is : error ≡ other = ap (λ (z : Result (Unit {0}) Error). error_of z error) (sym is ∙ lacks) in
+        subst (λ (m : ℕ). has_something_to_give a m ≡ true) at_now
+        (given (ap (λ (z : Error). let s : Result (Option Transmit) Error = Err z in s) (sym same ∙ error_is)))

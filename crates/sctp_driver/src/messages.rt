@@ -1,10 +1,10 @@
 // Messages that were taken out of the association and wait for a buffer that is long enough.
-ghost use Rattle.std.specs.Prelude.{◌≡◌, ◌++◌, ◌<◌, length, Err, IfOk, IfSome, OnErr, OnOk};
+ghost use Rattle.std.specs.Prelude.{◌≡◌, ◌++◌, ◌<◌, [], length, Err, IfOk, IfSome, OnErr, OnOk};
 ghost use Rattle.sctp_receive_queues.specs.Messages.{bytes_left};
 ghost use Rattle.sctp_driver.specs.Messages.{Gives, index_of, kept_of, message_at, put_front};
 
 use crate::sending::fill;
-use bytes::BytesMut;
+use bytes::{Bytes, BytesMut};
 use sctp_assoc::{Chunks, Error, PayloadProtocolIdentifier, StreamId};
 use std::alloc::Global;
 use std::collections::VecDeque;
@@ -26,13 +26,16 @@ pub enum ReadAnswer {
     },
 }
 
-/// A message that was not read yet: the bytes that were put in one piece, and behind them those that were not.
+/// A message that was not read yet: its first piece, which shares its bytes with the datagram that brought it, behind
+/// it the pieces that were put in one, and then those that were not taken out yet. A message of one piece takes no
+/// memory of its own.
 #[derive(Drop)]
 pub(crate) struct Kept {
     stream: StreamId,
     payload_type: PayloadProtocolIdentifier,
     size: usize,
-    front: BytesMut,
+    first: Bytes,
+    others: BytesMut,
     rest: Chunks,
 }
 
@@ -46,10 +49,10 @@ impl Model for Kept {
     ghost view = { λ k. record {
       stream = k.stream;
       payload_type = k.payload_type;
-      bytes = k.front.items ++ bytes_left k.rest;
+      bytes = k.first ++ k.others.items ++ bytes_left k.rest;
     } };
 
-    ghost invariant = { λ k. k.size ≡ length (k.front.items ++ bytes_left k.rest) };
+    ghost invariant = { λ k. k.size ≡ length (k.first ++ k.others.items ++ bytes_left k.rest) };
 }
 
 impl Kept {
@@ -60,7 +63,8 @@ impl Kept {
             stream,
             payload_type: message.payload_type(),
             size: message.len(),
-            front: BytesMut::new(alloc),
+            first: Bytes::new(),
+            others: BytesMut::new(alloc),
             rest: message,
         }
     }
@@ -90,19 +94,49 @@ impl Kept {
         ensures refused { OnErr result (result ≡ Err Error.ErrNoMemory) }
         ensures err { OnErr result (buffer.new ≡ buffer.old) }
     {
-        gather(&mut self.front, &mut self.rest)?;
-        fill(buffer, self.front.as_slice());
+        gather(&mut self.first, &mut self.others, &mut self.rest)?;
+        fill_both(buffer, self.first.as_slice(), self.others.as_slice());
         Ok(())
     }
 }
 
-// Puts the rest of a message behind its front. Where memory is refused no byte is lost.
-#[tactic(auto, using(crate::proofs::CutsLeft::none_left))]
-fn gather(front: &mut BytesMut, rest: &mut Chunks) -> Result<(), Error>
-    ensures same { front.new.items ++ bytes_left rest.new ≡ front.old.items ++ bytes_left rest.old }
-    ensures ok { OnOk result (front.new.items ≡ front.old.items ++ bytes_left rest.old) }
+// Takes all pieces of a message out: the first one as it is, and the others put in one. Where memory is refused no byte
+// is lost.
+fn gather(first: &mut Bytes, others: &mut BytesMut, rest: &mut Chunks) -> Result<(), Error>
+    ensures same { first.new ++ others.new.items ++ bytes_left rest.new
+        ≡ first.old ++ others.old.items ++ bytes_left rest.old }
+    ensures ok { OnOk result (bytes_left rest.new ≡ []) }
     ensures refused { OnErr result (result ≡ Err Error.ErrNoMemory) }
 {
+    if first.is_empty() && others.is_empty() {
+        take_first(first, rest)?;
+    }
+    put_behind(others, rest)
+}
+
+// Takes the first piece of a message out. Where memory is refused nothing changes.
+#[tactic(auto, using(crate::proofs::CutsLeft::none_left))]
+fn take_first(first: &mut Bytes, rest: &mut Chunks) -> Result<(), Error>
+    requires { length first.old ≡ 0 }
+    ensures same { first.new ++ bytes_left rest.new ≡ bytes_left rest.old }
+    ensures refused { OnErr result (result ≡ Err Error.ErrNoMemory) }
+{
+    if let Some(cut) = rest.next(usize::MAX)? {
+        *first = cut;
+    }
+    Ok(())
+}
+
+// Puts the rest of a message behind other bytes. Where memory is refused no byte is lost.
+#[tactic(auto, using(crate::proofs::CutsLeft::none_left))]
+fn put_behind(front: &mut BytesMut, rest: &mut Chunks) -> Result<(), Error>
+    ensures same { front.new.items ++ bytes_left rest.new ≡ front.old.items ++ bytes_left rest.old }
+    ensures ok { OnOk result (bytes_left rest.new ≡ []) }
+    ensures refused { OnErr result (result ≡ Err Error.ErrNoMemory) }
+{
+    if rest.is_empty() {
+        return Ok(());
+    }
     front.reserve(rest.len())?;
     while !rest.is_empty() {
         match rest.next(usize::MAX)? {
@@ -111,6 +145,17 @@ fn gather(front: &mut BytesMut, rest: &mut Chunks) -> Result<(), Error>
         }
     }
     Ok(())
+}
+
+// Copies bytes to the front of the buffer, and others behind them; where it is shorter nothing is copied.
+fn fill_both(buffer: &mut [u8], first: &[u8], others: &[u8])
+    ensures { buffer.new ≡ put_front (first.now ++ others.now) buffer.old }
+{
+    if buffer.len() >= first.len() && buffer.len() - first.len() >= others.len() {
+        let (front, behind) = buffer.split_at_mut(first.len());
+        front.copy_from_slice(first);
+        fill(behind, others);
+    }
 }
 
 /// Where the first message of this stream stands.

@@ -4,7 +4,5 @@ use Rattle.sctp_c.proofs.datagrams.sctp_assoc_handle_timeout.Goals as goal
 
 pub returns-clause-done : goal.returns-clause-done
 returns-clause-done c =
-    when_timed c.handle_timeout-answer.result c.code_of.result c.args.now c.args.slot.now.handle.driver
-    c.put.new.self.handle.driver c.in-Some.driver.value c.deref_mut.result.now c.handle_timeout-answer.new.self
-    c.handle_timeout-answer.new.self c.in-Some.ensures.some c.put.ensures c.deref_mut.ensures.value refl
-    c.handle_timeout-answer.ensures.ok c.code_of.ensures
+    when_timed c.args.now c.in-Some.ensures.some c.put.ensures c.deref_mut.ensures.value refl
+    c.handle_timeout-answer.result c.handle_timeout-answer.ensures.ok c.code_of.ensures

@@ -1,6 +1,5 @@
 use Rattle.std.proofs.Common.{◌≡◌, ◌∙◌, ap, deque_len, subst, sym, true}
 use Rattle.std.proofs.lemmas.Result.{err_from_is_err_and}
-use Rattle.sctp_wire_types.specs.declared.error.Error.TheVariants.{ErrNoMemory}
 use Rattle.sctp_assoc.specs.Gather.{has_something_to_give}
 use Rattle.sctp_driver.specs.Driving.{Driving}
 use Rattle.sctp_driver.specs.Sending.{asked}
@@ -11,8 +10,7 @@ pub returns-in_err-given-clause-given : goal.returns-in_err-given-clause-given
 returns-in_err-given-clause-given c lacks =
     let p = err_from_is_err_and c.from_residual.result c.from_residual.ensures.1 in
     subst (λ (d : Driving). has_something_to_give d.association c.args.now ≡ true) c.self.view_is
-    (lacking_given c.from_residual.result c.in_err-given.field-0.0 p.0 ErrNoMemory c.self.inside.association
-    c.from_nanos.result c.args.now c.from_nanos.ensures p.1 p.2 c.in_err-given.ensures.given lacks)
+    (lacking_given c.self.inside.association c.from_nanos.ensures c.in_err-given.ensures.given p.2 p.1 lacks)
 
 pub returns-clause-ok : goal.returns-clause-ok
 returns-clause-ok c =

@@ -4,6 +4,11 @@ use Rattle.sctp_driver.proofs.driver.Driver.made.Goals as goal
 
 pub returns-clause-created : goal.returns-clause-created
 returns-clause-created c =
-    made_driver (option_copied c.args.server_config) c.of.result c.in_ok-association.association
-    c.args.config.now c.args.max_payload_size c.args.local_tag c.args.initial_tsn c.args.cookie c.nowhere.result
-    c.from_nanos.result c.args.now c.of.ensures c.in_ok-association.ensures.created c.from_nanos.ensures
+    made_driver record {
+      of_server = option_copied c.args.server_config;
+      config = c.args.config.now;
+      size = c.args.max_payload_size;
+      tag = c.args.local_tag;
+      initial_tsn = c.args.initial_tsn;
+      cookie = c.args.cookie;
+    } c.nowhere.result c.in_ok-association.ensures.created c.from_nanos.ensures c.of.ensures

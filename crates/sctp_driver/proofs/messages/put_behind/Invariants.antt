@@ -1,6 +1,6 @@
 use Rattle.std.proofs.Common.{◌≡◌, ◌++◌, ◌≤◌, length}
 use Rattle.sctp_receive_queues.specs.Messages.{bytes_left}
-use Rattle.sctp_driver.proofs.messages.gather.Given as goal
+use Rattle.sctp_driver.proofs.messages.put_behind.Given as goal
 
 abbrev pub invariant-loop-rest : goal.invariant-loop-rest
 invariant-loop-rest l =

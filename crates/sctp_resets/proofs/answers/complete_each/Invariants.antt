@@ -1,0 +1,8 @@
+use Rattle.std.proofs.Common.{◌≡◌, drop, fold}
+use Rattle.sctp_resets.specs.Answers.{answering, completed_one}
+use Rattle.sctp_resets.proofs.answers.complete_each.Given as goal
+
+abbrev pub invariant-loop-id : goal.invariant-loop-id
+invariant-loop-id l =
+    fold completed_one (answering l.debts l.streams l.events) (drop l.id-index l.ids)
+    ≡ fold completed_one (answering l.fn.debts l.fn.streams l.fn.events) l.fn.ids

@@ -1,0 +1,121 @@
+// What a performed request of the peer does to the streams that it names (RFC 6525 section 5.2.2).
+ghost use Rattle.std.specs.Prelude.{◌≡◌, IfOk, is_some, filter};
+ghost use Rattle.sctp_streams.specs.Streams.{stream_at};
+ghost use Rattle.sctp_resets.specs.Channels.{channels};
+ghost use Rattle.sctp_resets.specs.Performing.{performing, is_drained, retired_one, named_live, retired_each};
+
+use crate::channels::end_stream;
+use sctp_generations::{Generations, Retirement};
+use sctp_reset_requests::{Debts, PeerRequest};
+use sctp_streams::{Event, Events, Streams};
+use sctp_wire_types::{ReconfigResult, StreamEvent, StreamId};
+use std::alloc::{AllocError, Global};
+use std::collections::BTreeSet;
+
+/// A request of the peer that was performed once the DATA before it came.
+#[derive(Clone, Copy, Debug, PartialEq, Eq)]
+pub struct Settled {
+    /// Its number, which the response names.
+    pub number: u32,
+    /// A request of this side was made, which resets the same streams in the other direction.
+    pub asks: bool,
+}
+
+/// What a request of the peer led to.
+#[derive(Clone, Copy, Debug)]
+pub struct Handled {
+    /// It named the active request of this side, which ended by that.
+    pub confirms: bool,
+    /// A request of this side was made, which resets the same streams in the other direction.
+    pub asks: bool,
+    /// What is answered.
+    pub answer: ReconfigResult,
+}
+
+// Whether nothing more can be read on a stream: its read half is closed, or no byte waits.
+fn is_drained(streams: &Streams, id: StreamId) -> bool
+    ensures { result ≡ is_drained streams.now id }
+{
+    match streams.get(id) {
+        Some(stream) => !stream.is_read_half_open() || stream.waiting_bytes() == 0,
+        None => true,
+    }
+}
+
+// Ends the newest generation of a live stream by a request with this last TSN, and answers whether one ended: then
+// Finished is told, and the end of the reset is owed.
+#[tactic(auto, unfolding(crate::specs::Performing::retired_one))]
+fn retire(
+    generations: &mut Generations,
+    debts: &mut Debts,
+    streams: &mut Streams,
+    events: &mut Events,
+    id: StreamId,
+    last_tsn: u32,
+) -> Result<bool, AllocError>
+    ensures { IfOk result (λ retired.
+        retired_one last_tsn (performing generations.old debts.old streams.old events.old) id
+        ≡ (performing generations.new debts.new streams.new events.new, retired)) }
+{
+    let is_drained = is_drained(streams, id);
+    match generations.retire(id, last_tsn, is_drained)? {
+        Retirement::Unchanged => return Ok(false),
+        Retirement::Ended => end_stream(streams, events, id)?,
+        Retirement::Retires => {}
+    }
+    events.push(Event::Stream(StreamEvent::Finished { id }))?;
+    debts.owe(id)?;
+    Ok(true)
+}
+
+// The live streams that a request names, ascending.
+fn named_live(
+    alloc: Global,
+    streams: &Streams,
+    request: &PeerRequest,
+) -> Result<Vec<StreamId>, AllocError>
+    ensures { IfOk result (λ ids. ids.items ≡ named_live streams.now request.now) }
+{
+    if request.names_all() {
+        streams.ids(alloc)
+    } else {
+        live_among(alloc, streams, request.ids())
+    }
+}
+
+// Those of a set that are live, ascending.
+fn live_among(
+    alloc: Global,
+    streams: &Streams,
+    ids: &BTreeSet<StreamId>,
+) -> Result<Vec<StreamId>, AllocError>
+    ensures { IfOk result (λ live. live.items ≡ filter (λ id. is_some (stream_at streams.now id)) ids.now.keys) }
+{
+    ids.iter()
+        .copied()
+        .filter(|id| streams.contains(*id))
+        .collect(alloc)
+}
+
+// Ends the newest generations of the live streams that a request names; answers those of which one ended, ascending.
+pub(crate) fn retire_each(
+    alloc: Global,
+    generations: &mut Generations,
+    debts: &mut Debts,
+    streams: &mut Streams,
+    events: &mut Events,
+    request: &PeerRequest,
+) -> Result<Vec<StreamId>, AllocError>
+    ensures { IfOk result (λ ids.
+        retired_each request.now (performing generations.old debts.old streams.old events.old)
+        ≡ (performing generations.new debts.new streams.new events.new, ids.items)) }
+{
+    let mut retired = Vec::new(alloc);
+    let last_tsn = request.last_tsn();
+    for id in named_live(alloc, streams, request)? {
+        if retire(generations, debts, streams, events, id, last_tsn)? {
+            retired.push(id)?;
+        }
+    }
+    Ok(retired)
+}
