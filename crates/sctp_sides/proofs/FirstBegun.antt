@@ -365,6 +365,7 @@ act_orderly (Act.PeerKnown t) p h = h
 act_orderly (Act.Opened id first kind) p h = h
 act_orderly (Act.Wrote id named bytes) p h = written_orderly (stream_at p.streams id) p id named bytes h
 act_orderly (Act.Adjusted id setting) p h = h
+act_orderly (Act.SpanEnded id m) p h = h
 act_orderly (Act.Sent now) p h = sent_orderly p.queue.pending p.queue now refl h
 act_orderly (Act.SentAgain by index) p h =
     again_orderly by (slice_get p.queue.in_flight index) p.queue index refl h
@@ -378,6 +379,7 @@ act_orderly (Act.Dropped k) p h = dropped_orderly k (slice_get p.queue.pending k
 act_orderly (Act.Started now) p h = started_orderly now p.queue h
 act_orderly Act.Forwarded p h = h
 act_orderly (Act.Took piece) p h = h
+act_orderly (Act.Deferred piece) p h = h
 act_orderly (Act.PassedOver t skipped) p h = h
 act_orderly Act.Reported p h = h
 act_orderly (Act.WasRead id) p h = h

@@ -193,6 +193,7 @@ module _ (under : Bool) (n o t : ℕ) (small : n < 2 ^ 32 - 1) where
       same_stands p (done (Act.Opened id first kind) p) refl refl h
   act_stands (Act.Wrote id named bytes) p can spares h = written_stands (stream_at p.streams id) p id named bytes h
   act_stands (Act.Adjusted id setting) p can spares h = same_stands p (done (Act.Adjusted id setting) p) refl refl h
+  act_stands (Act.SpanEnded id m) p can spares h = same_stands p (done (Act.SpanEnded id m) p) refl refl h
   act_stands (Act.Sent now) p can spares h = sent_stands p.queue.pending now p can h
   act_stands (Act.SentAgain by index) p can spares h =
       again_stands (slice_get p.queue.in_flight index) by index p refl spares h
@@ -211,6 +212,7 @@ module _ (under : Bool) (n o t : ℕ) (small : n < 2 ^ 32 - 1) where
       same_stands p (done (Act.Started now) p) refl (alike (sent_started now) (λ x. refl) p.queue.in_flight) h
   act_stands Act.Forwarded p can spares h = same_stands p p refl refl h
   act_stands (Act.Took piece) p can spares h = same_stands p (done (Act.Took piece) p) refl refl h
+  act_stands (Act.Deferred piece) p can spares h = same_stands p (done (Act.Deferred piece) p) refl refl h
   act_stands (Act.PassedOver tsn skipped) p can spares h =
       same_stands p (done (Act.PassedOver tsn skipped) p) refl refl h
   act_stands Act.Reported p can spares h = same_stands p p refl refl h
