@@ -34,6 +34,7 @@ use Rattle.sctp_pair.specs.declared.step.Reply.{Reply}
 use Rattle.sctp_pair.specs.declared.step.Reply.TheVariants as replies
 use Rattle.sctp_pair.specs.Fits.{AreSaid, IsSaidBy}
 use Rattle.sctp_pair.specs.Steps.{Fails, GivesOut, HadFailed, LosesSome, packet_in}
+use Rattle.sctp_pair.proofs.SaidStaysSaid.{forward_stays_said}
 use Rattle.sctp_pair.proofs.BetweenDirections.{ClosedAt, Faces, Goes, Holds, None_brought, OpenAt, SettlesQuietly}
 use Rattle.sctp_pair.proofs.BetweenDirections.{StandsAt, Surroundings, does_by_goes, goes_on, moved}
 use Rattle.sctp_pair.proofs.ForwardsMade.{few_for_a_forward, new_data_says_the_same, with_queue}
@@ -197,7 +198,12 @@ module _ {x : Surroundings} {a b : Shown} {packets : List (List ℕ)} (f : Faces
       ap (λ (q : Outbound). forward_of (with_queue q b.sender)) queue_is ∙ same.chunk b.sender in
       let forwarded : forwards ≡ true → IsForwardMade x.own new.out2 (forward_of b.sender) =
       λ e. subst (IsForwardMade x.own new.out2) (sym chunk_is)
-      (let m = made.said e in (m.0, m.1, new.goes.forwards m.0 m.1 m.2, m.3)) in
+      (let m = made.said e in (
+        m.0,
+        m.1,
+        new.goes.forwards m.0 m.1 m.2,
+        forward_stays_said x.own (forward_of sender) m.1 new.goes.spans m.3,
+      )) in
       let stands : OpenAt now b = record {
         past = h;
         own_is = s.own_is;
