@@ -3,7 +3,7 @@ ghost use Rattle.std.specs.Prelude.{◌≡◌, ◌+◌, ◌-◌, ◌^◌, ◌<�
 ghost use Rattle.sctp_receive_queues.specs.Pieces.{bytes_of, index_of, last_of};
 ghost use Rattle.sctp_generations.specs.Deferred.{is_up_to, is_of, is_before, place_of, deferred_with, is_between};
 ghost use Rattle.sctp_generations.specs.Deferred.{has_between, is_due, released, still_deferred, without_stream};
-ghost use Rattle.std.specs.Prelude.{OnOk, OnErr, IfOk, IfSome, position, not, filter};
+ghost use Rattle.std.specs.Prelude.{◌==◌, OnOk, OnErr, IfOk, IfSome, position, not, filter};
 ghost use Rattle.sctp_generations.specs.Kept.{kept_of};
 ghost use Rattle.sctp_generations.specs.Refusals.{refusal_in};
 ghost use Rattle.sctp_serial.specs.Serial.{tsn_lt};
@@ -131,6 +131,12 @@ impl Deferred {
         let chunks = copies_of(alloc, &self.chunks, kept)?;
         let bytes = add_bytes(&chunks);
         Ok(Deferred { chunks, bytes })
+    }
+
+    pub(crate) fn is_empty(&self) -> bool
+        ensures { result ≡ (length self.now == 0) }
+    {
+        self.chunks.is_empty()
     }
 
     // Drops all DATA of a stream.

@@ -1,5 +1,5 @@
 // What is kept of the generations of streams beside the live ones.
-ghost use Rattle.std.specs.Prelude.{◌≡◌, OnOk, OnErr, IfOk};
+ghost use Rattle.std.specs.Prelude.{◌≡◌, OnOk, OnErr, IfOk, length, nat_lt, true};
 ghost use Rattle.sctp_receive_queues.specs.Pieces.{bytes_of};
 ghost use Rattle.sctp_generations.specs.Generations.{no_generations, retires, is_hidden, with_deferred, with_skip};
 ghost use Rattle.sctp_generations.specs.Generations.{retirement_of, retired, without_newest, drained, readable_end};
@@ -200,7 +200,11 @@ impl Generations {
     pub fn skip_unordered(&mut self, tsn: u32) -> Result<(), AllocError>
         ensures ok { OnOk result (self.new ≡ unordered_skipped self.old tsn) }
         ensures err { OnErr result (self.new ≡ self.old) }
+        ensures grows { OnErr result (nat_lt 0 (length self.old.deferred) ≡ true) }
     {
+        if self.deferred.is_empty() {
+            return Ok(());
+        }
         let kept = Kept::UnskippedUnordered(tsn);
         self.deferred = self.deferred.kept(self.alloc, kept)?;
         Ok(())

@@ -2,4 +2,5 @@ mod Walks
 mod Sets
 mod Counted
 mod HeldBack
+mod NothingAsked
 mod Repeats

@@ -1,5 +1,5 @@
 // This side's requests to reset its outgoing streams (RFC 6525 section 5.1).
-ghost use Rattle.std.specs.Prelude.{◌≡◌, IfOk, OnOk, OnErr, not, filter, is_some, length};
+ghost use Rattle.std.specs.Prelude.{◌≡◌, IfOk, OnOk, OnErr, not, filter, is_some, length, nat_lt, true};
 ghost use Rattle.sctp_outbound_queue.specs.Outbound.{has_stream};
 ghost use Rattle.sctp_reset_requests.specs.Ids.{without};
 ghost use Rattle.sctp_reset_requests.specs.Own.{no_own_request, is_asked_for, with_waiting, with_request};
@@ -144,7 +144,12 @@ impl OwnRequests {
     ) -> Result<bool, AllocError>
         ensures ok { IfOk result (λ made. asked self.old queue.now peer.now ≡ (self.new, made)) }
         ensures err { OnErr result (self.new ≡ self.old) }
+        ensures grows { OnErr result (nat_lt 0 (length self.old.waiting) ≡ true) }
+        ensures made { IfOk result (λ made. made ≡ true → nat_lt 0 (length self.old.waiting) ≡ true) }
     {
+        if self.waiting.is_empty() {
+            return Ok(false);
+        }
         if self.has_active() || self.queued_len() > 0 {
             return Ok(false);
         }
@@ -221,6 +226,7 @@ impl OwnRequests {
         ensures ok { IfOk result (λ sent. repeated self.old ≡ (self.new, sent)) }
         ensures room { IfOk result HasRoom }
         ensures err { OnErr result (self.new ≡ self.old) }
+        ensures grows { OnErr result (is_some self.old.active ≡ true) }
     {
         let param = self.param_again(alloc)?;
         self.set_repeat(false);
@@ -230,6 +236,7 @@ impl OwnRequests {
     fn param_again(&self, alloc: Global) -> Result<Option<ParamOutgoingResetRequest>, AllocError>
         ensures again { IfOk result (λ param. param ≡ param_again self.now.active) }
         ensures room { IfOk result HasRoom }
+        ensures grows { OnErr result (is_some self.now.active ≡ true) }
     {
         match &self.active {
             Some(active) if active.repeat_due => {

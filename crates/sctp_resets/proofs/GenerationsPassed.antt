@@ -1,5 +1,7 @@
 -- One generation of a stream after the other is over.
 use Rattle.std.proofs.Common.{◌≡◌, refl, ap, ℕ, zero, suc, Bool, true, false, ◌-◌, ◌<◌, ◌≤◌, Option, arith}
+use Rattle.std.proofs.Common.{List, None, Some, is_some}
+use Rattle.sctp_generations.specs.Retiring.{count_of}
 use Rattle.sctp_resets.specs.Draining.{Reading, passed_once, passed_times}
 
 -- The messages of a stream that is made have the first identifier or a greater one, and are no longer than the limit;
@@ -25,3 +27,8 @@ module _ (first limit id : ℕ) (in_progress : Option ℕ) where
   pub none_is_left : (n : ℕ) (r : Reading) → n ≤ 0 → passed_times n first limit id in_progress r ≡ r
   none_is_left zero r none = refl
   none_is_left (suc n) r none = absurd (omega arith)
+
+-- a stream of which a generation ended that is not drained retires
+pub retires_where_counted : (o : Option (List ℕ)) → 0 < count_of o → is_some o ≡ true
+retires_where_counted None some = absurd (omega arith)
+retires_where_counted (Some boundaries) some = refl

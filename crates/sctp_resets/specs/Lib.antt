@@ -5,3 +5,4 @@ pub mod Performing
 pub mod Answers
 pub mod Telling
 pub mod Resets
+pub mod Concerned

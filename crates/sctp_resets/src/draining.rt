@@ -1,5 +1,6 @@
 // A generation that ended is over once all of it was read, and the one behind it is read (RFC 6525 section 5.2.2).
-ghost use Rattle.std.specs.Prelude.{◌≡◌, IfOk, OnOk};
+ghost use Rattle.std.specs.Prelude.{◌≡◌, IfOk, OnErr, OnOk, true};
+ghost use Rattle.sctp_generations.specs.Generations.{retires};
 ghost use Rattle.sctp_resets.specs.Channels.{channels};
 ghost use Rattle.sctp_resets.specs.Draining.{drained_out, next_generation_read, passed_once, with_write_half};
 
@@ -99,9 +100,10 @@ pub(crate) fn drain(
     id: StreamId,
     in_progress: Option<u32>,
 ) -> Result<(), AllocError>
-    ensures { OnOk result ((generations.new, channels streams.new events.new to_accept.new.items)
+    ensures exact { OnOk result ((generations.new, channels streams.new events.new to_accept.new.items)
         ≡ drained_out first_message_id limit id in_progress
         (generations.old, channels streams.old events.old to_accept.old.items)) }
+    ensures grows { OnErr result (retires generations.old id ≡ true) }
 {
     let mut left = generations.count(id);
     while left > 0 {

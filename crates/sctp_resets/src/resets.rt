@@ -1,7 +1,9 @@
 // The resets of an association.
-ghost use Rattle.std.specs.Prelude.{◌≡◌, OnOk, OnErr, IfOk, is_some};
+ghost use Rattle.std.specs.Prelude.{◌≡◌, true, OnOk, OnErr, IfOk, is_some, length, nat_lt};
 ghost use Rattle.sctp_receive_queues.specs.Pieces.{bytes_of};
+ghost use Rattle.sctp_generations.specs.Generations.{has_skips};
 ghost use Rattle.sctp_reset_requests.specs.Own.{HasRoom};
+ghost use Rattle.sctp_reset_requests.specs.Peer.{is_one_due};
 ghost use Rattle.sctp_resets.specs.Channels.{channels};
 ghost use Rattle.sctp_resets.specs.Resets.{no_resets, met_peer, is_blocked, is_retiring, is_hidden, refusal_of};
 ghost use Rattle.sctp_resets.specs.Resets.{with_deferred, with_skip, without_unordered, waiting_for, skips_done};
@@ -129,6 +131,7 @@ impl Resets {
     pub fn skip_unordered(&mut self, tsn: u32) -> Result<(), AllocError>
         ensures ok { OnOk result (self.new ≡ without_unordered self.old tsn) }
         ensures err { OnErr result (self.new ≡ self.old) }
+        ensures grows { OnErr result (nat_lt 0 (length self.old.generations.deferred) ≡ true) }
     {
         self.generations.skip_unordered(tsn)
     }
@@ -140,8 +143,9 @@ impl Resets {
         streams: &mut Streams,
         events: &mut Events,
     ) -> Result<(), AllocError>
-        ensures { OnOk result ((self.new, streams.new, events.new)
+        ensures exact { OnOk result ((self.new, streams.new, events.new)
             ≡ skips_done_of id self.old streams.old events.old) }
+        ensures grows { OnErr result (has_skips self.old.generations ≡ true) }
     {
         apply_skips_of(&mut self.generations, streams, events, id)
     }
@@ -152,7 +156,8 @@ impl Resets {
         streams: &mut Streams,
         events: &mut Events,
     ) -> Result<(), AllocError>
-        ensures { OnOk result ((self.new, streams.new, events.new) ≡ skips_done self.old streams.old events.old) }
+        ensures exact { OnOk result ((self.new, streams.new, events.new) ≡ skips_done self.old streams.old events.old) }
+        ensures grows { OnErr result (has_skips self.old.generations ≡ true) }
     {
         apply_skips(&mut self.generations, streams, events, self.alloc)
     }
@@ -209,10 +214,11 @@ impl Resets {
         first_message_id: u64,
         limit: u32,
     ) -> Result<Option<Settled>, AllocError>
-        ensures { IfOk result (λ answer.
+        ensures exact { IfOk result (λ answer.
             settled peer_last_tsn first_message_id limit self.old
             (channels streams.old events.old to_accept.old.items)
             ≡ ((self.new, channels streams.new events.new to_accept.new.items), answer)) }
+        ensures grows { OnErr result (is_one_due self.old.peer.in_progress peer_last_tsn ≡ true) }
     {
         let Some(request) = self.peer.advance(peer_last_tsn) else {
             return Ok(None);
@@ -322,7 +328,8 @@ impl Resets {
 
     /// The timer of the active request expired too often: its resets failed, which is told.
     pub fn give_up(&mut self, streams: &mut Streams, events: &mut Events) -> Result<(), AllocError>
-        ensures { OnOk result ((self.new, streams.new, events.new) ≡ given_up self.old streams.old events.old) }
+        ensures exact { OnOk result ((self.new, streams.new, events.new) ≡ given_up self.old streams.old events.old) }
+        ensures grows { OnErr result (is_some self.old.own.active ≡ true) }
     {
         let Some(request) = self.own.end() else {
             return Ok(());
@@ -348,6 +355,7 @@ impl Resets {
     pub fn repeat(&mut self) -> Result<Option<ParamOutgoingResetRequest>, AllocError>
         ensures again { IfOk result (λ param. request_again self.old ≡ (self.new, param)) }
         ensures room { IfOk result HasRoom }
+        ensures grows { OnErr result (is_some self.old.own.active ≡ true) }
     {
         self.own.repeat(self.alloc)
     }
@@ -355,7 +363,9 @@ impl Resets {
     /// Makes a request for the streams that are to be reset and of which no DATA waits or is unacknowledged, where no
     /// request is open; answers whether it made one.
     pub fn ask(&mut self, queue: &OutboundQueue) -> Result<bool, AllocError>
-        ensures { IfOk result (λ made. request_asked self.old queue.now ≡ (self.new, made)) }
+        ensures exact { IfOk result (λ made. request_asked self.old queue.now ≡ (self.new, made)) }
+        ensures grows { OnErr result (nat_lt 0 (length self.old.own.waiting) ≡ true) }
+        ensures made { IfOk result (λ made. made ≡ true → nat_lt 0 (length self.old.own.waiting) ≡ true) }
     {
         let made = self.own.ask(self.alloc, queue, &self.peer)?;
         Ok(made)
@@ -399,9 +409,10 @@ impl Resets {
         first_message_id: u64,
         limit: u32,
     ) -> Result<(), AllocError>
-        ensures { OnOk result ((self.new, channels streams.new events.new to_accept.new.items)
+        ensures exact { OnOk result ((self.new, channels streams.new events.new to_accept.new.items)
             ≡ read_out first_message_id limit id self.old
             (channels streams.old events.old to_accept.old.items)) }
+        ensures grows { OnErr result (is_retiring self.old id ≡ true) }
     {
         let in_progress = self.peer.boundary_of(id);
         drain(

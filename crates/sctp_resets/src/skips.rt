@@ -1,5 +1,6 @@
 // Skips of FORWARD TSN that were kept, applied to the streams that they are of (RFC 3758 section 3.6).
-ghost use Rattle.std.specs.Prelude.{◌≡◌, OnOk, IfOk, fold};
+ghost use Rattle.std.specs.Prelude.{◌≡◌, OnErr, OnOk, IfOk, fold, true};
+ghost use Rattle.sctp_generations.specs.Generations.{has_skips};
 ghost use Rattle.sctp_resets.specs.Skips.{skip_applied, reaches_its_ssn, skip_tried, skips_applied_of, skips_applied};
 
 use sctp_generations::{Generations, KeptSkip};
@@ -46,8 +47,9 @@ pub(crate) fn apply_skips_of(
     events: &mut Events,
     id: StreamId,
 ) -> Result<(), AllocError>
-    ensures { OnOk result ((generations.new, streams.new, events.new)
+    ensures exact { OnOk result ((generations.new, streams.new, events.new)
         ≡ skips_applied_of (generations.old, streams.old, events.old) id) }
+    ensures grows { OnErr result (has_skips generations.old ≡ true) }
 {
     if !generations.has_skips() || !streams.contains(id) {
         return Ok(());
@@ -63,8 +65,9 @@ pub(crate) fn apply_skips(
     events: &mut Events,
     alloc: Global,
 ) -> Result<(), AllocError>
-    ensures { OnOk result ((generations.new, streams.new, events.new)
+    ensures exact { OnOk result ((generations.new, streams.new, events.new)
         ≡ skips_applied (generations.old, streams.old, events.old)) }
+    ensures grows { OnErr result (has_skips generations.old ≡ true) }
 {
     if !generations.has_skips() {
         return Ok(());
