@@ -243,7 +243,7 @@ only_settings_loosen (Act.Adjusted id setting) p s others kept =
     (setting_leaves setting id s others) kept
 only_settings_loosen (Act.Sent now) p s others kept = kept
 only_settings_loosen (Act.SentAgain by index) p s others kept = kept
-only_settings_loosen (Act.SpanEnded id m) p s others kept = kept_otherwise m s others
+only_settings_loosen (Act.SpansEnded ids m) p s others kept = kept_otherwise m s others
 only_settings_loosen Act.Marked p s others kept = kept
 only_settings_loosen (Act.Acknowledged n blocks missing) p s others kept =
     kept_acknowledged (is_acknowledged_by n blocks) 0 p.queue.in_flight p.streams s kept

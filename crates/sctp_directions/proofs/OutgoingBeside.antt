@@ -142,7 +142,7 @@ what_comes_leaves_its_own (Act.Acknowledged n blocks missing) p w coming f = abs
 what_comes_leaves_its_own (Act.Took piece) p w coming f =
     took_at (stream_at p.streams piece.stream_identifier) (sending p) piece w refl f
 what_comes_leaves_its_own (Act.Deferred piece) p w coming f = f
-what_comes_leaves_its_own (Act.SpanEnded id m) p w coming f = absurd coming
+what_comes_leaves_its_own (Act.SpansEnded ids m) p w coming f = absurd coming
 what_comes_leaves_its_own (Act.Abandoned index) p w coming f = absurd coming
 what_comes_leaves_its_own Act.TailAbandoned p w coming f = absurd coming
 what_comes_leaves_its_own (Act.Dropped k) p w coming f = absurd coming

@@ -86,8 +86,8 @@ pub data Act : Type 0 where
   Wrote : ℕ → Option PayloadProtocolIdentifier → List ℕ → Act
   -- the application set this on a stream
   Adjusted : ℕ → Setting → Act
-  -- the span of a stream ended, and the live streams are these
-  SpanEnded : ℕ → StreamMap → Act
+  -- the spans of these streams ended, and the live streams are these
+  SpansEnded : List ℕ → StreamMap → Act
   -- the next piece that waits got the next offset and went out, at this moment
   Sent : ℕ → Act
   -- the piece in flight that is so many offsets past the first one went out again, for a reason
@@ -218,7 +218,7 @@ done (PeerKnown t) p = record p { history = with_peer p.history t }
 done (Opened id first kind) p = record p { streams = made p.streams id first kind }
 done (Wrote id named bytes) p = with_written (stream_at p.streams id) p id named bytes
 done (Adjusted id setting) p = record p { streams = changed_stream (λ s. with_setting s setting) p.streams id }
-done (SpanEnded id m) p = record p { streams = m }
+done (SpansEnded ids m) p = record p { streams = m }
 done (Sent now) p = record p { queue = sent_next p.queue now }
 done (SentAgain by index) p = record p { queue = changed_at (counted_again by) p.queue index }
 done Marked p = record p { queue = all_marked p.queue }
@@ -279,7 +279,7 @@ pub record IsAhead (h : History) (t : ℕ) : Type 0 where
 
 -- an act can be done where the parts stand so
 abbrev pub Can : Act → Parts → Type 0
-Can (SpanEnded id m) p = (t : ℕ) → (t == id) ≡ false → stream_at m t ≡ stream_at p.streams t
+Can (SpansEnded ids m) p = (t : ℕ) → mem t ids ≡ false → stream_at m t ≡ stream_at p.streams t
 Can (Sent now) p = is_some (slice_get p.queue.pending 0) ≡ true
 Can (SentAgain by index) p = can_go_again (slice_get p.queue.in_flight index) ≡ true
 Can (Acknowledged n blocks missing) p = n ≤ length p.queue.in_flight
@@ -351,5 +351,5 @@ IsKeptInOrder m s = (t : StreamView) → stream_at m s ≡ Some t → t.params �
 -- that moment this one sends other messages than ordered, reliable ones
 abbrev pub SetsReliability : Act → ℕ → Type 0
 SetsReliability (Adjusted id (settings.Reliability params)) s = id ≡ s
-SetsReliability (SpanEnded id m) s = IsKeptInOrder m s → ⊥
+SetsReliability (SpansEnded ids m) s = IsKeptInOrder m s → ⊥
 SetsReliability act s = ⊥

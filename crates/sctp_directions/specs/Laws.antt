@@ -99,11 +99,16 @@ ItsDropsAreAlike = (p : Parts) (k : ℕ) (w : Direction) → Can (Act.Dropped k)
     → FitsOutgoing (sending p) w
     → (s : ℕ) × (i : ℕ) × FitsOutgoing (sending (done (Act.Dropped k) p)) (happens w (Event.Drop s i))
 
--- The span of a stream ends: so it does at the direction's sender, whatever becomes of the stream.
+-- the spans of these streams end in a direction, one after another
+abbrev pub spans_ended : List ℕ → Direction → Direction
+spans_ended [] w = w
+spans_ended (id ∷ ids) w = spans_ended ids (happens w (Event.End id))
+
+-- The spans of streams end: so they do at the direction's sender, whatever becomes of the streams.
 abbrev pub ItsSpansEnd : Type 0
-ItsSpansEnd = (p : Parts) (id : ℕ) (m : StreamMap) (w : Direction) → Can (Act.SpanEnded id m) p
+ItsSpansEnd = (p : Parts) (ids : List ℕ) (m : StreamMap) (w : Direction) → Can (Act.SpansEnded ids m) p
     → FitsOutgoing (sending p) w
-    → FitsOutgoing (sending (done (Act.SpanEnded id m) p)) (happens w (Event.End id))
+    → FitsOutgoing (sending (done (Act.SpansEnded ids m) p)) (spans_ended ids w)
 
 -- Of the time that a message has the direction knows nothing.
 abbrev pub ItsStartsAreNoEvents : Type 0
@@ -151,11 +156,11 @@ WhatItDefersComes = (p : Parts) (piece : ChunkPayloadData) (k : ℕ) (d : Data) 
     → (d.offset ≡ offset_in p.history piece.tsn)
     × FitsIncoming (receiving (done (Act.Deferred piece) p)) (happens w (Event.DataComes k))
 
--- The span of a stream ends: so it does at the direction's receiver, whatever becomes of the stream.
+-- The spans of streams end: so they do at the direction's receiver, whatever becomes of the streams.
 abbrev pub SpansOfWhatComesEnd : Type 0
-SpansOfWhatComesEnd = (p : Parts) (id : ℕ) (m : StreamMap) (w : Direction) → Can (Act.SpanEnded id m) p
+SpansOfWhatComesEnd = (p : Parts) (ids : List ℕ) (m : StreamMap) (w : Direction) → Can (Act.SpansEnded ids m) p
     → FitsIncoming (receiving p) w
-    → FitsIncoming (receiving (done (Act.SpanEnded id m) p)) (happens w (Event.End id))
+    → FitsIncoming (receiving (done (Act.SpansEnded ids m) p)) (spans_ended ids w)
 
 -- A FORWARD TSN that lies ahead passes over all up to the offset that its new cumulative TSN spells, and comes to the
 -- direction's receiver.

@@ -5,18 +5,19 @@ use Rattle.sctp_model.specs.Messages.{Plan}
 use Rattle.sctp_model.specs.Machine.{happens, is_unsent, put}
 use Rattle.sctp_fit.specs.Incoming.{IsQueueAt}
 use Rattle.sctp_fit.specs.Outgoing.{IsOwnAt, Names}
-use Rattle.sctp_fit.specs.Spans.{SpansEnd, SpansEndWhereItComes}
+use Rattle.sctp_fit.specs.Spans.{SpansEnd, SpansEndWhereItComes, StreamsPastTheirSpanChange}
+use Rattle.sctp_fit.specs.Spans.{StreamsPastTheirSpanChangeWhereItComes}
 use Rattle.sctp_fit.proofs.NamesKept.{KeepsMessages, all_waiting_kept, flight_kept}
 
 -- where the test still fails, it failed before, and of another stream
 module _ (over : ℕ → Bool) (s t : ℕ) (e : put over s true t ≡ false) where
-  another : eqb t s ≡ false
+  pub another : eqb t s ≡ false
   another = ⊎_elim
       (λ (b : eqb t s ≡ true). absurd (true≢false (sym (cond-true (eqb t s) true (over t) b) ∙ e)))
       (λ (b : eqb t s ≡ false). b)
       (cases_Bool (eqb t s))
 
-  before : over t ≡ false
+  pub before : over t ≡ false
   before = sym (cond-false (eqb t s) true (over t) another) ∙ e
 
 -- What is sent
@@ -70,6 +71,23 @@ spans_end a w s m same f = record {
       (f.own_streams t (before w.over s t v));
 }
 
+-- streams past their span are not spoken of
+pub streams_past_their_span_change : StreamsPastTheirSpanChange
+streams_past_their_span_change a w m same f = record {
+  named = f.named;
+  within = f.within;
+  names = record { below = f.names.below; one = f.names.one };
+  size = f.size;
+  base = f.base;
+  flight = f.flight;
+  waiting = f.waiting;
+  live = λ t u v there.
+      let r = f.live t u v (sym (same t v) ∙ there) in
+      record { generation = r.generation; ssn = r.ssn };
+  own_streams = λ t v.
+      subst (IsOwnAt w.sender.plan (w.sender.released t) t) (sym (same t v)) (f.own_streams t v);
+}
+
 -- What comes
 
 pub spans_end_where_it_comes : SpansEndWhereItComes
@@ -81,4 +99,13 @@ spans_end_where_it_comes a w s m same f = record {
   queues = λ t v.
       subst (λ o. IsQueueAt a.peer w.sender.plan t o (w.receiver.queues t)) (sym (same t (another w.over s t v)))
       (f.queues t (before w.over s t v));
+}
+
+pub streams_past_their_span_change_where_it_comes : StreamsPastTheirSpanChangeWhereItComes
+streams_past_their_span_change_where_it_comes a w m same f = record {
+  is_open = f.is_open;
+  taken = f.taken;
+  passed = f.passed;
+  queues = λ t v.
+      subst (λ o. IsQueueAt a.peer w.sender.plan t o (w.receiver.queues t)) (sym (same t v)) (f.queues t v);
 }

@@ -16,3 +16,15 @@ abbrev pub SpansEndWhereItComes : Type 0
 SpansEndWhereItComes = (a : Receiving) (w : Direction) (s : ℕ) (m : StreamMap)
     → ((t : ℕ) → (t == s) ≡ false → stream_at m t ≡ stream_at a.streams t) → FitsIncoming a w
     → FitsIncoming (record a { streams = m }) (happens w (Event.End s))
+
+-- What is past its span may become anything, at the sender of a direction
+abbrev pub StreamsPastTheirSpanChange : Type 0
+StreamsPastTheirSpanChange = (a : Sending) (w : Direction) (m : StreamMap)
+    → ((t : ℕ) → w.over t ≡ false → stream_at m t ≡ stream_at a.streams t) → FitsOutgoing a w
+    → FitsOutgoing (record a { streams = m }) w
+
+-- and at the receiver.
+abbrev pub StreamsPastTheirSpanChangeWhereItComes : Type 0
+StreamsPastTheirSpanChangeWhereItComes = (a : Receiving) (w : Direction) (m : StreamMap)
+    → ((t : ℕ) → w.over t ≡ false → stream_at m t ≡ stream_at a.streams t) → FitsIncoming a w
+    → FitsIncoming (record a { streams = m }) w
