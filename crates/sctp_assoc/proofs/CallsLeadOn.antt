@@ -1,10 +1,10 @@
 -- What each call does to the two directions is what its acts say.
 use Rattle.std.proofs.Common.{◌≡◌, refl, sym, ap, ◌∙◌, subst, ℕ, ◌<◌, ◌≤◌, ◌+◌, ◌-◌, ◌%◌, ◌^◌, arith}
-use Rattle.std.proofs.Common.{Bool, true, false, ◌&&◌, List, [], ◌∷◌, ◌++◌, length, if◌then◌else◌, nat_lt}
-use Rattle.std.proofs.Common.{Option, Some, None, Result, Ok, Err, is_some}
+use Rattle.std.proofs.Common.{Bool, true, false, List, [], ◌∷◌, length, if◌then◌else◌, nat_lt}
+use Rattle.std.proofs.Common.{Option, Some, None, Result, Ok, Err}
 use Rattle.std.proofs.lemmas.Bool.{false≢true, ltb-false}
+use Rattle.std.proofs.lemmas.List.{append-nil}
 use Rattle.sctp_serial.specs.Serial.{tsn_gt, tsn}
-use Rattle.sctp_wire_types.specs.declared.chunk.ChunkPayloadData.{ChunkPayloadData}
 use Rattle.sctp_wire_types.specs.declared.chunk.Chunk.{Chunk}
 use Rattle.sctp_wire_types.specs.declared.chunk.Chunk.TheVariants as chunks
 use Rattle.sctp_wire_types.specs.declared.chunk.ChunkHeartbeat.{ChunkHeartbeat}
@@ -14,26 +14,23 @@ use Rattle.sctp_wire_types.specs.declared.error.Error.{Error}
 use Rattle.sctp_wire_types.specs.declared.error.Error.TheVariants as errors
 use Rattle.sctp_wire_types.specs.Checks.{checked_chunk}
 use Rattle.sctp_wire.specs.declared.packet.Packet.{Packet}
-use Rattle.sctp_wire_types.specs.declared.ids.PayloadProtocolIdentifier.TheVariants as kinds
 use Rattle.sctp_parts.specs.declared.timer.Timer.TheVariants as names
 use Rattle.sctp_parts.specs.Estimate.{Estimate}
-use Rattle.sctp_parts.specs.Timers.{expiry_of}
+use Rattle.sctp_parts.specs.Timers.{expiry_of, with_stopped}
 use Rattle.sctp_wire_types.specs.declared.ids.PayloadProtocolIdentifier.{PayloadProtocolIdentifier}
-use Rattle.sctp_receive_queues.specs.Messages.{ReceivedMessage}
 use Rattle.sctp_streams.specs.declared.event.Event.{Event}
 use Rattle.sctp_streams.specs.declared.setting.Setting.{Setting}
 use Rattle.sctp_streams.specs.Stream.{StreamView}
-use Rattle.sctp_streams.specs.declared.event.AssociationError.{AssociationError}
 use Rattle.sctp_streams.specs.declared.event.AssociationError.TheVariants as reasons
-use Rattle.sctp_streams.specs.Streams.{StreamMap, bytes_waiting, generation_left, is_readable_in, pushed_in, read_in}
-use Rattle.sctp_streams.specs.Streams.{refusal_in, stream_at}
+use Rattle.sctp_streams.specs.Streams.{StreamMap}
+use Rattle.sctp_streams.specs.Streams.{stream_at}
 use Rattle.sctp_inbound.specs.declared.receiver.AckTrigger.{AckTrigger}
 use Rattle.sctp_inbound.specs.declared.receiver.AckTrigger.TheVariants as triggers
 use Rattle.sctp_inbound.specs.declared.receiver.Receiver.{Receiver}
 use Rattle.sctp_inbound.specs.declared.handshake.Offer.{Offer}
 use Rattle.sctp_inbound.specs.Greeting.{first_cookie, information_of}
 use Rattle.sctp_inbound.specs.Handshake.{comes_back, has_issued}
-use Rattle.sctp_inbound.specs.Receiver.{admits, is_new_to, past_of, taken_to}
+use Rattle.sctp_inbound.specs.Receiver.{past_of}
 use Rattle.sctp_outbound_queue.specs.Outbound.{Outbound, outstanding_of}
 use Rattle.sctp_wire_types.specs.declared.chunk.GapAckBlock.{GapAckBlock}
 use Rattle.sctp_outbound.specs.Sacks.{all_acknowledged, before_acknowledging, progress_of, reports_of, sack_taken}
@@ -45,31 +42,34 @@ use Rattle.sctp_outbound.specs.declared.sender.SackOutcome.TheVariants as outcom
 use Rattle.sctp_outbound.specs.Sender.{cumulative_tsn_ack_point_of, tsns_up_to, sack_outcome}
 use Rattle.sctp_assoc.specs.declared.inbound.Flow.{Flow}
 use Rattle.sctp_assoc.specs.declared.inbound.Flow.TheVariants as flows
-use Rattle.sctp_directions.specs.Acts.{Act, CanAll, History, Parts, done, done_all}
-use Rattle.sctp_assoc.specs.Leads.{Binds, Leads, IsSamePast, LeadsOn, parts}
+use Rattle.sctp_directions.specs.Acts.{Act, History, Parts, done}
+use Rattle.sctp_assoc.specs.Leads.{Binds, Leads, LeadsOn, parts}
 use Rattle.sctp_assoc.specs.Memory.{is_taken}
 use Rattle.sctp_directions.specs.Acts.{with_acknowledged as with_all}
-use Rattle.sctp_directions.specs.Acts.{with_reports, offset_in, with_peer, with_taken, with_written}
+use Rattle.sctp_directions.specs.Acts.{with_reports, with_peer, with_written}
+use Rattle.sctp_wire_types.specs.declared.event.StreamResetError.TheVariants as failures
+use Rattle.sctp_reset_requests.specs.declared.own_request.OwnRequest.{OwnRequest}
+use Rattle.sctp_reset_requests.specs.Debts.{DebtsView}
+use Rattle.sctp_reset_requests.specs.Own as own_requests
+use Rattle.sctp_reset_requests.specs.Own.{OwnView}
+use Rattle.sctp_resets.specs.Answers.{Answering, answering, failed_each, with_told}
+use Rattle.sctp_resets.specs.Resets.{Beside, ResetsView, event_told, given_up, given_up_where}
+use Rattle.sctp_assoc.specs.Resets.{after_reconfig_timer, asks_again, gives_up, reconfig_expired, with_beside}
 use Rattle.sctp_assoc.specs.Calls.{accepted_from, accepted_stream, adjusted, after_ack_delay, after_t3, event_from}
 use Rattle.sctp_assoc.specs.Calls.{event_polled, opened}
 use Rattle.sctp_assoc.specs.Calls.{with_max_send_message_size}
-use Rattle.sctp_assoc.specs.Chunks.{asks}
-use Rattle.sctp_inbound.specs.Receiver.{asked}
-use Rattle.sctp_streams.specs.Streams.{StreamMap, read_in}
-use Rattle.sctp_assoc.specs.Happened.{acts_of_read}
-use Rattle.sctp_assoc.specs.Calls.{after_read}
-use Rattle.sctp_assoc.specs.Closing.{closed_by, closed_open, exhausted, is_exhausted}
-use Rattle.sctp_assoc.specs.Calls.{read_from_stream, retransmits, t3_expired, written, written_at, is_beginning}
+use Rattle.sctp_assoc.specs.Closing.{closed_by}
+use Rattle.sctp_assoc.specs.Calls.{retransmits, t3_expired, written, written_at, is_beginning}
 use Rattle.sctp_assoc.specs.Calls.{is_cookie_echoed, is_cookie_wait, is_established}
 use Rattle.sctp_assoc.specs.Closing.{is_closed_state}
-use Rattle.sctp_assoc.specs.Chunks.{after_chunks, after_packet, after_packet_of, after_sack, asks_or_faults}
-use Rattle.sctp_assoc.specs.Chunks.{checked_first, counted_data, counted_sack, dispatched, ended, goes_on}
-use Rattle.sctp_assoc.specs.Chunks.{on_chunk, on_counted_sack, on_data, on_new_data, on_sack, stream_found, taken_in}
-use Rattle.sctp_assoc.specs.Chunks.{taken_unless, told, with_acknowledged, with_message, with_new_stream}
+use Rattle.sctp_assoc.specs.Chunks.{after_chunks, after_packet, after_packet_of, after_sack}
+use Rattle.sctp_assoc.specs.Chunks.{checked_first, counted_sack, dispatched, ended, goes_on}
+use Rattle.sctp_assoc.specs.Chunks.{on_chunk, on_counted_sack, on_sack}
+use Rattle.sctp_assoc.specs.Chunks.{told, with_acknowledged}
 use Rattle.sctp_assoc.specs.Happened.{acts_after, acts_of_checked, acts_of_chunk, acts_of_chunks, acts_of_close}
-use Rattle.sctp_assoc.specs.Happened.{acts_of_kind, acts_of_packet, acts_of_packet_of, acts_of_data, acts_of_found}
-use Rattle.sctp_assoc.specs.Happened.{acts_of_outcome, acts_of_sack, acts_of_stream, acts_of_init, acts_of_init_ack}
-use Rattle.sctp_assoc.specs.Happened.{acts_of_t3, acts_of_taking, acts_of_timeouts, acts_unless_refused}
+use Rattle.sctp_assoc.specs.Happened.{acts_of_kind, acts_of_packet, acts_of_packet_of}
+use Rattle.sctp_assoc.specs.Happened.{acts_of_outcome, acts_of_sack, acts_of_init, acts_of_init_ack}
+use Rattle.sctp_assoc.specs.Happened.{acts_of_t3, acts_of_timeouts}
 use Rattle.sctp_assoc.specs.Handshake.{acknowledged_cookie, after_t1_init, answered, connected}
 use Rattle.sctp_assoc.specs.Handshake.{cookie_queued, echoed, information_returned, init_queued, learned, on_cookie_ack}
 use Rattle.sctp_assoc.specs.Handshake.{on_cookie_echo, on_heartbeat, on_init, on_init_ack, sends_cookie, sends_init}
@@ -77,151 +77,19 @@ use Rattle.sctp_assoc.specs.Handshake.{t1_cookie_expired, t1_init_expired, with_
 use Rattle.sctp_assoc.specs.Timeouts.{after_handshake_timers, after_timeouts}
 use Rattle.sctp_assoc.specs.Shown.{Shown}
 use Rattle.sctp_assoc.specs.Skipping.{skips_of}
+pub use Rattle.sctp_assoc.proofs.DataLeadsOn.{asks_keeps, asks_same, data_leads, next_leads}
+pub use Rattle.sctp_assoc.proofs.ClosesLeadOn.{close_leads, exhausted_leads}
 pub use Rattle.sctp_assoc.proofs.Leading.{leads_beside, leads_by, leads_nowhere, leads_on, past_itself}
 use Rattle.sctp_assoc.proofs.MarksOutstanding.{AreMarkedRight, act_marked}
 use Rattle.sctp_assoc.proofs.PassesOver.{forward_leads}
-use Rattle.sctp_assoc.proofs.ActsKeepOffsets.{acts_tied, can_append, done_append}
+use Rattle.sctp_assoc.proofs.ResetsLeadOn.{reconfig_leads as chunk_reconfig_leads}
+use Rattle.sctp_assoc.proofs.ActsKeepOffsets.{acts_tied}
 use Rattle.sctp_assoc.proofs.ActsKeepOffsets.{pieces_acknowledged}
 use Rattle.sctp_fit.specs.HeldSet.{HoldsPast}
 use Rattle.sctp_fit.proofs.HeldTsns.{nothing_is_held_at_first}
-use Rattle.sctp_assoc.proofs.DataCame.{held_follows, new_tsn, last_tsn_follows}
-use Rattle.sctp_assoc.proofs.WhatCame.{came_on, same_held, same_last_tsn}
+use Rattle.sctp_assoc.proofs.WhatCame.{came_on, same_held}
 
 -- the chunks of a packet
-
-close_leads : (closed : Bool) (a : Shown) (reason : AssociationError) (h : History) → is_closed_state a.state ≡ closed
-    → Binds a h
-    → Leads (acts_of_close a) a h (closed_by a reason) h
-close_leads true a reason h e binds = rw e (leads_nowhere a a h binds refl refl)
-close_leads false a reason h e binds =
-    rw e (leads_by (Act.Ended ∷ []) a (closed_open a reason) h binds (tt, tt) refl refl (past_itself h))
-
-stream_leads : (there left : Bool) (a : Shown) (id : ℕ) (h : History) → is_some (stream_at a.streams id) ≡ there
-    → generation_left a.streams ≡ left → Binds a h
-    → Leads (acts_of_stream a id) a h (stream_found a id).0 h
-unfolding stream_found
-stream_leads true left a id h e f binds = rw e (leads_nowhere a a h binds refl refl)
-stream_leads false true a id h e f binds =
-    rw (e, f) (leads_by (Act.Opened id a.sender.queue.next_message_id kinds.Unknown ∷ []) a (with_new_stream a id) h
-    binds (tt, tt) refl refl (past_itself h))
-stream_leads false false a id h e f binds = rw (e, f) (leads_nowhere a a h binds refl refl)
-
-pub stream_receiver : (there left : Bool) (a : Shown) (id : ℕ) → is_some (stream_at a.streams id) ≡ there
-    → generation_left a.streams ≡ left
-    → (stream_found a id).0.receiver ≡ a.receiver
-unfolding stream_found
-stream_receiver true left a id e f = rw e refl
-stream_receiver false true a id e f = rw (e, f) refl
-stream_receiver false false a id e f = rw (e, f) refl
-
--- DATA
-
-told_parts : (c : Bool) (b : Shown) (id : ℕ) (kept : Bool) (h : History) → (kept && is_readable_in b.streams id) ≡ c
-    → parts (told b id kept) h ≡ parts b h
-told_parts true b id kept h e = rw e refl
-told_parts false b id kept h e = rw e refl
-
-told_receiver : (c : Bool) (b : Shown) (id : ℕ) (kept : Bool) → (kept && is_readable_in b.streams id) ≡ c
-    → (told b id kept).receiver ≡ b.receiver
-told_receiver true b id kept e = rw e refl
-told_receiver false b id kept e = rw e refl
-
-took_leads : (a : Shown) (piece : ChunkPayloadData) (h : History) → Binds a h
-    → is_new_to a.receiver piece.tsn ≡ true
-    → (x : StreamMap × Bool) → x ≡ pushed_in a.streams piece.stream_identifier piece
-    → Leads (Act.Took piece ∷ []) a h (with_message a piece x) (with_taken h (offset_in h piece.tsn))
-took_leads a piece h binds new (streams, kept) e =
-    let b : Shown = record a { streams = streams; receiver = taken_to a.receiver piece.tsn } in
-    let k : History = with_taken h (offset_in h piece.tsn) in
-    let same =
-    told_parts (kept && is_readable_in streams piece.stream_identifier) b piece.stream_identifier kept k refl in
-    let n : StreamMap = (with_message a piece (streams, kept)).streams in
-    let told =
-    told_receiver (kept && is_readable_in streams piece.stream_identifier) b piece.stream_identifier kept refl in
-    record {
-      can = (new_tsn h a.streams a.receiver piece.tsn binds.peer_last_tsn binds.held new, tt);
-      there = same ∙ rw (← e) refl;
-      binds = record {
-        first = ap (λ (p : Parts). p.queue.first_tsn) same ∙ binds.first;
-        peer_last_tsn =
-            ap (λ (r : Receiver). r.peer_last_tsn) told
-            ∙ last_tsn_follows h a.streams a.receiver piece.tsn binds.peer_last_tsn binds.held new n;
-        held =
-            subst (λ (r : Receiver). HoldsPast (came_on k n) r.held) (sym told)
-            (held_follows h a.streams a.receiver piece.tsn binds.peer_last_tsn binds.held new n);
-        marked = subst (λ (p : Parts). AreMarkedRight p.queue.in_flight) (sym same) binds.marked;
-      };
-    }
-
-taking_leads_unless : (o : Option Error) (a : Shown) (piece : ChunkPayloadData) (h : History)
-    → Binds a h → is_new_to a.receiver piece.tsn ≡ true
-    → (k : History) × Leads (acts_unless_refused o piece) a h (taken_unless o a piece).0 k
-taking_leads_unless (Some fault) a piece h binds next = (h, leads_nowhere a a h binds refl refl)
-taking_leads_unless None a piece h binds next =
-    (with_taken h (offset_in h piece.tsn), took_leads a piece h binds next _ refl)
-
-taking_leads : (a : Shown) (piece : ChunkPayloadData) (h : History) → Binds a h
-    → is_new_to a.receiver piece.tsn ≡ true
-    → (k : History) × Leads (acts_of_taking a piece) a h (taken_in a piece).0 k
-unfolding taken_in
-taking_leads a piece h binds next =
-    taking_leads_unless (refusal_in a.streams piece.stream_identifier piece a.receiver.max_receive_message_size) a piece
-    h binds next
-
-flow_keeps : (e : Bool) (a : Shown) (f g : Flow) → (if◌then◌else◌ {A = Shown × Flow} e (a, f) (a, g)).0 ≡ a
-flow_keeps true a f g = refl
-flow_keeps false a f g = refl
-
-pub asks_keeps : (a : Shown) (piece : ChunkPayloadData) (trigger : AckTrigger) → (asks a piece trigger).0 ≡ a
-asks_keeps a piece trigger =
-    flow_keeps (is_exhausted a) a flows.Exhausted (flows.Next (asked a.receiver trigger piece.immediate_sack))
-
-pub asks_same : (x : Shown × Option Error) (piece : ChunkPayloadData) (trigger : AckTrigger)
-    → (asks_or_faults x piece trigger).0 ≡ x.0
-asks_same (a, None) piece trigger = asks_keeps a piece trigger
-asks_same (a, Some fault) piece trigger = refl
-
-credit_leads : (c : Bool) (b : Shown) (piece : ChunkPayloadData) (trigger : AckTrigger) (h : History)
-    → admits b.receiver piece.tsn (bytes_waiting b.streams) ≡ c
-    → Binds b h → is_new_to b.receiver piece.tsn ≡ true
-    → (k : History) × Leads (acts_of_found (b, true) piece) b h (on_new_data (b, true) piece trigger).0 k
-credit_leads true b piece trigger h e binds next =
-    let t = taking_leads b piece h binds next in
-    rw (e, asks_same (taken_in b piece) piece trigger) t
-credit_leads false b piece trigger h e binds next =
-    let same : Leads [] b h (asks b piece trigger).0 h =
-    subst (λ (z : Shown). Leads [] b h z h) (sym (asks_keeps b piece trigger)) (leads_nowhere b b h binds refl refl) in
-    rw e (h, same)
-
-found_leads : (x : Shown × Bool) (piece : ChunkPayloadData) (trigger : AckTrigger) (h : History) → Binds x.0 h
-    → is_new_to x.0.receiver piece.tsn ≡ true
-    → (k : History) × Leads (acts_of_found x piece) x.0 h (on_new_data x piece trigger).0 k
-found_leads (b, false) piece trigger h binds next = (h, leads_nowhere b b h binds refl refl)
-found_leads (b, true) piece trigger h binds next =
-    credit_leads (admits b.receiver piece.tsn (bytes_waiting b.streams)) b piece trigger h refl binds next
-
-pub next_leads : (c : Bool) (a : Shown) (piece : ChunkPayloadData) (trigger : AckTrigger) (h : History)
-    → is_new_to a.receiver piece.tsn ≡ c
-    → Binds a h → (k : History) × Leads (acts_of_data a piece) a h (on_data a piece trigger).0 k
-unfolding on_data
-next_leads false a piece trigger h e binds =
-    let same : Leads [] a h (asks (counted_data a) piece trigger).0 h =
-    subst (λ (z : Shown). Leads [] a h z h) (sym (asks_keeps (counted_data a) piece trigger))
-    (leads_nowhere a (counted_data a) h binds refl refl) in
-    rw e (h, same)
-next_leads true a piece trigger h e binds =
-    let b : Shown = counted_data a in
-    let counted : Binds b h =
-    record { first = binds.first; peer_last_tsn = binds.peer_last_tsn; held = binds.held; marked = binds.marked } in
-    let id = piece.stream_identifier in
-    let made = stream_leads (is_some (stream_at a.streams id)) (generation_left a.streams) b id h refl refl counted in
-    let same = stream_receiver (is_some (stream_at a.streams id)) (generation_left a.streams) b id refl refl in
-    let rest = found_leads (stream_found b id) piece trigger h made.binds (rw same e) in
-    rw e (
-      rest.0,
-      leads_on (acts_of_stream a id) (acts_of_found (stream_found b id) piece) {b = (stream_found b id).0} {k = h}
-          (record { can = made.can; there = made.there; binds = made.binds }) rest.1,
-    )
 
 -- SACK
 
@@ -410,7 +278,7 @@ module _ (a : Shown) (trigger : AckTrigger) (h : History) (binds : Binds a h) wh
   kind_leads : (header : CommonHeader) (c : Chunk) (now : ℕ)
       → (k : History) × Leads (acts_of_kind a header c) a h (dispatched a header c trigger now).0 k
   kind_leads header (chunks.Data piece) now =
-      next_leads (is_new_to a.receiver piece.tsn) a piece trigger h refl binds
+      data_leads a piece trigger h binds
   kind_leads header (chunks.SelectiveAck sack) now =
       sack_leads a sack.cumulative_tsn_ack sack.gap_ack_blocks sack.advertised_receiver_window_credit trigger now h
       binds (is_established a.state) refl
@@ -427,7 +295,7 @@ module _ (a : Shown) (trigger : AckTrigger) (h : History) (binds : Binds a h) wh
       cookie_echo_leads (has_issued a.handshake x) (is_beginning a.state) (is_established a.state) x refl refl refl
   kind_leads header chunks.CookieAck now = cookie_ack_leads (is_cookie_echoed a.state) refl
   kind_leads header chunks.ShutdownComplete now = (h, leads_nowhere a a h binds refl refl)
-  kind_leads header (chunks.Reconfig x) now = (h, leads_nowhere a a h binds refl refl)
+  kind_leads header (chunks.Reconfig x) now = (h, chunk_reconfig_leads a x trigger h binds)
   kind_leads header (chunks.ForwardTsn x) now =
       forward_leads a x.new_cumulative_tsn x.streams trigger now h binds
   kind_leads header (chunks.IForwardTsn x) now =
@@ -452,12 +320,6 @@ ended_last_tsn : (a : Shown) (trigger : AckTrigger) (now : ℕ)
 ended_last_tsn a triggers.None now = refl
 ended_last_tsn a triggers.Delayed now = refl
 ended_last_tsn a triggers.Immediate now = refl
-
-pub exhausted_leads : (a : Shown) (h : History) → Binds a h → Leads (acts_of_close a) a h (exhausted a) h
-exhausted_leads a h binds =
-    let closes : Leads (acts_of_close a) a h (closed_by a reasons.ReceiveBufferExhausted) h =
-    close_leads (is_closed_state a.state) a reasons.ReceiveBufferExhausted h refl binds in
-    leads_beside (acts_of_close a) a (closed_by a reasons.ReceiveBufferExhausted) (exhausted a) h h refl refl closes
 
 -- what follows a chunk leads on, where the rest of the packet does
 goes_leads : (x : Shown × Flow) (h : History) (more : Shown → AckTrigger → Shown) (acts : Shown → AckTrigger → List Act)
@@ -586,38 +448,6 @@ limit_leads_on a b size e h binds = (h, rw e (limit_if a.failed))
     limit_if true = leads_nowhere a a h binds refl refl
     limit_if false = leads_nowhere a (record a { max_send_message_size = size }) h binds refl refl
 
-relieved_leads : (e : Bool) (a : Shown) (h : History) → Binds a h
-    → Leads (if e then acts_of_close a else []) a h (if e then exhausted a else a) h
-relieved_leads true a h binds = exhausted_leads a h binds
-relieved_leads false a h binds = leads_nowhere a a h binds refl refl
-
-after_read_leads : (x : StreamMap × Option ReceivedMessage) (a : Shown) (id : ℕ) (h : History)
-    → Leads (Act.WasRead id ∷ []) a h (record a { streams = x.0 }) h
-    → Leads
-    (Act.WasRead id ∷ (if is_some x.1 && is_exhausted (record a { streams = x.0 }) then acts_of_close a else []))
-    a h (after_read a x).0 h
-after_read_leads (streams, None) a id h one = one
-after_read_leads (streams, Some message) a id h one =
-    let b : Shown = record a { streams = streams } in
-    leads_on (Act.WasRead id ∷ []) (if is_exhausted b then acts_of_close b else []) one
-    (relieved_leads (is_exhausted b) b h one.binds)
-
--- a read, before it is seen whether it leaves the receive buffer exhausted
-pub plain_read_leads : (a : Shown) (id : ℕ) (h : History) → Binds a h
-    → Leads (Act.WasRead id ∷ []) a h (record a { streams = (read_in a.streams id).0 }) h
-plain_read_leads a id h binds =
-    leads_by (Act.WasRead id ∷ []) a (record a { streams = (read_in a.streams id).0 }) h binds (tt, tt) refl refl
-    (past_itself h)
-
-pub read_leads_on : (a b : Shown) (id : ℕ) (message : Option ReceivedMessage) → read_from_stream a id ≡ (b, message)
-    → LeadsOn (acts_of_read a id) a b
-read_leads_on a b id message e h binds = (
-  h,
-  subst (λ (z : Shown). Leads (acts_of_read a id) a h z h)
-      (ap (λ (x : Shown × Option ReceivedMessage). x.0) e)
-      (after_read_leads (read_in a.streams id) a id h (plain_read_leads a id h binds)),
-)
-
 pub open_leads_on : (a b : Shown) (id : ℕ) (kind : PayloadProtocolIdentifier) → b ≡ opened a id kind
     → LeadsOn (Act.Opened id a.sender.queue.next_message_id kind ∷ []) a b
 open_leads_on a b id kind e h binds = (
@@ -626,14 +456,16 @@ open_leads_on a b id kind e h binds = (
       refl (past_itself h)),
 )
 
-polled_leads : (events : List Event) (a : Shown) (h : History) → Binds a h → Leads [] a h (event_from events a).0 h
-polled_leads [] a h binds = leads_nowhere a (event_from [] a).0 h binds refl refl
-polled_leads (e ∷ es) a h binds = leads_nowhere a (event_from (e ∷ es) a).0 h binds refl refl
+polled_leads : (x : ResetsView × List Event × Option Event) (a : Shown) (h : History) → Binds a h
+    → Leads [] a h (event_from x a).0 h
+polled_leads (r, left, None) a h binds = leads_nowhere a (event_from (r, left, None) a).0 h binds refl refl
+polled_leads (r, left, Some e) a h binds = leads_nowhere a (event_from (r, left, Some e) a).0 h binds refl refl
 
 pub poll_leads_on : (a b : Shown) (event : Option Event) → event_polled a ≡ (b, event) → LeadsOn [] a b
 poll_leads_on a b event e h binds =
-    let is : b ≡ (event_from a.events a).0 = sym (ap (λ (x : Shown × Option Event). x.0) e) in
-    (h, rw is (polled_leads a.events a h binds))
+    let told = event_told a.resets a.events in
+    let is : b ≡ (event_from told a).0 = sym (ap (λ (x : Shown × Option Event). x.0) e) in
+    (h, rw is (polled_leads told a h binds))
 
 t3_leads : (expired failure : Bool) (a : Shown) (now : ℕ) (h : History) → Binds a h
     → Leads (if expired then (if failure then [] else Act.Marked ∷ []) else []) a h
@@ -642,6 +474,38 @@ t3_leads false failure a now h binds = leads_nowhere a a h binds refl refl
 t3_leads true true a now h binds = leads_nowhere a (t3_expired a now) h binds refl refl
 t3_leads true false a now h binds =
     leads_by (Act.Marked ∷ []) a (retransmits (t3_expired a now) now) h binds (tt, tt) refl refl (past_itself h)
+
+-- requests to reset streams that are given up leave the streams
+told_streams : (a : Answering) (x : DebtsView × List Event) → (with_told a x).streams ≡ a.streams
+told_streams a (debts, told) = refl
+
+given_up_streams : (x : OwnView × Option OwnRequest) (r : ResetsView) (m : StreamMap) (told : List Event)
+    → (given_up_where x r m told).1 ≡ m
+given_up_streams (own, None) r m told = refl
+given_up_streams (own, Some q) r m told =
+    told_streams (answering r.debts m told) (failed_each failures.Failed q.ids (r.debts, told))
+
+abbrev stopped_beside : Shown → Beside → Shown
+stopped_beside a b = (let c = with_beside a b in record c { timers = with_stopped names.Reconfig c.timers })
+
+stopped_leads : (b : Beside) (a : Shown) (h : History) → b.1 ≡ a.streams → Binds a h
+    → Leads [] a h (stopped_beside a b) h
+stopped_leads (r, m, told) a h same binds =
+    leads_nowhere a (stopped_beside a (r, m, told)) h binds
+    (ap (λ (z : StreamMap). (let p = parts a h in record p { streams = z })) same) refl
+
+reconfig_leads : (expired failure : Bool) (a : Shown) (now : ℕ) (h : History) → Binds a h
+    → Leads [] a h
+    (if expired then (if failure then gives_up (reconfig_expired a now) else asks_again (reconfig_expired a now) now)
+    else a) h
+reconfig_leads false failure a now h binds = leads_nowhere a a h binds refl refl
+reconfig_leads true false a now h binds = leads_nowhere a (asks_again (reconfig_expired a now) now) h binds refl refl
+reconfig_leads true true a now h binds =
+    let c : Shown = reconfig_expired a now in
+    leads_on [] [] (leads_nowhere a c h binds refl refl)
+    (stopped_leads (given_up c.resets c.streams c.events) c h
+    (given_up_streams (own_requests.ended c.resets.own) c.resets c.streams c.events)
+    (record { first = binds.first; peer_last_tsn = binds.peer_last_tsn; held = binds.held; marked = binds.marked }))
 
 ack_delay_leads : (expired : Bool) (xs : List Act) (a b : Shown) (now : ℕ) (h : History)
     → (expiry_of names.Ack now b.timers).expired ≡ expired → Leads xs a h b h
@@ -713,9 +577,16 @@ timeouts_lead_on a b now e h binds =
     let c : Shown = after_handshake_timers a now in
     let t3 =
     t3_leads (expiry_of names.T3RTX now c.timers).expired (expiry_of names.T3RTX now c.timers).failed c now h
-    first.binds in (
+    first.binds in
+    let d : Shown = after_t3 c now in
+    let reconfig =
+    reconfig_leads (expiry_of names.Reconfig now d.timers).expired (expiry_of names.Reconfig now d.timers).failed d now
+    h t3.binds in
+    let f : Shown = after_reconfig_timer d now in
+    let both : Leads (acts_of_t3 c now) c h f h =
+    subst (λ (xs : List Act). Leads xs c h f h) (append-nil (acts_of_t3 c now))
+    (leads_on (acts_of_t3 c now) [] t3 reconfig) in (
       h,
       rw e (leads_on [] (acts_of_t3 c now) first
-          (ack_delay_leads (expiry_of names.Ack now (after_t3 c now).timers).expired (acts_of_t3 c now) c
-          (after_t3 c now) now h refl t3)),
+          (ack_delay_leads (expiry_of names.Ack now f.timers).expired (acts_of_t3 c now) c f now h refl both)),
     )

@@ -1,15 +1,15 @@
 -- A FORWARD TSN that is ahead came: on the history its new cumulative TSN lies ahead, and the receiver's last TSN in
 -- order and what it holds follow it.
-use Rattle.std.proofs.Common.{◌≡◌, refl, sym, ap, ◌∙◌, subst, ⊎_elim, ℕ, ◌+◌, ◌-◌, ◌%◌, ◌^◌, ◌<◌, ◌≤◌, ◌==◌, ◌&&◌}
+use Rattle.std.proofs.Common.{◌≡◌, refl, subst, ⊎_elim, ℕ, ◌+◌, ◌-◌, ◌%◌, ◌^◌, ◌<◌, ◌≤◌, ◌==◌, ◌&&◌}
 use Rattle.std.proofs.Common.{arith}
-use Rattle.std.proofs.Common.{Bool, true, false, nat_lt, not}
+use Rattle.std.proofs.Common.{true, false, nat_lt, not}
 use Rattle.std.proofs.lemmas.Bool.{and_cases, and_parts, eqb-false, ltb-false, ltb-true, not-true, or_parts}
 use Rattle.sctp_serial.specs.Serial.{tsn, tsn_lt, tsn_lte, tsn_past}
 use Rattle.sctp_streams.specs.Streams.{StreamMap}
 use Rattle.sctp_inbound.specs.declared.receiver.Receiver.{Receiver}
 use Rattle.sctp_inbound.specs.Held.{held_past}
 use Rattle.sctp_inbound.specs.Receiver.{is_behind, passed_to}
-use Rattle.sctp_fit.specs.HeldSet.{HoldsPast, peer_last_tsn_of, past_tsn, with_all_to}
+use Rattle.sctp_fit.specs.HeldSet.{HoldsPast, peer_last_tsn_of, with_all_to}
 use Rattle.sctp_fit.specs.Incoming.{tsn_before}
 use Rattle.sctp_fit.proofs.ReachClimbs.{the_set_is_passed_over}
 use Rattle.sctp_directions.specs.Acts.{History, IsAhead, offset_in, reach_in, with_passed}

@@ -1,6 +1,9 @@
 pub mod ActsKeepOffsets
+mod BesideOne
 pub mod CallsLeadOn
+pub mod ClosesLeadOn
 pub mod DataCame
+pub mod DataLeadsOn
 mod FilledBuffers
 pub mod Dropping
 pub mod ForwardCame
@@ -9,16 +12,26 @@ pub mod Giving
 pub mod GivingUp
 pub mod Leading
 pub mod MarksOutstanding
+mod HiddenData
 mod MemoryTaken
 mod PacketsReadAgain
+pub mod ResetsLeadOn
+pub mod PartsOfPolls
 pub mod PassesOver
 pub mod PolledData
 pub mod PolledSteps
 pub mod PollsLeadOn
+pub mod ReadsLeadOn
+pub mod QuietRequests
+pub mod RequestsGiven
 mod SacksTell
 mod SkipsTold
+mod Stopping
+pub mod StopsLeadOn
 pub mod StreamReads
+pub mod StreamsFound
 pub mod StreamsWait
 pub mod WhatCame
 pub mod GivenApart
 mod FallsInPolls
+mod TakingSettles

@@ -1,8 +1,8 @@
 -- Where memory may lack: what takes some takes it by what stands in chunk and state.
-use Rattle.std.proofs.Common.{◌≡◌, ◌≢◌, refl, sym, ap, ◌∙◌, subst, ℕ, ◌+◌, Bool, true, false, not, ◌&&◌, ◌||◌}
+use Rattle.std.proofs.Common.{◌≡◌, ◌≢◌, refl, sym, ap, ◌∙◌, subst, ℕ, ◌+◌, Bool, true, false, not, ◌||◌}
 use Rattle.std.proofs.Common.{if◌then◌else◌, is_some, nat_lt, length, List, [], ◌∷◌, suc, Option, Some, None}
-use Rattle.std.proofs.Common.{arith, ◌<◌}
-use Rattle.std.proofs.lemmas.Bool.{false≢true, lt-ltb, or_left, or_parts, or_right, true≢false}
+use Rattle.std.proofs.Common.{arith, ◌<◌, ◌==◌, ⊎_elim}
+use Rattle.std.proofs.lemmas.Bool.{and_from, false≢true, lt-ltb, ne_eqb, or_cases, or_left, or_parts, or_right, true≢false}
 use Rattle.sctp_wire_types.specs.declared.chunk.Chunk.{Chunk}
 use Rattle.sctp_wire_types.specs.declared.chunk.ChunkPayloadData.{ChunkPayloadData}
 use Rattle.sctp_wire_types.specs.declared.error.Error.{Error}
@@ -14,11 +14,17 @@ use Rattle.sctp_receive_queues.specs.Reassembly.{is_torn_after, is_torn_before, 
 use Rattle.sctp_receive_queues.specs.Reassembly.{pieces_at, index_for_tsn, index_of_ssn, refusal_between}
 use Rattle.sctp_receive_queues.specs.Reassembly.{refusal_of_ordered, refusal_of_unordered, run_at, run_before}
 use Rattle.sctp_streams.specs.Stream.{StreamView}
-use Rattle.sctp_streams.specs.Streams.{StreamMap, becomes_ready_in, bytes_waiting, generation_left, refusal_at}
+use Rattle.sctp_streams.specs.Streams.{StreamMap, generation_left, refusal_at}
 use Rattle.sctp_streams.specs.Streams.{refusal_in, stream_at}
 use Rattle.sctp_inbound.specs.declared.receiver.AckTrigger.{AckTrigger}
 use Rattle.sctp_inbound.specs.declared.receiver.Receiver.{Receiver}
-use Rattle.sctp_inbound.specs.Receiver.{admits, is_new_to}
+use Rattle.sctp_inbound.specs.Receiver.{is_new_to}
+use Rattle.sctp_generations.specs.Deferred.{is_above}
+use Rattle.sctp_generations.specs.Generations.{has_retiring, has_skips}
+use Rattle.sctp_generations.specs.Retiring.{RetiringMap, is_retiring}
+use Rattle.sctp_reset_requests.specs.Peer.{PeerView, boundary_for, is_one_due}
+use Rattle.sctp_reset_requests.specs.Request.{PeerRequestView}
+use Rattle.sctp_resets.specs.Resets.{ResetsView, is_hidden}
 use Rattle.sctp_outbound.specs.declared.sender.Sender.{Sender}
 use Rattle.sctp_inbound.specs.Handshake.{header_of}
 use Rattle.sctp_wire.specs.DataPackets.{DataWritten, datagrams_of, nothing_written, with_all}
@@ -29,16 +35,20 @@ use Rattle.sctp_assoc.specs.declared.inbound.Flow.TheVariants as flows
 use Rattle.sctp_assoc.specs.Closing.{is_closed_state}
 use Rattle.sctp_assoc.specs.Chunks.{counted_data, on_chunk, stream_found}
 use Rattle.sctp_assoc.specs.Memory.{chunk_takes_memory, chunks_take_memory, data_takes_memory, keeps_message}
-use Rattle.sctp_assoc.specs.Memory.{makes_stream, takes_memory_after}
+use Rattle.sctp_assoc.specs.Memory.{is_taken_in, makes_stream, new_data_takes_memory, resets_take_memory}
+use Rattle.sctp_assoc.specs.Memory.{takes_memory_after, taking_takes_memory}
+use Rattle.sctp_assoc.specs.Resets.{settling_takes_memory}
 use Rattle.sctp_assoc.specs.Gather.{ack_polled, both_of, bundled, data_bundled, data_gives, data_polled, exchange_gives}
 use Rattle.sctp_assoc.specs.Gather.{fast_gives, fast_polled, fast_sent, fell_in_poll, is_due, late_abandoned}
-use Rattle.sctp_assoc.specs.Gather.{marks_give, marks_polled, marks_sent, new_gives, new_sent}
+use Rattle.sctp_assoc.specs.Gather.{marks_give, marks_polled, marks_sent, new_gives, new_sent, requests_give}
+use Rattle.sctp_assoc.specs.Gather.{requests_polled}
 use Rattle.sctp_assoc.specs.Shown.{Shown, uses_forward_tsn}
-use Rattle.sctp_assoc.specs.Skipping.{some_is_told, with_skip}
-use Rattle.sctp_assoc.proofs.CallsLeadOn.{stream_receiver}
+use Rattle.sctp_assoc.specs.Skipping.{skip_takes_memory, some_takes_memory, with_skip}
+use Rattle.sctp_assoc.proofs.PartsOfPolls.{ack_sender, requests_leave}
 use Rattle.sctp_assoc.proofs.PolledSteps.{data_poll_stays}
-use Rattle.sctp_assoc.proofs.PollsLeadOn.{ack_sender}
 use Rattle.sctp_assoc.proofs.SacksTell.{positive}
+use Rattle.sctp_assoc.proofs.StreamsFound.{stream_receiver, stream_resets}
+use Rattle.sctp_assoc.proofs.TakingSettles.{SettlesNoMore}
 
 -- DATA
 
@@ -89,21 +99,14 @@ pub not_for_memory : (m : StreamMap) (id : ℕ) (piece : ChunkPayloadData) (limi
 not_for_memory m id piece limit e =
     false≢true (sym (refused_at_names (stream_at m id) piece limit) ∙ ap is_for_memory e)
 
--- this stream refuses the piece
-abbrev refuses : Shown → ChunkPayloadData → Bool
-refuses a piece = is_some (refusal_in a.streams piece.stream_identifier piece a.receiver.max_receive_message_size)
-
 -- a stream that is found or made leaves the receiver as it was
 pub found_receiver : (a b : Shown) (id : ℕ) → stream_found a id ≡ (b, true) → b.receiver ≡ a.receiver
 found_receiver a b id e =
     sym (ap (λ (z : Shown × Bool). z.0.receiver) e)
     ∙ stream_receiver (is_some (stream_at a.streams id)) (generation_left a.streams) a id refl refl
 
-credit_and_room : (credit refused : Bool) → credit ≡ true → refused ≡ false → (credit && not refused) ≡ true
-credit_and_room credit refused e f = rw (e, f) refl
-
 module _ (a b : Shown) (piece : ChunkPayloadData) (found : stream_found a piece.stream_identifier ≡ (b, true))
-    (credit : admits b.receiver piece.tsn (bytes_waiting b.streams) ≡ true) (free : refuses b piece ≡ false) where
+    (takes : is_taken_in b piece ≡ true) where
   found_takes : (there left : Bool) → is_some (stream_at a.streams piece.stream_identifier) ≡ there
       → generation_left a.streams ≡ left
       → (makes_stream a piece.stream_identifier || keeps_message a piece) ≡ true
@@ -111,26 +114,83 @@ module _ (a b : Shown) (piece : ChunkPayloadData) (found : stream_found a piece.
   found_takes true left e f =
       let step : stream_found a piece.stream_identifier ≡ (a, true) = rw e refl in
       let same : a ≡ b = ap (λ (z : Shown × Bool). z.0) (sym step ∙ found) in
-      rw e (credit_and_room (admits a.receiver piece.tsn (bytes_waiting a.streams)) (refuses a piece)
-      (subst (λ (z : Shown). admits z.receiver piece.tsn (bytes_waiting z.streams) ≡ true) (sym same) credit)
-      (subst (λ (z : Shown). refuses z piece ≡ false) (sym same) free))
+      let here : is_taken_in a piece ≡ true = subst (λ (z : Shown). is_taken_in z piece ≡ true) (sym same) takes in
+      rw (e, here) refl
   found_takes false true e f = rw (e, f) refl
   found_takes false false e f =
       let step : stream_found a piece.stream_identifier ≡ (a, false) = rw (e, f) refl in
       absurd (false≢true (ap (λ (z : Shown × Bool). z.1) (sym step ∙ found)))
 
--- new DATA that comes to a stream that was found and does not refuse it, with credit left or filling a gap
+-- a stream that is found or made leaves the resets as they were
+pub found_resets : (a b : Shown) (id : ℕ) → stream_found a id ≡ (b, true) → b.resets ≡ a.resets
+found_resets a b id e =
+    sym (ap (λ (z : Shown × Bool). z.0.resets) e)
+    ∙ stream_resets (is_some (stream_at a.streams id)) (generation_left a.streams) a id refl refl
+
+-- where a skip is kept, DATA may take memory
+skips_take : (a : Shown) (piece : ChunkPayloadData) → has_skips a.resets.generations ≡ true
+    → data_takes_memory a piece ≡ true
+skips_take a piece some = or_right (new_data_takes_memory a piece) (resets_take_memory a) (or_right _ _ some)
+
+-- new DATA that comes to a stream that was found and takes memory there
 pub taking_takes : (a b : Shown) (piece : ChunkPayloadData)
     → is_new_to a.receiver piece.tsn ≡ true
     → stream_found (counted_data a) piece.stream_identifier ≡ (b, true)
-    → admits b.receiver piece.tsn (bytes_waiting b.streams) ≡ true
-    → refusal_in b.streams piece.stream_identifier piece b.receiver.max_receive_message_size ≡ None
+    → taking_takes_memory b piece ≡ true
     → data_takes_memory a piece ≡ true
-taking_takes a b piece next found credit free =
-    let takes =
-    found_takes (counted_data a) b piece found credit (ap is_some free)
-    (is_some (stream_at a.streams piece.stream_identifier)) (generation_left a.streams) refl refl in
-    rw next takes
+taking_takes a b piece next found takes =
+    let there = is_some (stream_at a.streams piece.stream_identifier) in
+    let left = generation_left a.streams in
+    ⊎_elim (λ (here : is_taken_in b piece ≡ true).
+    let kept : (makes_stream a piece.stream_identifier || keeps_message a piece) ≡ true =
+    found_takes (counted_data a) b piece found here there left refl refl in
+    or_left (new_data_takes_memory a piece) (resets_take_memory a) (and_from _ _ next kept))
+    (λ (some : has_skips b.resets.generations ≡ true).
+    skips_take a piece
+    (subst (λ (z : ResetsView). has_skips z.generations ≡ true)
+    (found_resets (counted_data a) b piece.stream_identifier found) some))
+    (or_cases _ _ takes)
+
+-- DATA of a generation that is not read yet: a generation ended, or a request is in progress
+hidden_takes_at : (retiring : RetiringMap) (request : Option PeerRequestView) (skips : Bool) (id tsn : ℕ)
+    → (is_retiring retiring id || is_above (boundary_for request id) tsn) ≡ true
+    → (not (length retiring == 0) || is_some request || skips) ≡ true
+hidden_takes_at [] None skips id tsn hidden = absurd (false≢true hidden)
+hidden_takes_at [] (Some request) skips id tsn hidden = refl
+hidden_takes_at (r ∷ retiring) request skips id tsn hidden =
+    let some : (length (r ∷ retiring) == 0) ≡ false =
+    ne_eqb (suc (length retiring)) 0 (λ (e : suc (length retiring) ≡ 0). omega arith) in
+    rw some refl
+
+pub hidden_takes : (a : Shown) (piece : ChunkPayloadData)
+    → is_hidden a.resets piece.stream_identifier piece.tsn ≡ true → data_takes_memory a piece ≡ true
+hidden_takes a piece hidden =
+    let g = a.resets.generations in
+    or_right (new_data_takes_memory a piece) (resets_take_memory a)
+    (hidden_takes_at g.retiring a.resets.peer.in_progress (has_skips g) piece.stream_identifier piece.tsn hidden)
+
+due_takes_at : (request : Option PeerRequestView) (retiring skips : Bool) (tsn : ℕ)
+    → (is_one_due request tsn || skips) ≡ true → (retiring || is_some request || skips) ≡ true
+due_takes_at None true true tsn takes = refl
+due_takes_at None false true tsn takes = refl
+due_takes_at None retiring false tsn takes = absurd (false≢true takes)
+due_takes_at (Some request) true skips tsn takes = refl
+due_takes_at (Some request) false skips tsn takes = refl
+
+-- what is done once DATA came takes memory where a request of the peer is in progress, or a skip is kept
+pub settling_takes : (a b : Shown) (piece : ChunkPayloadData)
+    → SettlesNoMore a b → settling_takes_memory b ≡ true → data_takes_memory a piece ≡ true
+settling_takes a b piece no_more takes =
+    let g = a.resets.generations in
+    let tsn = b.receiver.peer_last_tsn in
+    let due : (is_one_due a.resets.peer.in_progress tsn || has_skips g) ≡ true =
+    ⊎_elim (λ (now : is_one_due b.resets.peer.in_progress tsn ≡ true).
+    or_left _ _ (subst (λ (p : PeerView). is_one_due p.in_progress tsn ≡ true) no_more.peer now))
+    (λ (some : has_skips b.resets.generations ≡ true).
+    or_right (is_one_due a.resets.peer.in_progress tsn) _ (no_more.fewer some))
+    (or_cases _ _ takes) in
+    or_right (new_data_takes_memory a piece) (resets_take_memory a)
+    (due_takes_at a.resets.peer.in_progress (has_retiring g) (has_skips g) tsn due)
 
 -- the chunks of a packet
 
@@ -159,7 +219,7 @@ module _ (header : CommonHeader) (c : Chunk) (cs : List Chunk) (a : Shown) (trig
 
 -- polling
 
-none_longer : {X : Type 0} (xs : List X) → nat_lt 0 (length xs) ≡ false → xs ≡ []
+pub none_longer : {X : Type 0} (xs : List X) → nat_lt 0 (length xs) ≡ false → xs ≡ []
 none_longer [] e = refl
 none_longer (x ∷ xs) e = absurd (true≢false (sym (lt-ltb 0 (suc (length xs)) (omega arith)) ∙ e))
 
@@ -215,29 +275,38 @@ module _ (a : Shown) (now : ℕ) where
   pub packets_are_given : nat_lt 0 (length (datagrams_of (header_of a.handshake) (data_polled a now).1)) ≡ true
       → exchange_gives a now ≡ true
   unfolding data_polled
-  packets_are_given some = or_left _ _ (or_left _ _ (gives_if (data_gives a now) refl some))
+  packets_are_given some = or_left _ _ (or_left _ _ (or_left _ _ (gives_if (data_gives a now) refl some)))
 
   pub data_is_given : data_gives a now ≡ true → exchange_gives a now ≡ true
-  data_is_given e = or_left _ _ (or_left _ _ e)
+  data_is_given e = or_left _ _ (or_left _ _ (or_left _ _ e))
 
-  -- an acknowledgement that is due behind the DATA was due before it
-  pub ack_is_given : is_due (data_polled a now).0.receiver.ack_state ≡ true → exchange_gives a now ≡ true
+  -- streams that are to be reset
+  pub requests_are_given : requests_give (data_polled a now).0 ≡ true → exchange_gives a now ≡ true
+  requests_are_given e = or_left _ _ (or_left _ _ (or_right _ _ e))
+
+  -- an acknowledgement that is due behind the DATA and the requests was due before them
+  pub ack_is_given : is_due (requests_polled (data_polled a now).0).0.receiver.ack_state ≡ true
+      → exchange_gives a now ≡ true
   ack_is_given due =
       or_left _ _ (or_right _ _
-      (subst (λ (z : Receiver). is_due z.ack_state ≡ true) (data_poll_stays a now).receiver due))
+      (subst (λ (z : Receiver). is_due z.ack_state ≡ true)
+      ((requests_leave (data_polled a now).0).receiver ∙ (data_poll_stays a now).receiver) due))
 
   -- FORWARD TSN that is due behind the acknowledgement was due before it
-  pub forward_is_given : gives_forward (ack_polled (data_polled a now).0).0.sender ≡ true → exchange_gives a now ≡ true
+  pub forward_is_given : gives_forward (ack_polled (requests_polled (data_polled a now).0).0).0.sender ≡ true
+      → exchange_gives a now ≡ true
   forward_is_given due =
-      or_right _ _ (subst (λ (z : Sender). gives_forward z ≡ true) (ack_sender (data_polled a now).0).0 due)
+      or_right _ _ (subst (λ (z : Sender). gives_forward z ≡ true)
+      ((ack_sender (requests_polled (data_polled a now).0).0).0 ∙ (requests_leave (data_polled a now).0).sender) due)
 
 -- FORWARD TSN that comes
 
-module _ (es : List SkippedStream) (e : SkippedStream) (a : Shown) where
-  pub first_skip_takes : becomes_ready_in a.streams e.stream_identifier e.stream_sequence_number ≡ true
-      → some_is_told (e ∷ es) a ≡ true
+-- the skips of a FORWARD TSN with this new cumulative TSN
+module _ (tsn : ℕ) (es : List SkippedStream) (e : SkippedStream) (a : Shown) where
+  pub first_skip_takes : skip_takes_memory e.stream_identifier e.stream_sequence_number a ≡ true
+      → some_takes_memory tsn (e ∷ es) a ≡ true
   first_skip_takes told = or_left _ _ told
 
-  pub later_skip_takes : some_is_told es (with_skip e.stream_identifier e.stream_sequence_number a) ≡ true
-      → some_is_told (e ∷ es) a ≡ true
+  pub later_skip_takes : some_takes_memory tsn es (with_skip tsn e.stream_identifier e.stream_sequence_number a) ≡ true
+      → some_takes_memory tsn (e ∷ es) a ≡ true
   later_skip_takes told = or_right _ _ told

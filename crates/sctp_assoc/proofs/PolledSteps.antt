@@ -165,14 +165,14 @@ pub record IsSentBeside (a b : Shown) : Type 0 where
   pub again : AckIsReadAgain b → AckIsReadAgain a
 
 -- what came and waits to be read stays, so the acknowledgement does
-waits_beside : (a b : Shown) → b.receiver ≡ a.receiver → b.handshake ≡ a.handshake
+waits_beside : (a b : Shown) → b.receiver ≡ a.receiver → b.handshake ≡ a.handshake → b.resets ≡ a.resets
     → bytes_waiting b.streams ≡ bytes_waiting a.streams → IsSentBeside a b
-waits_beside a b receiver handshake waits = record {
+waits_beside a b receiver handshake resets waits = record {
   receiver = receiver;
   handshake = handshake;
   acts = rw receiver refl;
-  acks = rw (receiver, handshake, waits) refl;
-  again = λ again. rw (← receiver, ← handshake, ← waits) again;
+  acks = rw (receiver, handshake, resets, waits) refl;
+  again = λ again. rw (← receiver, ← handshake, ← resets, ← waits) again;
 }
 
 late_waits : (uses : Bool) (now : ℕ) (all : Sender × StreamMap)
@@ -192,7 +192,7 @@ pub data_poll_stays : (a : Shown) (now : ℕ) → IsSentBeside a (data_polled a 
 unfolding data_polled
 data_poll_stays a now =
     let uses = uses_forward_tsn a in
-    waits_beside a (data_polled a now).0 refl refl
+    waits_beside a (data_polled a now).0 refl refl refl
     (drops_waits uses now (both_of (fast_polled a now))
     ∙ spent_waits uses causes.Fast (both_of (marks_polled a now))
     ∙ spent_waits uses causes.Timer (both_of (late_abandoned a now))

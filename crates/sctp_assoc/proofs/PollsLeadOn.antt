@@ -14,38 +14,39 @@ use Rattle.sctp_outbound_queue.specs.declared.message.InFlight.{InFlight}
 use Rattle.sctp_outbound_queue.specs.Outbound.{abandoned_in_front_of, is_abandoned_piece}
 use Rattle.sctp_inbound.specs.declared.handshake.Handshake.{Handshake}
 use Rattle.sctp_inbound.specs.Handshake.{header_of}
-use Rattle.sctp_inbound.specs.Receiver.{acknowledged}
+use Rattle.sctp_inbound.specs.Receiver.{acknowledged, past_of}
 use Rattle.sctp_outbound.specs.declared.sender.Sender.{Sender}
 use Rattle.sctp_outbound.specs.Forward.{forward_given, forward_of, gives_forward, is_front_abandoned}
 use Rattle.sctp_directions.specs.Acts.{Act, History, Parts, all_data_given, done_all}
 use Rattle.sctp_assoc.specs.Calls.{is_established}
 use Rattle.sctp_assoc.specs.Gather.{AreControlReadAgain, AreReadAgain, ForwardIsReadAgain, IsReadAgain, PollIsReadAgain}
-use Rattle.sctp_assoc.specs.Gather.{ack_after, ack_polled, after_both, control_packets, data_polled, exchange_polled}
+use Rattle.sctp_assoc.specs.Gather.{ack_after, ack_polled, after_both, control_polled, data_polled, exchange_polled}
 use Rattle.sctp_assoc.specs.Gather.{forward_after, forward_chunk, forward_polled, forwards_given, is_due, packet_bytes}
-use Rattle.sctp_assoc.specs.Gather.{polled, sack_packet, without_control}
+use Rattle.sctp_assoc.specs.Gather.{polled, requests_after, requests_polled, sack_packet, without_control}
 use Rattle.sctp_assoc.specs.Happened.{Polls, PollsOn, acks_given, acts_of_ack, acts_of_data_poll}
-use Rattle.sctp_assoc.specs.Happened.{acts_of_forwarding, acts_of_poll, exchange_given, forwards_of_poll, packets_given}
+use Rattle.sctp_assoc.specs.Happened.{acts_of_forwarding, acts_of_poll, exchange_given, forwards_of_poll}
+use Rattle.sctp_assoc.specs.Happened.{AsksForNothing, requests_given}
 use Rattle.sctp_assoc.specs.Leads.{Binds, Leads, parts}
+use Rattle.sctp_wire_types.specs.declared.param.ParamOutgoingResetRequest.{ParamOutgoingResetRequest}
+use Rattle.sctp_reset_requests.specs.Own.{OwnView}
+use Rattle.sctp_assoc.specs.declared.control.Control.{Control}
+use Rattle.sctp_assoc.specs.Resets.{with_reconfig_run}
 use Rattle.sctp_assoc.specs.Shown.{Shown}
 use Rattle.sctp_assoc.proofs.ActsKeepOffsets.{acts_tied, given_append}
 use Rattle.sctp_assoc.proofs.Giving.{Gives}
-use Rattle.sctp_assoc.proofs.Leading.{leads_by, leads_nowhere, leads_on, past_itself}
+use Rattle.sctp_assoc.proofs.Leading.{leads_beside, leads_by, leads_nowhere, leads_on, past_itself}
 use Rattle.sctp_assoc.proofs.MarksOutstanding.{AreMarkedRight, acts_marked}
+use Rattle.sctp_assoc.proofs.GivenApart.{again_with, control_changes, with_own_control}
+use Rattle.sctp_assoc.proofs.PartsOfPolls.{ack_sender, acked_if, after_ack, after_forward, both_first, both_second}
+use Rattle.sctp_assoc.proofs.PartsOfPolls.{reconfig_run_leaves, requests_leave}
 use Rattle.sctp_assoc.proofs.PolledSteps.{IsSentBeside, data_of_poll, data_poll_carries, data_poll_gives}
 use Rattle.sctp_assoc.proofs.PolledSteps.{data_poll_stays}
+use Rattle.sctp_assoc.proofs.QuietRequests.{none_requested, own_stays}
+use Rattle.sctp_assoc.proofs.RequestsGiven.{beside_requests, parts_left, requests_of, requests_said}
 use Rattle.sctp_assoc.proofs.WhatCame.{same_held}
 
-pub both_first : (packets : List (List ℕ)) (x : Shown × List (List ℕ)) → (after_both packets x).0 ≡ x.0
-both_first packets (a, more) = refl
-
-pub both_second : (packets : List (List ℕ)) (x : Shown × List (List ℕ)) → (after_both packets x).1 ≡ packets ++ x.1
-both_second packets (a, more) = refl
-
-abbrev acked_if : Bool → Shown → Shown × List (List ℕ)
-acked_if due b = if due then (record b { receiver = acknowledged b.receiver }, sack_packet b) else (b, [])
-
 abbrev polled_if : Bool → Shown → ℕ → Shown × List (List ℕ)
-polled_if c a now = if c then forward_after (ack_after (data_polled a now)) else (a, [])
+polled_if c a now = if c then forward_after (ack_after (requests_after (data_polled a now))) else (a, [])
 
 ack_leads_if : (due : Bool) (b : Shown) (h : History) → Binds b h
     → Leads (if due then Act.Reported ∷ [] else []) b h (acked_if due b).0 h
@@ -67,16 +68,6 @@ unfolding ack_polled
 ack_said b = ack_said_if (is_due b.receiver.ack_state) b
 
 -- FORWARD TSN
-
-ack_sender_if : (due : Bool) (b : Shown)
-    → ((acked_if due b).0.sender ≡ b.sender) × ((acked_if due b).0.handshake ≡ b.handshake)
-ack_sender_if true b = (refl, refl)
-ack_sender_if false b = (refl, refl)
-
-pub ack_sender : (b : Shown)
-    → ((ack_polled b).0.sender ≡ b.sender) × ((ack_polled b).0.handshake ≡ b.handshake)
-unfolding ack_polled
-ack_sender b = ack_sender_if (is_due b.receiver.ack_state) b
 
 positive_front : (p : InFlight) (ps : List InFlight) → p.abandoned ≡ true → 0 < abandoned_in_front_of (p ∷ ps)
 positive_front p ps e = rw e (omega arith)
@@ -131,10 +122,10 @@ pieces_said xs a forwards p q given gives =
     ∙ append-nil (all_data_given xs p) ∙ gives.said
 
 -- DATA, and then the acknowledgement
-acked_of : (x : Shown × List (List ChunkPayloadData)) (xs : List Act) (a : Shown) (h : History)
-    (given : List ChunkPayloadData) → IsSentBeside a x.0 → Binds a h → Gives xs (parts a h) (parts x.0 h) given
-    → Leads (xs ++ acts_of_ack a) a h (ack_polled x.0).0 h
-acked_of (b, bundles) xs a h given same binds gives =
+acked_of : (b : Shown) (xs : List Act) (a : Shown) (h : History) (given : List ChunkPayloadData) → IsSentBeside a b
+    → Binds a h → Gives xs (parts a h) (parts b h) given
+    → Leads (xs ++ acts_of_ack a) a h (ack_polled b).0 h
+acked_of b xs a h given same binds gives =
     let mid : Leads xs a h b h = record {
       can = gives.can;
       there = gives.there;
@@ -152,48 +143,65 @@ acked_of (b, bundles) xs a h given same binds gives =
     let ack : Leads (acts_of_ack a) b h (ack_polled b).0 h = rw (← same.acts) (ack_leads b h mid.binds) in
     leads_on xs (acts_of_ack a) mid ack
 
--- FORWARD TSN behind other packets
-pub after_forward : (first : List (List ℕ)) (y : Shown × List (List ℕ))
-    → forward_after (after_both first y) ≡ after_both (first ++ y.1) (forward_polled y.0)
-after_forward first (c, more) = refl
+-- requests to reset streams, the acknowledgement and FORWARD TSN behind packets of DATA
+exchange_behind : (first : List (List ℕ)) (y : Shown × List (List ℕ))
+    → forward_after (ack_after (after_both first y))
+    ≡ after_both (first ++ y.1 ++ (ack_polled y.0).1) (forward_polled (ack_polled y.0).0)
+exchange_behind first y =
+    ap forward_after (after_ack first y) ∙ after_forward (first ++ y.1) (ack_polled y.0)
 
--- the packets of DATA, of the acknowledgement and of FORWARD TSN
+-- the packets of DATA, of the requests, of the acknowledgement and of FORWARD TSN
 pub packets_said : (x : Shown × List (List ChunkPayloadData)) (a : Shown) → IsSentBeside a x.0
-    → (forward_after (ack_after x)).1
-    ≡ datagrams_of (header_of a.handshake) x.1 ++ acks_given a
+    → (forward_after (ack_after (requests_after x))).1
+    ≡ datagrams_of (header_of a.handshake) x.1 ++ requests_given (header_of a.handshake) (requests_of x.0)
+    ++ acks_given a
     ++ (if gives_forward x.0.sender then packet_bytes (header_of a.handshake) (forward_chunk x.0) else [])
 packets_said (b, bundles) a same =
-    let acked = ack_polled b in
-    let stays = ack_sender b in
+    let y = (requests_polled b).0 in
+    let rest = requests_leave b in
+    let acked = ack_polled y in
+    let sender : acked.0.sender ≡ b.sender = (ack_sender y).0 ∙ rest.sender in
+    let handshake : acked.0.handshake ≡ b.handshake = (ack_sender y).1 ∙ rest.handshake in
+    let acks : acked.1 ≡ acks_given a = ack_said y ∙ (beside_requests a b y same rest).acks in
     let first = datagrams_of (header_of b.handshake) bundles in
-    ap (λ (z : Shown × List (List ℕ)). z.1) (after_forward first acked)
-    ∙ both_second (first ++ acked.1) (forward_polled acked.0)
-    ∙ ap (λ (z : List (List ℕ)). first ++ acked.1 ++ z) (forward_said acked.0)
-    ∙ ap (λ (z : List (List ℕ)). first ++ z ++ forwards_given acked.0) (ack_said b ∙ same.acks)
-    ∙ ap (λ (s : Sender). first ++ acks_given a ++ (if gives_forward s then
-    packet_bytes (header_of acked.0.handshake) (chunks.ForwardTsn (forward_of s)) else [])) stays.0
-    ∙ ap (λ (k : Handshake). first ++ acks_given a ++ (if gives_forward b.sender then
-    packet_bytes (header_of k) (forward_chunk b) else [])) (stays.1 ∙ same.handshake)
-    ∙ ap (λ (k : Handshake). datagrams_of (header_of k) bundles ++ acks_given a ++ (if gives_forward b.sender then
+    let requests = requests_given (header_of b.handshake) (requests_of b) in
+    ap (λ (z : Shown × List (List ℕ)). z.1) (exchange_behind first (requests_polled b))
+    ∙ both_second (first ++ (requests_polled b).1 ++ acked.1) (forward_polled acked.0)
+    ∙ ap (λ (z : List (List ℕ)). first ++ (requests_polled b).1 ++ acked.1 ++ z) (forward_said acked.0)
+    ∙ ap (λ (z : List (List ℕ)). first ++ z ++ acked.1 ++ forwards_given acked.0) (requests_said b)
+    ∙ ap (λ (z : List (List ℕ)). first ++ requests ++ z ++ forwards_given acked.0) acks
+    ∙ ap (λ (s : Sender). first ++ requests ++ acks_given a ++ (if gives_forward s then
+    packet_bytes (header_of acked.0.handshake) (chunks.ForwardTsn (forward_of s)) else [])) sender
+    ∙ ap (λ (k : Handshake). first ++ requests ++ acks_given a ++ (if gives_forward b.sender then
+    packet_bytes (header_of k) (forward_chunk b) else [])) (handshake ∙ same.handshake)
+    ∙ ap (λ (k : Handshake). datagrams_of (header_of k) bundles ++ requests_given (header_of k) (requests_of b)
+    ++ acks_given a ++ (if gives_forward b.sender then
     packet_bytes (header_of a.handshake) (forward_chunk b) else [])) same.handshake
 
 pub after_is : (x : Shown × List (List ChunkPayloadData))
-    → (forward_after (ack_after x)).0 ≡ (forward_polled (ack_polled x.0).0).0
+    → (forward_after (ack_after (requests_after x))).0
+    ≡ (forward_polled (ack_polled (requests_polled x.0).0).0).0
 after_is (b, bundles) =
-    ap (λ (z : Shown × List (List ℕ)). z.0)
-    (after_forward (datagrams_of (header_of b.handshake) bundles) (ack_polled b))
-    ∙ both_first (datagrams_of (header_of b.handshake) bundles ++ (ack_polled b).1) (forward_polled (ack_polled b).0)
+    let first = datagrams_of (header_of b.handshake) bundles in
+    let y = requests_polled b in
+    ap (λ (z : Shown × List (List ℕ)). z.0) (exchange_behind first y)
+    ∙ both_first (first ++ y.1 ++ (ack_polled y.0).1) (forward_polled (ack_polled y.0).0)
 
 poll_of : (x : Shown × List (List ChunkPayloadData)) (xs : List Act) (a : Shown) (h : History)
     (given : List ChunkPayloadData) → IsSentBeside a x.0 → Binds a h → Gives xs (parts a h) (parts x.0 h) given
-    → Leads (xs ++ acts_of_ack a ++ acts_of_forwarding (gives_forward x.0.sender)) a h (forward_after (ack_after x)).0 h
+    → Leads (xs ++ acts_of_ack a ++ acts_of_forwarding (gives_forward x.0.sender)) a h
+    (forward_after (ack_after (requests_after x))).0 h
 poll_of x xs a h given same binds gives =
-    let acked = acked_of x xs a h given same binds gives in
-    let stays = ack_sender x.0 in
-    let forward : Leads (acts_of_forwarding (gives_forward x.0.sender)) (ack_polled x.0).0 h
-    (forward_polled (ack_polled x.0).0).0 h =
-    subst (λ (s : Sender). Leads (acts_of_forwarding (gives_forward s)) (ack_polled x.0).0 h
-    (forward_polled (ack_polled x.0).0).0 h) stays.0 (forwarding_leads (ack_polled x.0).0 h acked.binds) in
+    let y = (requests_polled x.0).0 in
+    let rest = requests_leave x.0 in
+    let gives_still : Gives xs (parts a h) (parts y h) given =
+    subst (λ (p : Parts). Gives xs (parts a h) p given) (sym (parts_left x.0 y h rest)) gives in
+    let acked = acked_of y xs a h given (beside_requests a x.0 y same rest) binds gives_still in
+    let stays : (ack_polled y).0.sender ≡ x.0.sender = (ack_sender y).0 ∙ rest.sender in
+    let forward : Leads (acts_of_forwarding (gives_forward x.0.sender)) (ack_polled y).0 h
+    (forward_polled (ack_polled y).0).0 h =
+    subst (λ (s : Sender). Leads (acts_of_forwarding (gives_forward s)) (ack_polled y).0 h
+    (forward_polled (ack_polled y).0).0 h) stays (forwarding_leads (ack_polled y).0 h acked.binds) in
     subst
     (λ (b : Shown). Leads (xs ++ acts_of_ack a ++ acts_of_forwarding (gives_forward x.0.sender)) a h b h)
     (sym (after_is x))
@@ -202,6 +210,9 @@ poll_of x xs a h given same binds gives =
 -- what the packets of DATA carry that a poll gives in a state that is Established or not
 abbrev bundles_if : Bool → Shown → ℕ → List (List ChunkPayloadData)
 bundles_if c a now = if c then (data_polled a now).1 else []
+
+abbrev requests_if : Bool → Shown → ℕ → List ParamOutgoingResetRequest
+requests_if c a now = if c then requests_of (data_polled a now).0 else []
 
 abbrev forwards_if : Bool → Shown → ℕ → Bool
 forwards_if c a now = c && gives_forward (data_polled a now).0.sender
@@ -233,26 +244,30 @@ module _ (a : Shown) (now : ℕ) (h : History) (binds : Binds a h) where
 
 -- the FORWARD TSN after a poll is that of what is in flight once DATA was selected
 forward_of_after : (x : Shown × List (List ChunkPayloadData))
-    → forward_chunk (forward_after (ack_after x)).0 ≡ forward_chunk x.0
+    → forward_chunk (forward_after (ack_after (requests_after x))).0 ≡ forward_chunk x.0
 forward_of_after x =
-    ap forward_chunk (after_is x) ∙ forward_chunk_stays (ack_polled x.0).0
-    ∙ ap (λ (s : Sender). chunks.ForwardTsn (forward_of s)) (ack_sender x.0).0
+    let y = (requests_polled x.0).0 in
+    ap forward_chunk (after_is x) ∙ forward_chunk_stays (ack_polled y).0
+    ∙ ap (λ (s : Sender). chunks.ForwardTsn (forward_of s)) ((ack_sender y).0 ∙ (requests_leave x.0).sender)
 
 said_if : (c : Bool) (a : Shown) (now : ℕ)
     → (polled_if c a now).1
-    ≡ (if c then datagrams_of (header_of a.handshake) (bundles_if c a now) ++ acks_given a
+    ≡ (if c then datagrams_of (header_of a.handshake) (bundles_if c a now)
+    ++ requests_given (header_of a.handshake) (requests_if c a now) ++ acks_given a
     ++ (if forwards_if c a now then packet_bytes (header_of a.handshake) (forward_chunk (polled_if c a now).0) else [])
     else [])
 said_if true a now =
     packets_said (data_polled a now) a (data_poll_stays a now)
-    ∙ ap (λ (z : Chunk). datagrams_of (header_of a.handshake) (data_polled a now).1 ++ acks_given a
+    ∙ ap (λ (z : Chunk). datagrams_of (header_of a.handshake) (data_polled a now).1
+    ++ requests_given (header_of a.handshake) (requests_of (data_polled a now).0) ++ acks_given a
     ++ (if gives_forward (data_polled a now).0.sender then packet_bytes (header_of a.handshake) z else []))
     (sym (forward_of_after (data_polled a now)))
 said_if false a now = refl
 
 exchange_said : (a : Shown) (now : ℕ)
     → (exchange_polled a now).1
-    ≡ exchange_given a (bundles_if (is_established a.state) a now) (forwards_of_poll a now) (exchange_polled a now).0
+    ≡ exchange_given a (bundles_if (is_established a.state) a now) (requests_if (is_established a.state) a now)
+    (forwards_of_poll a now) (exchange_polled a now).0
 unfolding exchange_polled
 exchange_said a now = said_if (is_established a.state) a now
 
@@ -273,9 +288,11 @@ forward_again_if true a now again e =
     let due : gives_forward (ack_polled b).0.sender ≡ true = ap gives_forward stays.0 ∙ e in
     let header : header_of (ack_polled b).0.handshake ≡ header_of a.handshake =
     ap header_of (stays.1 ∙ (data_poll_stays a now).handshake) in
-    let chunk : forward_chunk (ack_polled b).0 ≡ forward_chunk (forward_after (ack_after (data_polled a now))).0 =
+    let chunk : forward_chunk (ack_polled b).0
+    ≡ forward_chunk (forward_after (ack_after (requests_after (data_polled a now)))).0 =
     ap (λ (s : Sender). chunks.ForwardTsn (forward_of s)) stays.0 ∙ sym (forward_of_after (data_polled a now)) in
-    subst (λ (k : CommonHeader). IsReadAgain k (forward_chunk (forward_after (ack_after (data_polled a now))).0)) header
+    subst (λ (k : CommonHeader).
+    IsReadAgain k (forward_chunk (forward_after (ack_after (requests_after (data_polled a now)))).0)) header
     (subst (IsReadAgain (header_of (ack_polled b).0.handshake)) chunk (again refl due))
 
 forward_again : (a : Shown) (now : ℕ) → PollIsReadAgain a now → forwards_of_poll a now ≡ true
@@ -283,47 +300,115 @@ forward_again : (a : Shown) (now : ℕ) → PollIsReadAgain a now → forwards_o
 unfolding exchange_polled
 forward_again a now again e = forward_again_if (is_established a.state) a now (λ c. (again c).2) e
 
--- what waits beside changes nothing that the directions see
-beside_control : (xs : List Act) (a b c : Shown) (h k : History) → Leads xs (without_control a) h b k → c ≡ b
-    → Leads xs a h c k
-beside_control xs a b c h k m e = rw e (record { can = m.can; there = m.there; binds = m.binds })
+-- the timer of a request to reset streams changes nothing that the directions see
+beside_timer : (xs : List Act) (a b : Shown) (now : ℕ) (h k : History) → Leads xs a h b k
+    → Leads xs a h (with_reconfig_run b now) k
+beside_timer xs a b now h k m =
+    let rest = reconfig_run_leaves b now in
+    leads_beside xs a b (with_reconfig_run b now) h k (parts_left b (with_reconfig_run b now) k rest)
+    (ap past_of rest.receiver) m
 
--- what waits beside has no part in whether FORWARD TSN is due
-forwards_same : (a : Shown) (now : ℕ) → forwards_of_poll (without_control a) now ≡ forwards_of_poll a now
+-- nor do the requests of this side, and what waits beside DATA
+beside_control : (xs : List Act) (a b c : Shown) (h k : History) (own : OwnView) (control : List Control)
+    → c ≡ with_own_control (without_control a) own control → Leads xs c h b k → Leads xs a h b k
+beside_control xs a b c h k own control e m =
+    let n = subst (λ (z : Shown). Leads xs z h b k) e m in
+    record { can = n.can; there = n.there; binds = n.binds }
+
+-- what a poll gives and does rests on none of that
+acts_apart : (a : Shown) (own : OwnView) (control : List Control) (now : ℕ)
+    → acts_of_poll (with_own_control (without_control a) own control) now ≡ acts_of_poll a now
 unfolding data_polled
-forwards_same a now = refl
+acts_apart a own control now = refl
+
+forwards_apart : (a : Shown) (own : OwnView) (control : List Control) (now : ℕ)
+    → forwards_of_poll (with_own_control (without_control a) own control) now ≡ forwards_of_poll a now
+unfolding data_polled
+forwards_apart a own control now = refl
+
+-- an association that stands on a history polls, with these requests of its own and this in front of DATA
+module _ (a : Shown) (own : OwnView) (control : List Control) (now : ℕ) (h : History) (given : List (List ℕ))
+    (given_is : given ≡ (control_polled a).1) (again : PollIsReadAgain (without_control a) now) (binds : Binds a h)
+    (own_is : a.resets.own.queued ≡ [] → own ≡ a.resets.own)
+  where
+    polls_with : (b : Shown) → b ≡ with_own_control (without_control a) own control
+        → Polls (acts_of_poll b now) (forwards_of_poll b now) a h (with_reconfig_run (exchange_polled b now).0 now)
+        (given ++ (exchange_polled b now).1)
+    polls_with b e =
+        let bound : Binds (with_own_control (without_control a) own control) h = record {
+          first = binds.first;
+          peer_last_tsn = binds.peer_last_tsn;
+          held = binds.held;
+          marked = binds.marked;
+        } in
+        let stands : Binds b h = subst (λ (z : Shown). Binds z h) (sym e) bound in
+        let same_parts : parts b h ≡ parts a h = ap (λ (z : Shown). parts z h) e in
+        let said_again : PollIsReadAgain b now =
+        subst (λ (z : Shown). PollIsReadAgain z now) (sym e) (again_with (without_control a) own control now again) in
+        let established : is_established b.state ≡ is_established a.state =
+        ap (λ (z : Shown). is_established z.state) e in
+        let header : header_of b.handshake ≡ header_of a.handshake = ap (λ (z : Shown). header_of z.handshake) e in
+        let after = (exchange_polled b now).0 in
+        let last = with_reconfig_run after now in
+        let chunk : forward_chunk after ≡ forward_chunk last =
+        ap (λ (s : Sender). chunks.ForwardTsn (forward_of s)) (sym (reconfig_run_leaves after now).sender) in
+        let bundles = bundles_if (is_established b.state) b now in
+        let requests = requests_if (is_established b.state) b now in
+        let forwards = forwards_of_poll b now in
+        record {
+          leads =
+              beside_control (acts_of_poll b now) a last b h h own control e
+              (beside_timer (acts_of_poll b now) b after now h h (exchange_leads b now h stands));
+          bundles = bundles;
+          joined =
+              joined_if b now h stands (is_established b.state)
+              ∙ ap (λ (p : Parts). filter data_fits (all_data_given (acts_of_poll b now) p)) same_parts;
+          requests = requests;
+          quiet = λ asks_nothing.
+              none_requested (is_established b.state) b now
+              (subst AsksForNothing (sym (ap (λ (z : Shown). z.resets.own) e ∙ own_is asks_nothing.1)) asks_nothing);
+          said =
+              ap (λ (z : List (List ℕ)). z ++ (exchange_polled b now).1) given_is
+              ∙ ap (λ (z : List (List ℕ)). (control_polled a).1 ++ z)
+              (exchange_said b now
+              ∙ ap (λ (z : Shown). exchange_given z bundles requests forwards after) e
+              ∙ ap (λ (z : Chunk). if is_established a.state then
+              datagrams_of (header_of a.handshake) bundles ++ requests_given (header_of a.handshake) requests
+              ++ acks_given a ++ (if forwards then packet_bytes (header_of a.handshake) z else []) else []) chunk);
+          data_again = λ c.
+              subst (λ (k : CommonHeader). AreReadAgain k bundles) header
+              (data_again_if (is_established b.state) b now (established ∙ c) (said_again (established ∙ c)).0);
+          ack_again = λ c.
+              (data_poll_stays (without_control a) now).again (again c).1;
+          forward_again = λ c.
+              subst (λ (z : Chunk). IsReadAgain (header_of a.handshake) z) chunk
+              (subst (λ (k : CommonHeader). IsReadAgain k (forward_chunk after)) header
+              (forward_again b now said_again c));
+        }
 
 polls : (a : Shown) (now : ℕ) (h : History) → PollIsReadAgain (without_control a) now → Binds a h
     → Polls (acts_of_poll a now) (forwards_of_poll a now) a h (polled a now).0 (polled a now).1
 polls a now h again binds =
-    let b : Shown = without_control a in
-    let bound : Binds b h = record {
-      first = binds.first;
-      peer_last_tsn = binds.peer_last_tsn;
-      held = binds.held;
-      marked = binds.marked;
-    } in
-    let after = both_first (control_packets a.control) (exchange_polled b now) in
-    subst (λ f. Polls (if is_established a.state then
-    acts_of_data_poll a now ++ acts_of_ack a ++ acts_of_forwarding f else []) f a h (polled a now).0 (polled a now).1)
-    (forwards_same a now)
-    (record {
-      leads =
-          beside_control (acts_of_poll b now) a (exchange_polled b now).0 (polled a now).0 h h
-          (exchange_leads b now h bound) after;
-      bundles = bundles_if (is_established b.state) b now;
-      joined = joined_if b now h bound (is_established b.state);
-      said =
-          both_second (control_packets a.control) (exchange_polled b now)
-          ∙ ap (λ (z : List (List ℕ)). control_packets a.control ++ z) (exchange_said b now)
-          ∙ ap (λ (z : Shown). packets_given a (bundles_if (is_established b.state) b now) (forwards_of_poll b now) z)
-          (sym after);
-      data_again = λ e. data_again_if (is_established b.state) b now e (again e).0;
-      ack_again = λ e. (data_poll_stays b now).again (again e).1;
-      forward_again =
-          λ e. subst (λ (z : Shown). IsReadAgain (header_of a.handshake) (forward_chunk z)) (sym after)
-          (forward_again b now again e);
-    })
+    let b : Shown = (control_polled a).0 in
+    let own = b.resets.own in
+    let control = b.control in
+    let e = control_changes a in
+    let given = (control_polled a).1 in
+    let after = exchange_polled b now in
+    let acts : acts_of_poll b now ≡ acts_of_poll a now =
+    ap (λ (z : Shown). acts_of_poll z now) e ∙ acts_apart a own control now in
+    let forwards : forwards_of_poll b now ≡ forwards_of_poll a now =
+    ap (λ (z : Shown). forwards_of_poll z now) e ∙ forwards_apart a own control now in
+    let here = polls_with a own control now h given refl again binds (own_stays a) b e in
+    let first : (polled a now).0 ≡ with_reconfig_run after.0 now =
+    ap (λ (z : Shown). with_reconfig_run z now) (both_first given after) in
+    let second : (polled a now).1 ≡ given ++ after.1 = both_second given after in
+    subst (λ (c : Shown). Polls (acts_of_poll a now) (forwards_of_poll a now) a h c (polled a now).1) (sym first)
+    (subst (λ (z : List (List ℕ)). Polls (acts_of_poll a now) (forwards_of_poll a now) a h
+    (with_reconfig_run after.0 now) z) (sym second)
+    (subst (λ (f : Bool). Polls (acts_of_poll a now) f a h (with_reconfig_run after.0 now) (given ++ after.1)) forwards
+    (subst (λ (xs : List Act). Polls xs (forwards_of_poll b now) a h (with_reconfig_run after.0 now)
+    (given ++ after.1)) acts here)))
 
 pub polls_on : (a b : Shown) (now : ℕ) (packets : List (List ℕ)) → polled a now ≡ (b, packets)
     → AreControlReadAgain a.control → PollIsReadAgain (without_control a) now

@@ -1,5 +1,5 @@
 -- What the calls of an application do to an association.
-use Rattle.std.specs.Prelude.{◌≡◌, ◌⊎◌, ℕ, Bool, true, false, List, [], ◌∷◌, ◌++◌, ◌&&◌, ◌==◌, if◌then◌else◌, length}
+use Rattle.std.specs.Prelude.{◌≡◌, ◌⊎◌, ℕ, Bool, true, false, List, [], ◌∷◌, ◌++◌, ◌&&◌, ◌||◌, ◌==◌, if◌then◌else◌, length}
 use Rattle.std.specs.Prelude.{not}
 use Rattle.std.specs.Prelude.{drop, nat_lt, is_some, Option, Some, None, Result, Ok, Err}
 use Rattle.sctp_wire_types.specs.declared.error.Error.{Error}
@@ -24,11 +24,15 @@ use Rattle.sctp_outbound_queue.specs.Waiting.{Waiting}
 use Rattle.sctp_receive_queues.specs.Messages.{ReceivedMessage}
 use Rattle.sctp_receive_queues.specs.Reassembly.{ready}
 use Rattle.sctp_streams.specs.Stream.{StreamView, accepted_by, is_read_half_open, is_write_half_open, reaches_high_mark}
-use Rattle.sctp_streams.specs.Stream.{with_setting}
+use Rattle.sctp_streams.specs.Stream.{with_halves, with_setting, without_read_half}
 use Rattle.sctp_streams.specs.Streams.{StreamMap, changed_stream, generation_left, made, read_in, stream_at}
 use Rattle.sctp_inbound.specs.Receiver.{acknowledged_at_once}
 use Rattle.sctp_directions.specs.Acts.{message_of, type_on}
+use Rattle.sctp_resets.specs.Channels.{channels}
+use Rattle.sctp_resets.specs.Resets.{ResetsView, event_told, is_blocked, is_retiring, read_out, stopped_reading}
+use Rattle.sctp_resets.specs.Resets.{waiting_for}
 use Rattle.sctp_assoc.specs.Closing.{is_exhausted, relieved}
+use Rattle.sctp_assoc.specs.Resets.{with_beside, with_resetting}
 use Rattle.sctp_assoc.specs.Shown.{HasFailed, Shown, answers_of, uses_forward_tsn}
 
 -- a call with a Result is refused on a failed association before anything else
@@ -125,6 +129,7 @@ abbrev pub open_refusal : Shown → ℕ → Option Error
 open_refusal a id =
     if a.failed then Some errors.ErrAssociationFailed else
     if is_some (stream_at a.streams id) then Some errors.ErrStreamAlreadyExist else
+    if is_blocked a.resets id then Some errors.ErrStreamResetPending else
     if generation_left a.streams then None else Some errors.ErrStreamCreateFailed
 
 -- why no stream is lent
@@ -142,17 +147,29 @@ abbrev pub read_refusal : Shown → ℕ → Option Error
 read_refusal a id =
     if a.failed then Some errors.ErrAssociationFailed else read_refusal_at (stream_at a.streams id)
 
-abbrev pub after_read : Shown → StreamMap × Option ReceivedMessage → Shown × Option ReceivedMessage
-after_read a (streams, None) = (record a { streams = streams }, None)
-after_read a (streams, Some message) = (relieved (record a { streams = streams }), Some message)
+-- behind a read that left these streams, the generations of the stream that ended and of which no byte waits are over
+abbrev pub drained_behind : Shown → ℕ → StreamMap → Shown
+drained_behind a id streams =
+    with_resetting a
+    (read_out a.sender.queue.next_message_id a.receiver.max_receive_message_size id a.resets
+    (channels streams a.events a.to_accept))
+
+abbrev pub after_read : Shown → ℕ → StreamMap × Option ReceivedMessage → Shown × Option ReceivedMessage
+after_read a id (streams, None) = (drained_behind a id streams, None)
+after_read a id (streams, Some message) = (relieved (drained_behind a id streams), Some message)
 
 -- what a read leaves and gives; one that gives a message may leave a buffer that is exhausted, and that closes
 abbrev pub read_from_stream : Shown → ℕ → Shown × Option ReceivedMessage
-read_from_stream a id = after_read a (read_in a.streams id)
+read_from_stream a id = after_read a id (read_in a.streams id)
 
 -- a read that gives a message leaves the receive buffer exhausted
 abbrev pub read_exhausts : Shown → ℕ → Bool
-read_exhausts a id = is_some (read_in a.streams id).1 && is_exhausted (record a { streams = (read_in a.streams id).0 })
+read_exhausts a id =
+    is_some (read_in a.streams id).1 && is_exhausted (drained_behind a id (read_in a.streams id).0)
+
+-- a read may take memory: it closes, or ends a generation of the stream
+abbrev pub read_takes_memory : Shown → ℕ → Bool
+read_takes_memory a id = read_exhausts a id || is_retiring a.resets id
 
 abbrev pub ready_of : Option StreamView → List ReceivedMessage
 ready_of None = []
@@ -167,16 +184,20 @@ size_refusal a size =
     if size == 0 then Some errors.ErrEmptyMessage else
     if nat_lt a.max_send_message_size size then Some errors.ErrOutboundPacketTooLarge else None
 
-abbrev pub write_refusal_at : Shown → Option StreamView → ℕ → Option Error
-write_refusal_at a None size = Some errors.ErrStreamClosed
-write_refusal_at a (Some s) size =
-    if not (is_write_half_open s.halves) then Some errors.ErrStreamClosed else
-    if is_established a.state then size_refusal a size else Some errors.ErrPayloadDataStateNotExist
+abbrev pub state_refusal : Shown → ℕ → ℕ → Option Error
+state_refusal a id size =
+    if not (is_established a.state) then Some errors.ErrPayloadDataStateNotExist else
+    if is_blocked a.resets id then Some errors.ErrStreamResetPending else size_refusal a size
+
+abbrev pub write_refusal_at : Shown → Option StreamView → ℕ → ℕ → Option Error
+write_refusal_at a None id size = Some errors.ErrStreamClosed
+write_refusal_at a (Some s) id size =
+    if is_write_half_open s.halves then state_refusal a id size else Some errors.ErrStreamClosed
 
 -- why a write of this size is refused, want of memory aside
 abbrev pub write_refusal : Shown → ℕ → ℕ → Option Error
 write_refusal a id size =
-    if a.failed then Some errors.ErrAssociationFailed else write_refusal_at a (stream_at a.streams id) size
+    if a.failed then Some errors.ErrAssociationFailed else write_refusal_at a (stream_at a.streams id) id size
 
 -- a call of a stream by its identifier is refused as the call that lends the stream is, else for a reason of its own
 abbrev pub first_refusal : Option Error → Option Error → Option Error
@@ -258,6 +279,10 @@ holds_at of (Some s) = of s
 abbrev pub holds_of : (StreamView → Bool) → Shown → ℕ → Bool
 holds_of of a id = holds_at of (stream_at a.streams id)
 
+-- its write half is open, and no reset of it is open
+abbrev pub is_writable : Shown → ℕ → Bool
+is_writable a id = holds_of (λ s. is_write_half_open s.halves) a id && not (is_blocked a.resets id)
+
 abbrev pub accepted_from : List ℕ → Shown → Shown × Option ℕ
 accepted_from [] a = (a, None)
 accepted_from (id ∷ ids) a = (record a { to_accept = ids }, Some id)
@@ -283,14 +308,15 @@ abbrev pub fault_told : Option Error → Option Event
 fault_told None = None
 fault_told (Some fault) = Some (HandshakeFailed (reasons.HandshakeFailed fault))
 
-abbrev pub event_from : List Event → Shown → Shown × Option Event
-event_from [] a = (record a { handshake_fault = None }, fault_told a.handshake_fault)
-event_from (e ∷ es) a = (record a { events = es }, Some e)
+abbrev pub event_from : ResetsView × List Event × Option Event → Shown → Shown × Option Event
+event_from (r, left, None) a =
+    (record a { resets = r; events = left; handshake_fault = None }, fault_told a.handshake_fault)
+event_from (r, left, Some e) a = (record a { resets = r; events = left }, Some e)
 
--- what is left after a poll for events, and what it gives: the oldest event, and with none left that the handshake
--- failed, once
+-- what is left after a poll for events, and what it gives: the oldest event that does not wait for its stream, and with
+-- none left that the handshake failed, once
 abbrev pub event_polled : Shown → Shown × Option Event
-event_polled a = event_from a.events a
+event_polled a = event_from (event_told a.resets a.events) a
 
 -- why a call that a failed association alone refuses is refused
 abbrev pub failed_refusal : Shown → Option Error
@@ -301,9 +327,52 @@ failed_refusal a = if a.failed then Some errors.ErrAssociationFailed else None
 abbrev pub RefusesRead : Shown → ℕ → Error → Shown → Type 0
 RefusesRead a id error b =
     ((read_refusal a id ≡ Some error) × (b ≡ a))
-    ⊎ ((read_refusal a id ≡ None) × (read_exhausts a id ≡ true) × (error ≡ errors.ErrNoMemory)
+    ⊎ ((read_refusal a id ≡ None) × (read_takes_memory a id ≡ true) × (error ≡ errors.ErrNoMemory)
     × HasFailed (answers_of a) b)
 
--- what is left after a read that was carried out gives the other messages one after another, unless the read closed
+-- what is left after a read that was carried out gives the other messages one after another, unless the read closed, or
+-- the stream's generation ended and is read to its end
 abbrev pub LeavesTheOthers : Shown → ℕ → Shown → Type 0
-LeavesTheOthers a id b = (read_exhausts a id ≡ true) ⊎ (ready_messages b id ≡ drop 1 (ready_messages a id))
+LeavesTheOthers a id b = (read_takes_memory a id ≡ true) ⊎ (ready_messages b id ≡ drop 1 (ready_messages a id))
+
+-- The application stops a stream.
+
+-- why a stream is not stopped
+abbrev pub stop_refusal_at : Shown → ℕ → Option StreamView → Option Error
+stop_refusal_at a id None = Some errors.ErrStreamClosed
+stop_refusal_at a id (Some s) =
+    if is_read_half_open s.halves && not (is_retiring a.resets id) && not (is_established a.state) then
+    Some errors.ErrResetPacketInStateNotExist
+    else None
+
+abbrev pub stop_refusal : Shown → ℕ → Option Error
+stop_refusal a id =
+    if a.failed then Some errors.ErrAssociationFailed else stop_refusal_at a id (stream_at a.streams id)
+
+abbrev pub without_read_half_of : Shown → ℕ → Shown
+without_read_half_of a id =
+    record a { streams = changed_stream (λ s. with_halves s (without_read_half s.halves)) a.streams id }
+
+-- The read half closes. A stream whose generation ended is read no more; another one is to be reset (RFC 6525 section
+-- 5.1).
+abbrev pub stopped_open : Shown → ℕ → Shown
+stopped_open a id =
+    (let b = without_read_half_of a id in
+    if is_retiring a.resets id then with_beside b (stopped_reading id b.resets b.streams b.events) else
+    record b { resets = waiting_for b.resets id })
+
+-- so it is where the read half is open; else nothing changes
+abbrev pub stopped : Shown → ℕ → Shown
+stopped a id =
+    if holds_of (λ s. is_read_half_open s.halves) a id then relieved (stopped_open a id) else a
+
+-- it may leave the association failed where the read half is open
+abbrev pub stop_takes_memory : Shown → ℕ → Bool
+stop_takes_memory a id = holds_of (λ s. is_read_half_open s.halves) a id
+
+-- a stop was refused by a rule, and nothing changed; or memory was refused in its middle: the association failed
+abbrev pub RefusesStop : Shown → ℕ → Error → Shown → Type 0
+RefusesStop a id error b =
+    ((stop_refusal a id ≡ Some error) × (b ≡ a))
+    ⊎ ((stop_refusal a id ≡ None) × (stop_takes_memory a id ≡ true) × (error ≡ errors.ErrNoMemory)
+    × HasFailed (answers_of a) b)

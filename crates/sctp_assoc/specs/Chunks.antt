@@ -16,7 +16,7 @@ use Rattle.sctp_parts.specs.Stats.{one_more}
 use Rattle.sctp_streams.specs.declared.event.AssociationError.TheVariants as reasons
 use Rattle.sctp_streams.specs.declared.event.Event.TheVariants.{DatagramReceived}
 use Rattle.sctp_streams.specs.declared.event.Event.TheVariants as events
-use Rattle.sctp_streams.specs.Streams.{StreamMap, stream_at, made, generation_left, bytes_waiting, refusal_in}
+use Rattle.sctp_streams.specs.Streams.{StreamMap, stream_at, made, generation_left, refusal_in}
 use Rattle.sctp_streams.specs.Streams.{pushed_in, is_readable_in}
 use Rattle.sctp_streams.specs.LowMarks.{low_told}
 use Rattle.sctp_inbound.specs.declared.receiver.AckTrigger.{AckTrigger}
@@ -30,12 +30,14 @@ use Rattle.sctp_outbound.specs.declared.progress.Progress.{Progress}
 use Rattle.sctp_outbound.specs.declared.sender.SackOutcome.{SackOutcome}
 use Rattle.sctp_outbound.specs.declared.sender.SackOutcome.TheVariants as outcomes
 use Rattle.sctp_outbound.specs.Sender.{sack_outcome, t3_after_sack}
+use Rattle.sctp_resets.specs.Resets.{is_hidden, refusal_of, with_deferred}
 use Rattle.sctp_assoc.specs.declared.inbound.Flow.{Flow}
 use Rattle.sctp_assoc.specs.declared.inbound.Flow.TheVariants as flows
 use Rattle.sctp_assoc.specs.Calls.{is_established}
 use Rattle.sctp_assoc.specs.Closing.{closed_by, exhausted, is_exhausted}
 use Rattle.sctp_assoc.specs.Handshake.{on_cookie_ack, on_cookie_echo, on_heartbeat, on_init, on_init_ack}
-use Rattle.sctp_assoc.specs.Shown.{Shown, uses_forward_tsn}
+use Rattle.sctp_assoc.specs.Resets.{on_reconfig, settled, skips_applied_of}
+use Rattle.sctp_assoc.specs.Shown.{Shown, all_waiting, uses_forward_tsn}
 use Rattle.sctp_assoc.specs.Skipping.{on_forward, skips_of}
 
 -- DATA
@@ -78,28 +80,54 @@ unfoldable pub taken_in : Shown → ChunkPayloadData → Shown × Option Error
 taken_in a piece =
     taken_unless (refusal_in a.streams piece.stream_identifier piece a.receiver.max_receive_message_size) a piece
 
+abbrev pub deferred_unless : Option Error → Shown → ChunkPayloadData → Shown × Option Error
+deferred_unless (Some fault) a piece = (a, Some fault)
+deferred_unless None a piece =
+    (record a { receiver = taken_to a.receiver piece.tsn; resets = with_deferred a.resets piece }, None)
+
+-- DATA of a generation that is not read yet is kept, unless what waits of that generation refuses it (RFC 6525 section
+-- 5.2.2)
+abbrev pub deferred : Shown → ChunkPayloadData → Shown × Option Error
+deferred a piece =
+    deferred_unless (refusal_of a.resets piece a.receiver.max_receive_message_size) a piece
+
+abbrev pub then_skips : Shown × Option Error → ℕ → Shown × Option Error
+then_skips (a, None) id = (skips_applied_of id a, None)
+then_skips (a, Some fault) id = (a, Some fault)
+
+-- new DATA of the generation that is read, and the skips that were kept for that; without credit it is left unless it
+-- fills a gap
+abbrev pub taken_where_admitted : Shown → ChunkPayloadData → Shown × Option Error
+taken_where_admitted a piece =
+    if admits a.receiver piece.tsn (all_waiting a) then then_skips (taken_in a piece) piece.stream_identifier
+    else (a, None)
+
+-- new DATA of a generation that is not read yet, likewise
+unfoldable pub deferred_where_admitted : Shown → ChunkPayloadData → Shown × Option Error
+deferred_where_admitted a piece =
+    if admits a.receiver piece.tsn (all_waiting a) then deferred a piece else (a, None)
+
 -- DATA asks to be acknowledged, unless the receive buffer is exhausted
-abbrev pub asks : Shown → ChunkPayloadData → AckTrigger → Shown × Flow
-asks a piece trigger =
-    if is_exhausted a then (a, flows.Exhausted) else (a, flows.Next (asked a.receiver trigger piece.immediate_sack))
+abbrev pub asks : Shown → Bool → AckTrigger → Shown × Flow
+asks a immediate trigger =
+    if is_exhausted a then (a, flows.Exhausted) else (a, flows.Next (asked a.receiver trigger immediate))
 
-abbrev pub asks_or_faults : Shown × Option Error → ChunkPayloadData → AckTrigger → Shown × Flow
-asks_or_faults (a, None) piece trigger = asks a piece trigger
-asks_or_faults (a, Some fault) piece trigger = (a, flows.Fault fault)
+-- behind DATA that is no fault, a request of the peer that waited for it is performed
+abbrev pub asks_or_faults : Shown × Option Error → Bool → AckTrigger → Shown × Flow
+asks_or_faults (a, None) immediate trigger = asks (settled a) immediate trigger
+asks_or_faults (a, Some fault) immediate trigger = (a, flows.Fault fault)
 
--- new DATA comes to a stream that was found; without credit it is left unless it fills a gap
+-- new DATA comes to a stream that was found
 abbrev pub on_new_data : Shown × Bool → ChunkPayloadData → AckTrigger → Shown × Flow
 on_new_data (a, false) piece trigger = (a, flows.Next trigger)
-on_new_data (a, true) piece trigger =
-    if admits a.receiver piece.tsn (bytes_waiting a.streams) then
-    asks_or_faults (taken_in a piece) piece trigger else
-    asks a piece trigger
+on_new_data (a, true) piece trigger = asks_or_faults (taken_where_admitted a piece) piece.immediate_sack trigger
 
 abbrev pub on_counted_data : Shown → ChunkPayloadData → AckTrigger → Shown × Flow
 on_counted_data a piece trigger =
-    if is_new_to a.receiver piece.tsn then
-    on_new_data (stream_found a piece.stream_identifier) piece trigger else
-    asks a piece trigger
+    if not (is_new_to a.receiver piece.tsn) then asks (settled a) piece.immediate_sack trigger else
+    if is_hidden a.resets piece.stream_identifier piece.tsn then
+    asks_or_faults (deferred_where_admitted a piece) piece.immediate_sack trigger
+    else on_new_data (stream_found a piece.stream_identifier) piece trigger
 
 -- DATA is counted; new DATA is taken in where credit is left or it fills a gap, and its stream does not refuse it; DATA
 -- asks to be acknowledged unless it is a fault, no generation is left for its stream, or it finds or leaves the receive
@@ -162,6 +190,7 @@ dispatched a header (chunks.ForwardTsn forward) trigger now =
     on_forward a forward.new_cumulative_tsn forward.streams trigger now
 dispatched a header (chunks.IForwardTsn forward) trigger now =
     on_forward a forward.new_cumulative_tsn (skips_of forward.entries) trigger now
+dispatched a header (chunks.Reconfig reconfig) trigger now = on_reconfig a reconfig trigger
 dispatched a header (chunks.Abort abort) trigger now = (a, flows.Fault errors.ErrAbortChunk)
 dispatched a header (chunks.Error error) trigger now = (a, flows.Fault errors.ErrAbortChunk)
 dispatched a header chunk trigger now = (a, flows.Fault errors.ErrChunkTypeUnhandled)

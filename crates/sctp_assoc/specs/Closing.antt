@@ -9,11 +9,12 @@ use Rattle.sctp_parts.specs.declared.state.AssociationState.TheVariants as state
 use Rattle.sctp_streams.specs.declared.event.AssociationError.{AssociationError}
 use Rattle.sctp_streams.specs.declared.event.AssociationError.TheVariants as reasons
 use Rattle.sctp_streams.specs.declared.event.Event.TheVariants.{AssociationLost, DataChannelStatsFinal}
-use Rattle.sctp_streams.specs.Streams.{bytes_waiting, last_stats, some_gives_messages, without_streams}
+use Rattle.sctp_streams.specs.Streams.{last_stats, some_gives_messages, without_streams}
 use Rattle.sctp_inbound.specs.Held.{has_gap}
 use Rattle.sctp_inbound.specs.Receiver.{credit_of}
+use Rattle.sctp_resets.specs.Resets.{all_closed}
 use Rattle.sctp_assoc.specs.Control.{queued}
-use Rattle.sctp_assoc.specs.Shown.{Shown, all_stopped}
+use Rattle.sctp_assoc.specs.Shown.{Shown, all_stopped, all_waiting}
 
 abbrev pub is_closed_state : AssociationState → Bool
 is_closed_state states.Closed = true
@@ -32,6 +33,7 @@ closed_open a reason = record a {
   timers = all_stopped a.timers;
   streams = without_streams a.streams;
   control = [];
+  resets = all_closed a.resets;
   events = a.events ++ map DataChannelStatsFinal (last_stats a.streams) ++ AssociationLost reason ∷ [];
 }
 
@@ -45,8 +47,8 @@ closed_by a reason = if is_closed_state a.state then a else closed_open a reason
 -- TSN is held past a gap, and of no stream whose read half is open a message is ready.
 abbrev pub is_exhausted : Shown → Bool
 is_exhausted a =
-    (credit_of a.receiver (bytes_waiting a.streams) == 0) && not (has_gap a.receiver.held)
-    && nat_lt 0 (bytes_waiting a.streams) && not (some_gives_messages a.streams)
+    (credit_of a.receiver (all_waiting a) == 0) && not (has_gap a.receiver.held)
+    && nat_lt 0 (all_waiting a) && not (some_gives_messages a.streams)
 
 -- an ABORT with the cause Out of Resource (RFC 4960 section 3.3.10.4)
 abbrev pub out_of_resource : Chunk

@@ -23,6 +23,7 @@ use Rattle.sctp_inbound.specs.Greeting.{init_of}
 use Rattle.sctp_inbound.specs.Handshake.{by_tokens_of, fresh_of, offer_of, side_of}
 use Rattle.sctp_inbound.specs.Receiver.{fresh_receiver}
 use Rattle.sctp_outbound.specs.Sender.{fresh_sender}
+use Rattle.sctp_resets.specs.Resets.{met_peer, no_resets}
 use Rattle.sctp_wire_types.specs.declared.config.ServerConfig.{ServerConfig}
 use Rattle.sctp_assoc.specs.Handshake.{sends_init}
 use Rattle.sctp_assoc.specs.Shown.{Shown}
@@ -60,6 +61,7 @@ fresh_association config size remote_addr local_ip side state handshake peer_las
   timers = stopped_timers config.max_init_retransmits config.max_data_retransmits config.rto_max_ms;
   estimate = initial_estimate config.rto_initial_ms config.rto_min_ms config.rto_max_ms;
   counts = no_counts;
+  resets = no_resets handshake.my_initial_tsn;
 }
 
 abbrev pub joined_quietly : Settings → ℕ → SocketAddr → Option IpAddr → ChunkInit → ChunkInit → Shown
@@ -71,7 +73,8 @@ joined_quietly config size remote_addr local_ip own peer =
 -- the association that two tokens establish: nothing was sent, nothing came, and it is connected
 abbrev pub joined : Settings → ℕ → SocketAddr → Option IpAddr → ChunkInit → ChunkInit → Shown
 joined config size remote_addr local_ip own peer =
-    (let a = joined_quietly config size remote_addr local_ip own peer in record a { events = Connected ∷ [] })
+    (let a = joined_quietly config size remote_addr local_ip own peer in
+    record a { resets = met_peer a.resets peer.initial_tsn; events = Connected ∷ [] })
 
 -- why an association isn't made for a handshake, want of memory aside
 abbrev pub create_refusal : ℕ → ℕ → Option Error

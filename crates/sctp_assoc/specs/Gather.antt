@@ -1,12 +1,14 @@
 -- What a poll for packets gives, and in which order (RFC 4960 sections 6.1, 6.2 and 6.10).
 use Rattle.std.specs.Prelude.{◌≡◌, ℕ, Bool, true, false, List, [], ◌∷◌, ◌++◌, ◌&&◌, ◌||◌, if◌then◌else◌, length, map}
-use Rattle.std.specs.Prelude.{nat_lt, Option, Some, None, Result, Ok, Err}
+use Rattle.std.specs.Prelude.{◌==◌, ◌-◌, ⊤, fold, is_some, nat_lt, take, Option, Some, None, Result, Ok, Err}
 use Rattle.std.specs.List.{AllByRecursion}
 use Rattle.sctp_wire_types.specs.declared.chunk.Chunk.{Chunk}
 use Rattle.sctp_wire_types.specs.declared.chunk.Chunk.TheVariants as chunks
 use Rattle.sctp_wire_types.specs.declared.chunk.ChunkPayloadData.{ChunkPayloadData}
 use Rattle.sctp_wire_types.specs.declared.error.Fault.{Fault}
 use Rattle.sctp_wire_types.specs.declared.packet.CommonHeader.{CommonHeader}
+use Rattle.sctp_wire_types.specs.declared.param.Param.TheVariants as params
+use Rattle.sctp_wire_types.specs.declared.param.ParamOutgoingResetRequest.{ParamOutgoingResetRequest}
 use Rattle.sctp_wire.specs.declared.packet.Packet.{Packet}
 use Rattle.sctp_wire.specs.declared.transmit.Payload.{Payload}
 use Rattle.sctp_wire.specs.declared.transmit.Payload.TheVariants as payloads
@@ -19,7 +21,7 @@ use Rattle.sctp_parts.specs.declared.timer.Timer.TheVariants as names
 use Rattle.sctp_parts.specs.Stats.{more_by}
 use Rattle.sctp_parts.specs.Timers.{Timers, restarted_if_stale}
 use Rattle.sctp_streams.specs.LowMarks.{low_event}
-use Rattle.sctp_streams.specs.Streams.{StreamMap, bytes_waiting}
+use Rattle.sctp_streams.specs.Streams.{StreamMap}
 use Rattle.sctp_inbound.specs.Handshake.{header_of}
 use Rattle.sctp_inbound.specs.Receiver.{acknowledged, sack_of}
 use Rattle.sctp_outbound.specs.declared.sender.Sender.{Sender}
@@ -27,11 +29,16 @@ use Rattle.sctp_outbound.specs.Abandonment.{dropped_by, expired_by, expires, giv
 use Rattle.sctp_outbound.specs.Falling.{fell_before, fell_dropped, fell_expired}
 use Rattle.sctp_outbound.specs.Forward.{forward_given, forward_of, gives_forward}
 use Rattle.sctp_outbound.specs.Sender.{after_marked, after_missing, marked_by, missing_by, sent_new}
+use Rattle.sctp_resets.specs.Resets.{ResetsView, request_again, request_asked, request_sent}
 use Rattle.sctp_outbound_queue.specs.declared.message.Retransmission.{Retransmission}
 use Rattle.sctp_outbound_queue.specs.declared.message.Retransmission.TheVariants as causes
 use Rattle.sctp_assoc.specs.declared.control.ControlPacket.{ControlPacket}
+use Rattle.sctp_assoc.specs.declared.control.Control.{Control}
+use Rattle.sctp_assoc.specs.declared.control.Control.TheVariants as controls
 use Rattle.sctp_assoc.specs.Calls.{is_established}
-use Rattle.sctp_assoc.specs.Shown.{Shown, uses_forward_tsn}
+use Rattle.sctp_assoc.specs.Control.{asking}
+use Rattle.sctp_assoc.specs.Resets.{asking_if, reconfig_of, with_reconfig_run}
+use Rattle.sctp_assoc.specs.Shown.{Shown, all_waiting, uses_forward_tsn}
 
 -- a packet of one chunk
 abbrev pub single_chunk_packet : CommonHeader → Chunk → Packet
@@ -184,7 +191,7 @@ is_due acks.Delay = false
 
 -- the acknowledgement of what came, with its gap ack blocks
 abbrev pub sack_chunk : Shown → Chunk
-sack_chunk a = chunks.SelectiveAck (sack_of a.receiver (bytes_waiting a.streams))
+sack_chunk a = chunks.SelectiveAck (sack_of a.receiver (all_waiting a))
 
 abbrev pub sack_packet : Shown → List (List ℕ)
 sack_packet a = packet_bytes (header_of a.handshake) (sack_chunk a)
@@ -197,8 +204,51 @@ ack_polled a =
 abbrev pub after_both : List (List ℕ) → Shown × List (List ℕ) → Shown × List (List ℕ)
 after_both packets (a, more) = (a, packets ++ more)
 
-abbrev pub ack_after : Shown × List (List ChunkPayloadData) → Shown × List (List ℕ)
-ack_after (a, bundles) = after_both (datagrams_of (header_of a.handshake) bundles) (ack_polled a)
+-- A request to reset streams, in a packet of its own (RFC 6525 section 4.1).
+abbrev pub request_packet : Shown → ParamOutgoingResetRequest → List (List ℕ)
+request_packet a param = packet_bytes (header_of a.handshake) (reconfig_of (params.OutgoingResetRequest param))
+
+abbrev pub with_request_again : Shown → ResetsView × Option ParamOutgoingResetRequest → Shown × List (List ℕ)
+with_request_again a (r, None) = (record a { resets = r }, [])
+with_request_again a (r, Some param) = (record a { resets = r }, request_packet a param)
+
+-- the active request goes out again, where its timer expired
+abbrev pub repeat_polled : Shown → Shown × List (List ℕ)
+repeat_polled a = with_request_again a (request_again a.resets)
+
+abbrev pub with_request_asked : Shown → ResetsView × Bool → Shown
+with_request_asked a (r, made) = asking_if made (record a { resets = r })
+
+-- a request is made for the streams that are to be reset and are quiet, where none is open
+abbrev pub request_made : Shown → Shown
+request_made a = with_request_asked a (request_asked a.resets a.sender.queue)
+
+-- the last one that waits is taken out
+abbrev pub without_last : List Control → List Control
+without_last cs = take (length cs - 1) cs
+
+abbrev pub with_request_sent : Shown → ResetsView × Option ParamOutgoingResetRequest → Shown × List (List ℕ)
+with_request_sent a (r, None) = (record a { resets = r }, [])
+with_request_sent a (r, Some param) =
+    (record a { resets = r; control = without_last a.control }, request_packet a param)
+
+-- the oldest request that was never sent goes out, where it may
+abbrev pub first_request_polled : Shown → Shown × List (List ℕ)
+first_request_polled a =
+    if length a.control == 0 then (a, []) else with_request_sent a (request_sent a.resets a.sender.queue)
+
+abbrev pub first_request_behind : Shown × List (List ℕ) → Shown × List (List ℕ)
+first_request_behind (a, packets) = after_both packets (first_request_polled (request_made a))
+
+-- the requests of a poll behind its DATA
+unfoldable pub requests_polled : Shown → Shown × List (List ℕ)
+requests_polled a = first_request_behind (repeat_polled a)
+
+abbrev pub requests_after : Shown × List (List ChunkPayloadData) → Shown × List (List ℕ)
+requests_after (a, bundles) = after_both (datagrams_of (header_of a.handshake) bundles) (requests_polled a)
+
+abbrev pub ack_after : Shown × List (List ℕ) → Shown × List (List ℕ)
+ack_after (a, packets) = after_both packets (ack_polled a)
 
 -- FORWARD TSN, in a packet of its own
 abbrev pub forward_chunk : Shown → Chunk
@@ -217,32 +267,59 @@ forward_polled a = (record a { sender = forward_given a.sender }, forwards_given
 abbrev pub forward_after : Shown × List (List ℕ) → Shown × List (List ℕ)
 forward_after (a, packets) = after_both packets (forward_polled a)
 
--- the packets that wait to go out before any DATA
-abbrev pub control_packets : List ControlPacket → List (List ℕ)
-control_packets [] = []
-control_packets (c ∷ cs) = packet_bytes c.header c.chunk ++ control_packets cs
-
 abbrev pub without_control : Shown → Shown
 without_control a = record a { control = [] }
 
--- in Established DATA, then the acknowledgement, and then FORWARD TSN
+-- a request that may not go out keeps its place
+abbrev pub with_request_placed : Shown × List (List ℕ) → ResetsView × Option ParamOutgoingResetRequest
+    → Shown × List (List ℕ)
+with_request_placed (a, packets) (r, None) = (asking (record a { resets = r }), packets)
+with_request_placed (a, packets) (r, Some param) = (record a { resets = r }, packets ++ request_packet a param)
+
+abbrev pub with_control_given : Shown × List (List ℕ) → Control → Shown × List (List ℕ)
+with_control_given (a, packets) (controls.Packet c) = (a, packets ++ packet_bytes c.header c.chunk)
+with_control_given (a, packets) controls.OwnRequest =
+    with_request_placed (a, packets) (request_sent a.resets a.sender.queue)
+
+-- what waits goes out before any DATA, oldest first: packets as they were queued, and requests that may go out
+abbrev pub control_polled : Shown → Shown × List (List ℕ)
+control_polled a = fold with_control_given (without_control a, []) a.control
+
+-- in Established DATA, then requests to reset streams, the acknowledgement, and FORWARD TSN
 unfoldable pub exchange_polled : Shown → ℕ → Shown × List (List ℕ)
-exchange_polled a now = if is_established a.state then forward_after (ack_after (data_polled a now)) else (a, [])
+exchange_polled a now =
+    if is_established a.state then forward_after (ack_after (requests_after (data_polled a now))) else (a, [])
 
--- what a poll leaves, and the packets that it gives: those that wait, and in Established DATA, then the
--- acknowledgement, and then FORWARD TSN
+abbrev pub exchange_after : Shown × List (List ℕ) → ℕ → Shown × List (List ℕ)
+exchange_after (a, packets) now = after_both packets (exchange_polled a now)
+
+abbrev pub reconfig_run_after : Shown × List (List ℕ) → ℕ → Shown × List (List ℕ)
+reconfig_run_after (a, packets) now = (with_reconfig_run a now, packets)
+
+-- what a poll leaves, and the packets that it gives: those that wait, and in Established DATA, then requests to reset
+-- streams, the acknowledgement, and FORWARD TSN
 abbrev pub polled : Shown → ℕ → Shown × List (List ℕ)
-polled a now = after_both (control_packets a.control) (exchange_polled (without_control a) now)
+polled a now = reconfig_run_after (exchange_after (control_polled a) now) now
 
--- the exchange of a poll has something to give: DATA goes out or is given up, or an acknowledgement or FORWARD TSN is
--- due
+-- streams are to be reset, or a request for some has its place among what waits
+abbrev pub requests_wait : Shown → Bool
+requests_wait a = nat_lt 0 (length a.resets.own.waiting) || nat_lt 0 (length a.control)
+
+-- so it is, or a request was sent and is not answered
+abbrev pub requests_give : Shown → Bool
+requests_give a = is_some a.resets.own.active || requests_wait a
+
+-- the exchange of a poll has something to give: DATA goes out or is given up, streams are to be reset, or an
+-- acknowledgement or FORWARD TSN is due
 abbrev pub exchange_gives : Shown → ℕ → Bool
 exchange_gives a now =
-    data_gives a now || is_due a.receiver.ack_state || gives_forward (data_polled a now).0.sender
+    data_gives a now || requests_give (data_polled a now).0 || is_due a.receiver.ack_state
+    || gives_forward (data_polled a now).0.sender
 
--- a poll has something to give: a packet waits, or in Established its exchange does
+-- a poll has something to give: something waits, or in Established its exchange does
 abbrev pub has_something_to_give : Shown → ℕ → Bool
-has_something_to_give a now = nat_lt 0 (length a.control) || (is_established a.state && exchange_gives a now)
+has_something_to_give a now =
+    nat_lt 0 (length a.control) || (is_established a.state && exchange_gives (without_control a) now)
 
 abbrev pub bytes_within : Payload → List (List ℕ)
 bytes_within (payloads.RawEncode packets) = packets.items
@@ -277,13 +354,20 @@ AckIsReadAgain a = is_due a.receiver.ack_state ≡ true → IsReadAgain (header_
 abbrev pub ControlIsReadAgain : ControlPacket → Type 0
 ControlIsReadAgain c = packet_is_plain (single_chunk_packet c.header c.chunk) ≡ true → IsReadAgain c.header c.chunk
 
+abbrev pub IsPlainControl : Control → Type 0
+IsPlainControl (controls.Packet c) = packet_is_plain (single_chunk_packet c.header c.chunk) ≡ true
+IsPlainControl controls.OwnRequest = ⊤
+
 -- nothing that waits to go out is kept under `Other` so
 abbrev pub WaitPlainly : Shown → Type 0
-WaitPlainly a = AllByRecursion
-    (λ (c : ControlPacket). packet_is_plain (single_chunk_packet c.header c.chunk) ≡ true) a.control
+WaitPlainly a = AllByRecursion IsPlainControl a.control
 
-abbrev pub AreControlReadAgain : List ControlPacket → Type 0
-AreControlReadAgain cs = AllByRecursion ControlIsReadAgain cs
+abbrev pub ControlReadAgain : Control → Type 0
+ControlReadAgain (controls.Packet c) = ControlIsReadAgain c
+ControlReadAgain controls.OwnRequest = ⊤
+
+abbrev pub AreControlReadAgain : List Control → Type 0
+AreControlReadAgain cs = AllByRecursion ControlReadAgain cs
 
 abbrev pub ForwardIsReadAgain : Shown → Type 0
 ForwardIsReadAgain a = gives_forward a.sender ≡ true → IsReadAgain (header_of a.handshake) (forward_chunk a)

@@ -16,6 +16,7 @@ use Rattle.sctp_inbound.specs.Handshake.{comes_back, established, has_issued, le
 use Rattle.sctp_inbound.specs.Greeting.{first_cookie, heartbeat_ack_of, information_of, init_ack_of, init_of}
 use Rattle.sctp_inbound.specs.Receiver.{receiver_from}
 use Rattle.sctp_outbound.specs.Sender.{with_first_window}
+use Rattle.sctp_resets.specs.Resets.{met_peer}
 use Rattle.sctp_assoc.specs.declared.inbound.Flow.{Flow}
 use Rattle.sctp_assoc.specs.declared.inbound.Flow.TheVariants as flows
 use Rattle.sctp_assoc.specs.Control.{queued}
@@ -27,6 +28,7 @@ abbrev pub learns_peer : Shown → ℕ → ℕ → Shown
 learns_peer a initial_tsn window = record a {
   receiver = receiver_from a.receiver initial_tsn;
   sender = with_first_window a.sender window;
+  resets = met_peer a.resets initial_tsn;
 }
 
 -- INIT

@@ -21,7 +21,8 @@ use Rattle.sctp_outbound_queue.specs.declared.message.Retransmission.TheVariants
 use Rattle.sctp_outbound_queue.specs.Message.{is_expired_unsent, picks, room_taken}
 use Rattle.sctp_outbound_queue.specs.Waiting.{Waiting}
 use Rattle.sctp_outbound_queue.specs.Outbound.{pieces_waiting}
-use Rattle.sctp_streams.specs.Streams.{StreamMap, stream_at, generation_left, bytes_waiting, refusal_in}
+use Rattle.sctp_streams.specs.Stream.{is_read_half_open}
+use Rattle.sctp_streams.specs.Streams.{StreamMap, stream_at, generation_left, read_in, refusal_in}
 use Rattle.sctp_inbound.specs.declared.receiver.AckTrigger.{AckTrigger}
 use Rattle.sctp_inbound.specs.declared.receiver.AckTrigger.TheVariants as triggers
 use Rattle.sctp_inbound.specs.Handshake.{comes_back, header_of}
@@ -41,17 +42,26 @@ use Rattle.sctp_assoc.specs.declared.inbound.Flow.{Flow}
 use Rattle.sctp_assoc.specs.declared.inbound.Flow.TheVariants as flows
 use Rattle.sctp_directions.specs.Acts.{Act, History, all_data_given}
 use Rattle.sctp_assoc.specs.Leads.{Binds, Leads, parts}
-use Rattle.sctp_assoc.specs.Calls.{is_beginning, is_cookie_wait, is_established, read_exhausts}
-use Rattle.sctp_assoc.specs.Closing.{is_closed_state}
-use Rattle.sctp_assoc.specs.Chunks.{counted_data, on_chunk, stream_found}
+use Rattle.sctp_reset_requests.specs.Own.{OwnView}
+use Rattle.sctp_resets.specs.Resets.{is_hidden, refusal_of}
+use Rattle.sctp_streams.specs.declared.setting.Setting.TheVariants as settings
+use Rattle.sctp_assoc.specs.Calls.{adjusted, holds_of, is_beginning, is_cookie_wait, is_established, read_exhausts, stopped_open}
+use Rattle.sctp_assoc.specs.Closing.{is_closed_state, is_exhausted}
+use Rattle.sctp_assoc.specs.Chunks.{counted_data, deferred_where_admitted, on_chunk, stream_found, taken_in}
+use Rattle.sctp_assoc.specs.Chunks.{taken_where_admitted}
+use Rattle.sctp_assoc.specs.ResetActs.{acts_of_draining, acts_of_keeping, acts_of_kept_skips, acts_of_reconfig}
+use Rattle.sctp_assoc.specs.ResetActs.{acts_of_settling}
 use Rattle.std.specs.List.{filter, position_or_len}
 use Rattle.sctp_wire.specs.DataPackets.{all_of, data_fits, datagrams_of}
 use Rattle.sctp_assoc.specs.Gather.{AckIsReadAgain, AreControlReadAgain, AreReadAgain, IsReadAgain, both_of}
-use Rattle.sctp_assoc.specs.Gather.{control_packets, data_polled, fast_polled, forward_chunk, is_due, late_abandoned}
+use Rattle.sctp_assoc.specs.Gather.{control_polled, data_polled, fast_polled, forward_chunk, is_due, late_abandoned}
 use Rattle.sctp_assoc.specs.Gather.{late_dropped, marks_polled, packet_bytes, sack_packet, spent_abandoned}
+use Rattle.sctp_wire_types.specs.declared.param.Param.TheVariants as params
+use Rattle.sctp_wire_types.specs.declared.param.ParamOutgoingResetRequest.{ParamOutgoingResetRequest}
+use Rattle.sctp_assoc.specs.Resets.{reconfig_of}
 use Rattle.sctp_assoc.specs.Timeouts.{after_handshake_timers}
-use Rattle.sctp_assoc.specs.Shown.{Shown, uses_forward_tsn}
-use Rattle.sctp_assoc.specs.Skipping.{skips_of, standing_of}
+use Rattle.sctp_assoc.specs.Shown.{Shown, all_waiting, uses_forward_tsn}
+use Rattle.sctp_assoc.specs.Skipping.{skips_of, standing_of, with_passed, with_skips}
 use Rattle.sctp_assoc.specs.declared.skipping.Standing.{Standing}
 use Rattle.sctp_assoc.specs.declared.skipping.Standing.TheVariants as standings
 
@@ -63,26 +73,54 @@ acts_of_stream a id =
     if is_some (stream_at a.streams id) then [] else
     if generation_left a.streams then Act.Opened id a.sender.queue.next_message_id kinds.Unknown ∷ [] else []
 
-abbrev pub acts_unless_refused : Option Error → ChunkPayloadData → List Act
-acts_unless_refused (Some fault) piece = []
-acts_unless_refused None piece = Act.Took piece ∷ []
+abbrev pub acts_unless_refused : Option Error → Act → List Act
+acts_unless_refused (Some fault) act = []
+acts_unless_refused None act = act ∷ []
 
 -- new DATA, with its stream there and credit left or filling a gap, is taken in unless its stream refuses it
 abbrev pub acts_of_taking : Shown → ChunkPayloadData → List Act
 acts_of_taking a piece =
-    acts_unless_refused (refusal_in a.streams piece.stream_identifier piece a.receiver.max_receive_message_size) piece
+    acts_unless_refused (refusal_in a.streams piece.stream_identifier piece a.receiver.max_receive_message_size)
+    (Act.Took piece)
+
+abbrev pub acts_of_skips_behind : Shown × Option Error → ℕ → List Act
+acts_of_skips_behind (a, None) id = acts_of_kept_skips id a
+acts_of_skips_behind (a, Some fault) id = []
+
+abbrev pub acts_of_taking_where_admitted : Shown → ChunkPayloadData → List Act
+acts_of_taking_where_admitted a piece =
+    if admits a.receiver piece.tsn (all_waiting a) then
+    acts_of_taking a piece ++ acts_of_skips_behind (taken_in a piece) piece.stream_identifier
+    else []
+
+-- DATA of a generation that is not read yet is kept, likewise
+abbrev pub acts_of_deferring : Shown → ChunkPayloadData → List Act
+acts_of_deferring a piece =
+    if admits a.receiver piece.tsn (all_waiting a) then
+    acts_unless_refused (refusal_of a.resets piece a.receiver.max_receive_message_size) (Act.Deferred piece)
+    else []
+
+abbrev pub acts_unless_faulty : Shown × Option Error → List Act
+acts_unless_faulty (a, None) = acts_of_settling a
+acts_unless_faulty (a, Some fault) = []
 
 abbrev pub acts_of_found : Shown × Bool → ChunkPayloadData → List Act
 acts_of_found (a, false) piece = []
 acts_of_found (a, true) piece =
-    if admits a.receiver piece.tsn (bytes_waiting a.streams) then acts_of_taking a piece else []
+    acts_of_taking_where_admitted a piece ++ acts_unless_faulty (taken_where_admitted a piece)
 
+abbrev pub acts_of_hidden : Shown → ChunkPayloadData → List Act
+acts_of_hidden a piece = acts_of_deferring a piece ++ acts_unless_faulty (deferred_where_admitted a piece)
+
+abbrev pub acts_of_counted_data : Shown → ChunkPayloadData → List Act
+acts_of_counted_data a piece =
+    if not (is_new_to a.receiver piece.tsn) then acts_of_settling a else
+    if is_hidden a.resets piece.stream_identifier piece.tsn then acts_of_hidden a piece else
+    acts_of_stream a piece.stream_identifier ++ acts_of_found (stream_found a piece.stream_identifier) piece
+
+-- what DATA does that comes; behind it a request of the peer that waited for it is performed
 abbrev pub acts_of_data : Shown → ChunkPayloadData → List Act
-acts_of_data a piece =
-    if is_new_to a.receiver piece.tsn then
-    acts_of_stream a piece.stream_identifier
-    ++ acts_of_found (stream_found (counted_data a) piece.stream_identifier) piece
-    else []
+acts_of_data a piece = acts_of_counted_data (counted_data a) piece
 
 abbrev pub acts_of_outcome : SackOutcome → ℕ → List GapAckBlock → ℕ → List Act
 acts_of_outcome outcomes.Older n blocks missing = []
@@ -108,13 +146,15 @@ acts_of_init_ack a header init =
     (if comes_back a.handshake header then Act.PeerKnown init.initial_tsn ∷ [] else []) else []
 
 -- a FORWARD TSN that is ahead passes over what it says
-abbrev pub acts_of_forward_at : Standing → ℕ → List SkippedStream → List Act
-acts_of_forward_at standings.Unused tsn skips = []
-acts_of_forward_at standings.Behind tsn skips = []
-acts_of_forward_at standings.Ahead tsn skips = Act.PassedOver tsn skips ∷ []
+abbrev pub acts_of_forward_at : Standing → Shown → ℕ → List SkippedStream → List Act
+acts_of_forward_at standings.Unused a tsn skips = []
+acts_of_forward_at standings.Behind a tsn skips = []
+acts_of_forward_at standings.Ahead a tsn skips =
+    Act.PassedOver tsn skips ∷ (acts_of_keeping tsn skips a
+    ++ acts_of_settling (with_passed (with_skips tsn skips a) tsn))
 
 abbrev pub acts_of_forward : Shown → ℕ → List SkippedStream → List Act
-acts_of_forward a tsn skips = acts_of_forward_at (standing_of a tsn) tsn skips
+acts_of_forward a tsn skips = acts_of_forward_at (standing_of a tsn) a tsn skips
 
 abbrev pub acts_of_kind : Shown → CommonHeader → Chunk → List Act
 acts_of_kind a header (chunks.Data piece) = acts_of_data a piece
@@ -124,6 +164,7 @@ acts_of_kind a header (chunks.InitAck init) = acts_of_init_ack a header init
 acts_of_kind a header (chunks.ForwardTsn forward) = acts_of_forward a forward.new_cumulative_tsn forward.streams
 acts_of_kind a header (chunks.IForwardTsn forward) =
     acts_of_forward a forward.new_cumulative_tsn (skips_of forward.entries)
+acts_of_kind a header (chunks.Reconfig reconfig) = acts_of_reconfig a reconfig
 acts_of_kind a header chunk = []
 
 abbrev pub acts_of_checked : Result (Unit {0}) Error → Shown → CommonHeader → Chunk → List Act
@@ -141,9 +182,25 @@ acts_after (a, flows.Next trigger) more = more a trigger
 acts_after (a, flows.Fault fault) more = acts_of_close a
 acts_after (a, flows.Exhausted) more = acts_of_close a
 
--- a read, and the close where it leaves the receive buffer exhausted
+-- a read; the ends of generations that it leaves read to their end; and the close where it leaves the receive buffer
+-- exhausted
 abbrev pub acts_of_read : Shown → ℕ → List Act
-acts_of_read a id = Act.WasRead id ∷ (if read_exhausts a id then acts_of_close a else [])
+acts_of_read a id =
+    Act.WasRead id ∷ (acts_of_draining a id (read_in a.streams id).0
+    ++ (if read_exhausts a id then acts_of_close a else []))
+
+-- the application stops a stream: its span ends, and so does the association where nothing that waits can be read
+abbrev pub acts_of_stop : Shown → ℕ → List Act
+acts_of_stop a id =
+    if holds_of (λ s. is_read_half_open s.halves) a id then
+    Act.SpansEnded (id ∷ []) (stopped_open a id).streams
+    ∷ (if is_exhausted (stopped_open a id) then acts_of_close (stopped_open a id) else [])
+    else []
+
+-- it closes both halves of a stream
+abbrev pub acts_of_close_stream : Shown → ℕ → List Act
+acts_of_close_stream a id =
+    Act.Adjusted id settings.WriteHalfClosed ∷ acts_of_stop (adjusted a id settings.WriteHalfClosed) id
 
 -- the chunks of a packet, in order, up to a fault
 abbrev pub acts_of_chunks : CommonHeader → List Chunk → Shown → AckTrigger → ℕ → List Act
@@ -285,17 +342,30 @@ acts_of_poll a now =
 abbrev pub acks_given : Shown → List (List ℕ)
 acks_given a = if is_due a.receiver.ack_state then sack_packet a else []
 
--- packets that wait, and in Established these packets of DATA, then the acknowledgement, and then, where it is given,
--- the FORWARD TSN of what is in flight after the poll
-abbrev pub exchange_given : Shown → List (List ChunkPayloadData) → Bool → Shown → List (List ℕ)
-exchange_given a bundles forwards b =
+-- requests to reset streams, each in a packet of its own
+abbrev pub requests_given : CommonHeader → List ParamOutgoingResetRequest → List (List ℕ)
+requests_given header [] = []
+requests_given header (request ∷ requests) =
+    packet_bytes header (reconfig_of (params.OutgoingResetRequest request)) ++ requests_given header requests
+
+-- packets that wait, and in Established these packets of DATA, then these requests to reset streams, then the
+-- acknowledgement, and then, where it is given, the FORWARD TSN of what is in flight after the poll
+abbrev pub exchange_given : Shown → List (List ChunkPayloadData) → List ParamOutgoingResetRequest → Bool → Shown
+    → List (List ℕ)
+exchange_given a bundles requests forwards b =
     if is_established a.state then
-    datagrams_of (header_of a.handshake) bundles ++ acks_given a
+    datagrams_of (header_of a.handshake) bundles ++ requests_given (header_of a.handshake) requests ++ acks_given a
     ++ (if forwards then packet_bytes (header_of a.handshake) (forward_chunk b) else [])
     else []
 
-abbrev pub packets_given : Shown → List (List ChunkPayloadData) → Bool → Shown → List (List ℕ)
-packets_given a bundles forwards b = control_packets a.control ++ exchange_given a bundles forwards b
+abbrev pub packets_given : Shown → List (List ChunkPayloadData) → List ParamOutgoingResetRequest → Bool → Shown
+    → List (List ℕ)
+packets_given a bundles requests forwards b =
+    (control_polled a).1 ++ exchange_given a bundles requests forwards b
+
+-- of this side no stream is to be reset, and no request is open
+abbrev pub AsksForNothing : OwnView → Type 0
+AsksForNothing o = (o.waiting ≡ []) × (o.queued ≡ []) × (o.active ≡ None)
 
 -- A poll for packets leads on by its acts, and gives what they say: its packets of DATA carry, in order, the DATA of
 -- the acts for which one chunk has room, under the TSNs of its offsets, and each packet is read as what it was made of.
@@ -306,7 +376,10 @@ pub record Polls (xs : List Act) (forwards : Bool) (a : Shown) (h : History) (b 
   -- what the packets of DATA carry
   pub bundles : List (List ChunkPayloadData)
   pub joined : all_of bundles ≡ filter data_fits (all_data_given xs (parts a h))
-  pub said : packets ≡ packets_given a bundles forwards b
+  -- the requests to reset streams that go out behind them: none where this side asks for nothing
+  pub requests : List ParamOutgoingResetRequest
+  pub quiet : AsksForNothing a.resets.own → requests ≡ []
+  pub said : packets ≡ packets_given a bundles requests forwards b
   pub data_again : is_established a.state ≡ true → AreReadAgain (header_of a.handshake) bundles
   pub ack_again : is_established a.state ≡ true → AckIsReadAgain a
   pub forward_again : forwards ≡ true → IsReadAgain (header_of a.handshake) (forward_chunk b)

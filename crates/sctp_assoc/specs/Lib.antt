@@ -6,9 +6,11 @@ pub mod Control
 pub mod Created
 pub mod Gather
 pub mod Handshake
+pub mod ResetActs
 pub mod Happened
 pub mod Inbound
 pub mod Memory
+pub mod Resets
 pub mod Shown
 pub mod Skipping
 pub mod Stream

@@ -10,7 +10,7 @@ use Rattle.sctp_wire_types.specs.declared.packet.CommonHeader.{CommonHeader}
 use Rattle.sctp_wire_types.specs.declared.chunk.GapAckBlock.{GapAckBlock}
 use Rattle.sctp_wire_types.specs.Checks.{checked_chunk}
 use Rattle.sctp_wire.specs.declared.packet.Packet.{Packet}
-use Rattle.sctp_streams.specs.Streams.{bytes_waiting, generation_left, refusal_in, stream_at}
+use Rattle.sctp_streams.specs.Streams.{generation_left, refusal_in, stream_at}
 use Rattle.sctp_streams.specs.LowMarks.{low_told}
 use Rattle.sctp_inbound.specs.declared.receiver.AckTrigger.{AckTrigger}
 use Rattle.sctp_inbound.specs.declared.receiver.AckTrigger.TheVariants as triggers
@@ -20,31 +20,51 @@ use Rattle.sctp_inbound.specs.Receiver.{admits, is_new_to}
 use Rattle.sctp_outbound.specs.declared.sender.SackOutcome.{SackOutcome}
 use Rattle.sctp_outbound.specs.declared.sender.SackOutcome.TheVariants as outcomes
 use Rattle.sctp_outbound.specs.Sender.{sack_outcome}
+use Rattle.sctp_generations.specs.Generations.{has_retiring, has_skips}
 use Rattle.sctp_assoc.specs.declared.inbound.Flow.{Flow}
 use Rattle.sctp_assoc.specs.declared.inbound.Flow.TheVariants as flows
 use Rattle.sctp_assoc.specs.Calls.{is_beginning, is_cookie_echoed, is_cookie_wait, is_established}
 use Rattle.sctp_assoc.specs.Closing.{is_closed_state}
 use Rattle.sctp_assoc.specs.Chunks.{after_sack, on_chunk}
-use Rattle.sctp_assoc.specs.Shown.{Shown}
+use Rattle.sctp_assoc.specs.Shown.{Shown, all_waiting}
 use Rattle.sctp_assoc.specs.Skipping.{forward_takes_memory, skips_of}
 
 -- a stream is made: it is not live, and a generation is left for it
 abbrev pub makes_stream : Shown → ℕ → Bool
 makes_stream a id = not (is_some (stream_at a.streams id)) && generation_left a.streams
 
+-- a generation of some stream ended and is still read, or a request of the peer is in progress, or a skip is kept
+abbrev pub resets_take_memory : Shown → Bool
+resets_take_memory a =
+    has_retiring a.resets.generations || is_some a.resets.peer.in_progress || has_skips a.resets.generations
+
+-- a piece is taken in where credit is left or it fills a gap, and its stream does not refuse it
+abbrev pub is_taken_in : Shown → ChunkPayloadData → Bool
+is_taken_in a piece =
+    admits a.receiver piece.tsn (all_waiting a)
+    && not (is_some (refusal_in a.streams piece.stream_identifier piece a.receiver.max_receive_message_size))
+
+-- that takes memory, and so do the skips that were kept for the generation of its stream
+abbrev pub taking_takes_memory : Shown → ChunkPayloadData → Bool
+taking_takes_memory a piece = is_taken_in a piece || has_skips a.resets.generations
+
 -- a piece on a live stream is taken in where credit is left or it fills a gap, and its stream does not refuse it
 abbrev pub keeps_message : Shown → ChunkPayloadData → Bool
 keeps_message a piece =
-    is_some (stream_at a.streams piece.stream_identifier)
-    && (admits a.receiver piece.tsn (bytes_waiting a.streams)
-    && not (is_some (refusal_in a.streams piece.stream_identifier piece a.receiver.max_receive_message_size)))
+    is_some (stream_at a.streams piece.stream_identifier) && is_taken_in a piece
 
 -- DATA itself takes memory only where it is new, and its stream is made or it is taken in (RFC 4960 section 6.2). Where
 -- a live stream refuses it, memory is taken for the close alone (`takes_memory_after`)
-abbrev pub data_takes_memory : Shown → ChunkPayloadData → Bool
-data_takes_memory a piece =
+abbrev pub new_data_takes_memory : Shown → ChunkPayloadData → Bool
+new_data_takes_memory a piece =
     is_new_to a.receiver piece.tsn
     && (makes_stream a piece.stream_identifier || keeps_message a piece)
+
+-- so does DATA of a generation that is not read yet, for what is kept of it, and DATA behind which a request of the peer
+-- is performed or a kept skip applied
+abbrev pub data_takes_memory : Shown → ChunkPayloadData → Bool
+data_takes_memory a piece =
+    new_data_takes_memory a piece || resets_take_memory a
 
 abbrev pub is_taken : SackOutcome → Bool
 is_taken outcomes.Older = false
@@ -96,6 +116,7 @@ takes_memory a header (chunks.ForwardTsn forward) now =
     forward_takes_memory a forward.new_cumulative_tsn forward.streams
 takes_memory a header (chunks.IForwardTsn forward) now =
     forward_takes_memory a forward.new_cumulative_tsn (skips_of forward.entries)
+takes_memory a header (chunks.Reconfig reconfig) now = true
 takes_memory a header chunk now = false
 
 -- a chunk that its own check refuses takes no memory itself; it is a fault, too

@@ -1,5 +1,5 @@
 -- An association as its contracts see it.
-use Rattle.std.specs.Prelude.{◌≡◌, ℕ, Bool, true, List, Option}
+use Rattle.std.specs.Prelude.{◌≡◌, ℕ, ◌+◌, ◌-◌, ◌^◌, Bool, true, List, Option, min}
 use Rattle.std.specs.declared.net.ip_addr.IpAddr.{IpAddr}
 use Rattle.std.specs.declared.net.socket_addr.SocketAddr.{SocketAddr}
 use Rattle.sctp_wire_types.specs.declared.error.Error.{Error}
@@ -10,11 +10,13 @@ use Rattle.sctp_parts.specs.Timers.{Timers, with_stopped}
 use Rattle.sctp_parts.specs.Estimate.{Estimate}
 use Rattle.sctp_parts.specs.Stats.{Counts}
 use Rattle.sctp_streams.specs.declared.event.Event.{Event}
-use Rattle.sctp_streams.specs.Streams.{StreamMap}
+use Rattle.sctp_receive_queues.specs.Pieces.{bytes_of}
+use Rattle.sctp_streams.specs.Streams.{StreamMap, bytes_waiting}
 use Rattle.sctp_inbound.specs.declared.handshake.Handshake.{Handshake}
 use Rattle.sctp_inbound.specs.declared.receiver.Receiver.{Receiver}
 use Rattle.sctp_outbound.specs.declared.sender.Sender.{Sender}
-use Rattle.sctp_assoc.specs.declared.control.ControlPacket.{ControlPacket}
+use Rattle.sctp_resets.specs.Resets.{ResetsView}
+use Rattle.sctp_assoc.specs.declared.control.Control.{Control}
 use Rattle.sctp_assoc.specs.declared.effects.StateAnswers.{StateAnswers}
 
 pub record Shown : Type 0 where
@@ -38,11 +40,17 @@ pub record Shown : Type 0 where
   pub events : List Event
   -- that the handshake failed and nobody was told yet
   pub handshake_fault : Option Error
-  -- the packets that go out before any DATA, oldest first
-  pub control : List ControlPacket
+  -- what goes out before any DATA, oldest first: packets, and places of this side's requests to reset streams
+  pub control : List Control
   pub timers : Timers
   pub estimate : Estimate
   pub counts : Counts
+  -- requests to reset streams, and the generations of streams that ended and are still read
+  pub resets : ResetsView
+
+-- the bytes that came and were not read, of all generations of streams, at most the greatest number of 64 bits
+abbrev pub all_waiting : Shown → ℕ
+all_waiting a = min (bytes_waiting a.streams + bytes_of a.resets.generations.deferred) (2 ^ 64 - 1)
 
 -- messages may be skipped by FORWARD TSN: the peer lists it among its extensions, as this side does (RFC 3758
 -- section 3.3)

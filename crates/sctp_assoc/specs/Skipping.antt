@@ -1,6 +1,6 @@
 -- What a FORWARD TSN does that comes (RFC 3758 section 3.6).
 use Rattle.std.specs.Prelude.{ℕ, Bool, true, false, List, [], ◌∷◌, ◌++◌, ◌%◌, ◌^◌, ◌&&◌, ◌||◌, if◌then◌else◌, nat_lt}
-use Rattle.std.specs.Prelude.{not}
+use Rattle.std.specs.Prelude.{not, length}
 use Rattle.sctp_wire_types.specs.declared.chunk.Chunk.{Chunk}
 use Rattle.sctp_wire_types.specs.declared.chunk.Chunk.TheVariants as chunks
 use Rattle.sctp_wire_types.specs.declared.chunk.IForwardTsnEntry.{IForwardTsnEntry}
@@ -13,12 +13,15 @@ use Rattle.sctp_streams.specs.Streams.{becomes_ready_in, changed_stream, passed_
 use Rattle.sctp_inbound.specs.declared.receiver.AckTrigger.{AckTrigger}
 use Rattle.sctp_inbound.specs.declared.receiver.AckTrigger.TheVariants as triggers
 use Rattle.sctp_inbound.specs.Receiver.{asked, ended_packet, ended_packet_timers, is_behind, passed_to}
+use Rattle.sctp_resets.specs.Resets.{is_retiring, without_unordered}
+use Rattle.sctp_resets.specs.Resets as resets
 use Rattle.sctp_assoc.specs.declared.inbound.Flow.{Flow}
 use Rattle.sctp_assoc.specs.declared.inbound.Flow.TheVariants as flows
 use Rattle.sctp_assoc.specs.declared.skipping.Standing.{Standing}
 use Rattle.sctp_assoc.specs.declared.skipping.Standing.TheVariants as standings
 use Rattle.sctp_assoc.specs.Closing.{is_exhausted}
 use Rattle.sctp_assoc.specs.Control.{queued}
+use Rattle.sctp_assoc.specs.Resets.{settled, settling_takes_memory}
 use Rattle.sctp_assoc.specs.Shown.{Shown, uses_forward_tsn}
 
 -- an ERROR with the cause Unrecognized Chunk Type (RFC 4960 section 3.3.10.6)
@@ -38,24 +41,31 @@ standing_of a tsn =
 abbrev pub readable_told : Bool → ℕ → List Event
 readable_told ready id = if ready then events.Stream (Readable id) ∷ [] else []
 
--- the ordered messages of a stream, if it is live, are skipped up to an SSN
-unfoldable pub with_skip : ℕ → ℕ → Shown → Shown
-with_skip id ssn a = record a {
-  streams = changed_stream (stream_skipped ssn) a.streams id;
-  events = a.events ++ readable_told (becomes_ready_in a.streams id ssn) id;
-}
+-- The ordered messages of a stream, if it is live, are skipped up to an SSN. Where a generation of it ended and is still
+-- read, the skip is one of its newest generation, and kept for that.
+unfoldable pub with_skip : ℕ → ℕ → ℕ → Shown → Shown
+with_skip tsn id ssn a =
+    if is_retiring a.resets id then record a { resets = resets.with_skip a.resets id ssn tsn } else
+    record a {
+      streams = changed_stream (stream_skipped ssn) a.streams id;
+      events = a.events ++ readable_told (becomes_ready_in a.streams id ssn) id;
+    }
 
--- so are those of several streams, one after another
-abbrev pub with_skips : List SkippedStream → Shown → Shown
-with_skips [] a = a
-with_skips (e ∷ es) a = with_skips es (with_skip e.stream_identifier e.stream_sequence_number a)
+-- so are those of several streams, one after another, by a FORWARD TSN with this new cumulative TSN
+abbrev pub with_skips : ℕ → List SkippedStream → Shown → Shown
+with_skips tsn [] a = a
+with_skips tsn (e ∷ es) a = with_skips tsn es (with_skip tsn e.stream_identifier e.stream_sequence_number a)
 
--- one of these skips makes a message ready where none was
-abbrev pub some_is_told : List SkippedStream → Shown → Bool
-some_is_told [] a = false
-some_is_told (e ∷ es) a =
-    becomes_ready_in a.streams e.stream_identifier e.stream_sequence_number
-    || some_is_told es (with_skip e.stream_identifier e.stream_sequence_number a)
+-- a skip takes memory where it makes a message ready and none was, or is kept
+abbrev pub skip_takes_memory : ℕ → ℕ → Shown → Bool
+skip_takes_memory id ssn a = is_retiring a.resets id || becomes_ready_in a.streams id ssn
+
+-- one of these skips does
+abbrev pub some_takes_memory : ℕ → List SkippedStream → Shown → Bool
+some_takes_memory tsn [] a = false
+some_takes_memory tsn (e ∷ es) a =
+    skip_takes_memory e.stream_identifier e.stream_sequence_number a
+    || some_takes_memory tsn es (with_skip tsn e.stream_identifier e.stream_sequence_number a)
 
 -- the skip of an I-FORWARD-TSN: the low 16 bits of its message identifier are the SSN
 abbrev pub skip_of : IForwardTsnEntry → SkippedStream
@@ -83,7 +93,11 @@ acknowledged_at_once a now = record a {
 -- the last TSN that came or was skipped and the pieces of incomplete unordered messages pass over a TSN
 abbrev pub with_passed : Shown → ℕ → Shown
 with_passed a tsn =
-    record a { receiver = passed_to a.receiver tsn; streams = passed_in a.streams tsn }
+    record a {
+      receiver = passed_to a.receiver tsn;
+      streams = passed_in a.streams tsn;
+      resets = without_unordered a.resets tsn;
+    }
 
 -- that asks to be acknowledged as DATA does, unless it leaves the receive buffer exhausted
 abbrev pub asks_behind : Shown → AckTrigger → Shown × Flow
@@ -93,17 +107,25 @@ asks_behind a trigger =
 abbrev pub on_forward_at : Standing → Shown → ℕ → List SkippedStream → AckTrigger → ℕ → Shown × Flow
 on_forward_at standings.Unused a tsn skips trigger now = refused a trigger
 on_forward_at standings.Behind a tsn skips trigger now = (acknowledged_at_once a now, flows.Next trigger)
-on_forward_at standings.Ahead a tsn skips trigger now = asks_behind (with_passed (with_skips skips a) tsn) trigger
+on_forward_at standings.Ahead a tsn skips trigger now =
+    asks_behind (settled (with_passed (with_skips tsn skips a) tsn)) trigger
 
 -- a FORWARD TSN with this new cumulative TSN and these skips of ordered messages
 unfoldable pub on_forward : Shown → ℕ → List SkippedStream → AckTrigger → ℕ → Shown × Flow
 on_forward a tsn skips trigger now = on_forward_at (standing_of a tsn) a tsn skips trigger now
 
-abbrev pub forward_takes_at : Standing → Shown → List SkippedStream → Bool
-forward_takes_at standings.Unused a skips = true
-forward_takes_at standings.Behind a skips = false
-forward_takes_at standings.Ahead a skips = some_is_told skips a
+-- memory is taken for what is kept of DATA that waits, and where a request of the peer is performed or a kept skip
+-- applied
+abbrev pub passing_takes_memory : ℕ → Shown → Bool
+passing_takes_memory tsn a =
+    nat_lt 0 (length a.resets.generations.deferred) || settling_takes_memory (with_passed a tsn)
 
--- it takes memory for the ERROR that refuses it, and for Readable where it makes a message ready
+abbrev pub forward_takes_at : Standing → Shown → ℕ → List SkippedStream → Bool
+forward_takes_at standings.Unused a tsn skips = true
+forward_takes_at standings.Behind a tsn skips = false
+forward_takes_at standings.Ahead a tsn skips =
+    some_takes_memory tsn skips a || passing_takes_memory tsn (with_skips tsn skips a)
+
+-- it takes memory for the ERROR that refuses it, for Readable where it makes a message ready, and for what resets keep
 abbrev pub forward_takes_memory : Shown → ℕ → List SkippedStream → Bool
-forward_takes_memory a tsn skips = forward_takes_at (standing_of a tsn) a skips
+forward_takes_memory a tsn skips = forward_takes_at (standing_of a tsn) a tsn skips

@@ -4,6 +4,7 @@ use Rattle.sctp_parts.specs.declared.timer.Timer.TheVariants as names
 use Rattle.sctp_parts.specs.Timers.{expiry_of}
 use Rattle.sctp_assoc.specs.Calls.{after_ack_delay, after_t3}
 use Rattle.sctp_assoc.specs.Handshake.{after_t1_cookie, after_t1_init}
+use Rattle.sctp_assoc.specs.Resets.{after_reconfig_timer}
 use Rattle.sctp_assoc.specs.Shown.{Shown}
 
 -- the timers of the handshake (RFC 4960 section 5.1)
@@ -11,7 +12,13 @@ abbrev pub after_handshake_timers : Shown → ℕ → Shown
 after_handshake_timers a now = after_t1_cookie (after_t1_init a now) now
 
 abbrev pub after_timeouts : Shown → ℕ → Shown
-after_timeouts a now = after_ack_delay (after_t3 (after_handshake_timers a now) now) now
+after_timeouts a now = after_ack_delay (after_reconfig_timer (after_t3 (after_handshake_timers a now) now) now) now
+
+-- requests to reset streams are told as failed: their timer expired past its limit
+abbrev pub gives_requests_up : Shown → ℕ → Bool
+gives_requests_up a now =
+    is_some a.resets.own.active
+    && ((expiry_of names.Reconfig now a.timers).expired && (expiry_of names.Reconfig now a.timers).failed)
 
 -- INIT is to go out again: its timer expired within its limit (RFC 4960 section 5.1)
 abbrev pub offers_again : Shown → ℕ → Bool
@@ -28,3 +35,8 @@ echoes_again a now =
 -- INIT or COOKIE ECHO is to go out again; the timer of INIT is looked at first
 abbrev pub handshake_goes_out_again : Shown → ℕ → Bool
 handshake_goes_out_again a now = offers_again a now || echoes_again (after_t1_init a now) now
+
+-- that takes memory, and so does telling that requests failed
+abbrev pub timeouts_take_memory : Shown → ℕ → Bool
+timeouts_take_memory a now =
+    handshake_goes_out_again a now || gives_requests_up (after_t3 (after_handshake_timers a now) now) now

@@ -22,9 +22,9 @@ ghost use Rattle.sctp_assoc.specs.Created.{create_refusal, created, fresh_associ
 ghost use Rattle.sctp_assoc.specs.Stream.{id_of, lender, lent, rests_if_none, rests_if_refused};
 ghost use Rattle.sctp_assoc.specs.Gather.{IsAddressed, has_something_to_give, packets_of, polled};
 ghost use Rattle.sctp_assoc.specs.Shown.{HasFailed, answers_of};
-ghost use Rattle.sctp_assoc.specs.Timeouts.{after_timeouts, handshake_goes_out_again};
+ghost use Rattle.sctp_assoc.specs.Timeouts.{after_timeouts, timeouts_take_memory};
 
-use crate::control::ControlPacket;
+use crate::control::Control;
 use crate::{AssociationEvent, Stream};
 use bytes::Bytes;
 use sctp_inbound::{Handshake, Offer, Receiver};
@@ -34,6 +34,7 @@ use sctp_parts::shared::AssociationId;
 use sctp_parts::state::AssociationState;
 use sctp_parts::stats::AssociationStats;
 use sctp_parts::timer::{Timer, TimerTable};
+use sctp_resets::Resets;
 use sctp_wire_queues::{
     AssociationError, ChunkInit, Error, Event, Events, Instant, Payload, PayloadProtocolIdentifier,
     ServerConfig, Side, StreamId, Streams, Transmit, TransportConfig,
@@ -75,10 +76,12 @@ pub struct Association {
     /// Why the handshake failed, until that is told.
     pub(crate) handshake_fault: Option<Error>,
     /// The packets that go out before any DATA, oldest first.
-    pub(crate) control: Vec<ControlPacket>,
+    pub(crate) control: Vec<Control>,
     pub(crate) timers: TimerTable,
     pub(crate) rto: RtoManager,
     pub(crate) stats: AssociationStats,
+    /// Requests to reset streams, and the generations of streams that ended and are still read.
+    pub(crate) resets: Resets,
 }
 
 impl Model for Association {
@@ -105,6 +108,7 @@ impl Model for Association {
       timers = a.timers;
       estimate = a.rto;
       counts = a.stats;
+      resets = a.resets;
     } };
 }
 
@@ -211,6 +215,7 @@ impl Association {
             remote_init.initial_tsn.wrapping_sub(1),
             remote_init.advertised_receiver_window_credit,
         );
+        association.resets.meet(remote_init.initial_tsn);
         association.events.push(Event::Connected)?;
         Ok(association)
     }
@@ -267,6 +272,7 @@ impl Association {
                 config.rto_max_ms(),
             ),
             stats: AssociationStats::default(),
+            resets: Resets::new(alloc, initial_tsn),
         }
     }
 
@@ -288,7 +294,7 @@ impl Association {
     fn next_event(&mut self) -> Option<Event>
         ensures { event_polled self.old ≡ (self.new, result) }
     {
-        match self.events.pop() {
+        match self.resets.next_event(&mut self.events) {
             Some(event) => Some(event),
             None => self
                 .handshake_fault
@@ -406,14 +412,14 @@ impl Association {
     /// others in flight are given up, FORWARD TSN is due again (RFC 3758 section 3.5). A delayed SACK becomes due
     /// (RFC 4960 section 6.2). `poll_transmit` gives the packets.
     ///
-    /// Errors: `ErrAssociationFailed`, and `ErrNoMemory` only where INIT or COOKIE ECHO is to go out again. After the
-    /// latter the association is failed.
+    /// Errors: `ErrAssociationFailed`, and `ErrNoMemory` only where INIT or COOKIE ECHO is to go out again, or a request
+    /// to reset streams is given up. After the latter the association is failed.
     #[tactic(auto, using(crate::proofs::CallsLeadOn::timeouts_lead_on))]
     pub fn handle_timeout(&mut self, now: Instant) -> Result<(), Error>
         ensures failed { IsErrOf result Error.ErrAssociationFailed ↔ (self.old.failed ≡ true) }
         ensures refused { IsErrOf result Error.ErrAssociationFailed → self.new ≡ self.old }
         ensures memory { IsErrOf result Error.ErrNoMemory → HasFailed (answers_of self.old) self.new }
-        ensures again { IsErrOf result Error.ErrNoMemory → handshake_goes_out_again self.old now ≡ true }
+        ensures again { IsErrOf result Error.ErrNoMemory → timeouts_take_memory self.old now ≡ true }
         ensures only { OnErr result ((result ≡ Err Error.ErrAssociationFailed) ⊎ (result ≡ Err Error.ErrNoMemory)) }
         ensures ok { OnOk result (self.new ≡ after_timeouts self.old now) }
         ensures acts { OnOk result (LeadsOn (acts_of_timeouts self.old now) self.old self.new) }
@@ -431,11 +437,12 @@ impl Association {
 
     fn on_timers(&mut self, now: Instant) -> Result<(), AllocError>
         ensures exact { OnOk result (self.new ≡ after_timeouts self.old now) }
-        ensures again { OnErr result (handshake_goes_out_again self.old now ≡ true) }
+        ensures again { OnErr result (timeouts_take_memory self.old now ≡ true) }
     {
         self.on_t1_init(now)?;
         self.on_t1_cookie(now)?;
         self.on_t3(now);
+        self.on_reconfig_timeout(now)?;
         self.on_ack(now);
         Ok(())
     }
@@ -491,6 +498,9 @@ impl Association {
         self.check_usable()?;
         if self.streams.contains(id) {
             return Err(Error::ErrStreamAlreadyExist);
+        }
+        if self.resets.is_blocked(id) {
+            return Err(Error::ErrStreamResetPending);
         }
         let first_message_id = self.sender.queue.next_message_id();
         self.streams

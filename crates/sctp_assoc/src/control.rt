@@ -6,6 +6,15 @@ use crate::Association;
 use sctp_wire_queues::{Chunk, CommonHeader};
 use std::alloc::AllocError;
 
+/// What waits to go out in front of DATA.
+#[derive(Debug, Drop)]
+pub enum Control {
+    Packet(ControlPacket),
+    /// The oldest request to reset streams that was never sent; it goes out once no DATA of its streams waits or is
+    /// unacknowledged.
+    OwnRequest,
+}
+
 /// A packet of one chunk that waits to go out, under the header of the moment at which it was queued.
 #[derive(Debug, Drop)]
 pub struct ControlPacket {
@@ -19,7 +28,8 @@ impl Association {
         ensures { OnOk result (self.new ≡ queued self.old chunk) }
     {
         let header = self.handshake.header();
-        self.control.push(ControlPacket { header, chunk })?;
+        self.control
+            .push(Control::Packet(ControlPacket { header, chunk }))?;
         Ok(())
     }
 }

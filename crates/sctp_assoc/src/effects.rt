@@ -40,6 +40,7 @@ impl Association {
         self.lost = true;
         stop_all(&mut self.timers);
         self.control.clear();
+        self.resets.close();
         end_streams(&mut self.streams, &mut self.events)?;
         self.events.push(Event::AssociationLost { reason })
     }
@@ -63,7 +64,7 @@ impl Association {
     pub(crate) fn is_exhausted(&self) -> bool
         ensures { result ≡ is_exhausted self.now }
     {
-        let waiting = self.streams.waiting_bytes();
+        let waiting = self.waiting_bytes();
         self.receiver.credit(waiting) == 0
             && !self.receiver.held.has_gap()
             && waiting > 0

@@ -11,16 +11,19 @@ ghost use Rattle.sctp_assoc.specs.Calls.{is_established};
 ghost use Rattle.sctp_assoc.specs.Gather.{AckIsReadAgain, AreControlReadAgain, AreReadAgain, ExchangeIsReadAgain};
 ghost use Rattle.sctp_assoc.specs.Gather.{ForwardIsReadAgain, IsReadAgain, PollIsReadAgain, ack_after, ack_polled};
 ghost use Rattle.sctp_assoc.specs.Gather.{after_both, after_fast, after_marks, after_new, both_of, bundled};
-ghost use Rattle.sctp_assoc.specs.Gather.{control_packets, data_gives, data_polled, exchange_gives, exchange_polled};
+ghost use Rattle.sctp_assoc.specs.Gather.{ControlReadAgain, control_polled, data_gives, data_polled};
+ghost use Rattle.sctp_assoc.specs.Gather.{exchange_gives, exchange_polled};
 ghost use Rattle.sctp_assoc.specs.Gather.{fast_fell, fast_gives, fast_sent, forward_after, forward_polled};
 ghost use Rattle.sctp_assoc.specs.Gather.{has_something_to_give, is_due, late_abandoned, late_fell, marks_fell};
 ghost use Rattle.sctp_assoc.specs.Gather.{marks_give, marks_sent, new_fell, new_gives, new_sent};
 ghost use Rattle.sctp_assoc.specs.Gather.{packet_bytes, single_chunk_packet, polled, spent_abandoned};
-ghost use Rattle.sctp_assoc.specs.Gather.{with_t3, without_control};
+ghost use Rattle.sctp_assoc.specs.Gather.{requests_after, with_control_given, with_request_placed, with_t3};
+ghost use Rattle.sctp_assoc.specs.Gather.{without_control};
 ghost use Rattle.sctp_assoc.specs.Shown.{uses_forward_tsn};
+ghost use Rattle.sctp_resets.specs.Resets.{request_sent};
 
 use crate::Association;
-use crate::control::ControlPacket;
+use crate::control::Control;
 use bytes::Bytes;
 use sctp_outbound_queue::Retransmission;
 use sctp_parts::state::{AckState, AssociationState};
@@ -40,10 +43,51 @@ impl Association {
         ensures grows { OnErr result (has_something_to_give self.old now ≡ true) }
     {
         let mut packets = Vec::new(self.alloc);
-        let waiting = mem::replace(&mut self.control, Vec::new(self.alloc));
-        put_control(&mut packets, self.alloc, waiting)?;
+        self.gather_control(&mut packets)?;
         self.gather_exchange(&mut packets, now)?;
+        self.run_reconfig(now);
         Ok(packets)
+    }
+
+    // What waits in front of DATA, oldest first. A request that may not go out keeps its place.
+    fn gather_control(&mut self, packets: &mut Vec<Bytes>) -> Result<(), AllocError>
+        requires { packets.old.items ≡ [] }
+        ensures exact { OnOk result (control_polled self.old ≡ (self.new, packets.new.items)) }
+        ensures again { OnOk result (AreControlReadAgain self.old.control) }
+        ensures grows { OnErr result (nat_lt 0 (length self.old.control) ≡ true) }
+    {
+        if self.control.is_empty() {
+            return Ok(());
+        }
+        let waiting = mem::replace(&mut self.control, Vec::new(self.alloc));
+        for control in waiting {
+            self.give_control(packets, control)?;
+        }
+        Ok(())
+    }
+
+    fn give_control(&mut self, packets: &mut Vec<Bytes>, control: Control) -> Result<(), AllocError>
+        ensures exact { OnOk result
+            (with_control_given (self.old, packets.old.items) control ≡ (self.new, packets.new.items)) }
+        ensures again { OnOk result (ControlReadAgain control) }
+    {
+        match control {
+            Control::Packet(packet) => {
+                put_packet(packets, self.alloc, packet.header, packet.chunk)
+            }
+            Control::OwnRequest => self.give_request(packets),
+        }
+    }
+
+    // Sends the oldest request that was never sent; where it may not go out it keeps its place.
+    fn give_request(&mut self, packets: &mut Vec<Bytes>) -> Result<(), AllocError>
+        ensures { OnOk result (with_request_placed (self.old, packets.old.items)
+            (request_sent self.old.resets self.old.sender.queue) ≡ (self.new, packets.new.items)) }
+    {
+        match self.resets.send_first(&self.sender.queue)? {
+            Some(param) => self.put_request(packets, param),
+            None => self.place_request(),
+        }
     }
 
     #[tactic(auto, unfolding(crate::specs::Gather::exchange_polled))]
@@ -65,13 +109,14 @@ impl Association {
         now: Instant,
     ) -> Result<(), AllocError>
         ensures exact { OnOk result
-            (after_both packets.old.items (forward_after (ack_after (data_polled self.old now)))
+            (after_both packets.old.items (forward_after (ack_after (requests_after (data_polled self.old now))))
             ≡ (self.new, packets.new.items)) }
         ensures again { OnOk result (ExchangeIsReadAgain self.old now) }
         ensures grows { OnErr result (exchange_gives self.old now ≡ true) }
     {
         let data = self.gather_data(now)?;
         put_all(packets, data)?;
+        self.gather_requests(packets)?;
         self.gather_ack(packets)?;
         self.gather_forward(packets)?;
         Ok(())
@@ -196,7 +241,7 @@ impl Association {
         ensures grows { OnErr result (is_due self.old.receiver.ack_state ≡ true) }
     {
         if self.receiver.ack_state == AckState::Immediate {
-            let waiting = self.streams.waiting_bytes();
+            let waiting = self.waiting_bytes();
             let sack = self.receiver.sack(self.alloc, waiting)?;
             let header = self.handshake.header();
             put_packet(packets, self.alloc, header, Chunk::SelectiveAck(sack))?;
@@ -220,26 +265,6 @@ impl Association {
     }
 }
 
-// The packets that wait, oldest first.
-#[tactic(auto, using(crate::proofs::PacketsReadAgain::one_more_control_again))]
-fn put_control(
-    packets: &mut Vec<Bytes>,
-    alloc: Global,
-    waiting: Vec<ControlPacket>,
-) -> Result<(), AllocError>
-    ensures exact { OnOk result (packets.new.items ≡ packets.old.items ++ control_packets waiting.items) }
-    ensures again { OnOk result (AreControlReadAgain waiting.items) }
-    ensures grows { OnErr result (nat_lt 0 (length waiting.items) ≡ true) }
-{
-    if waiting.is_empty() {
-        return Ok(());
-    }
-    for packet in waiting {
-        put_packet(packets, alloc, packet.header, packet.chunk)?;
-    }
-    Ok(())
-}
-
 // Some packets behind others; where there are no others they need no room.
 fn put_all(packets: &mut Vec<Bytes>, more: Vec<Bytes>) -> Result<(), AllocError>
     ensures exact { OnOk result (packets.new.items ≡ packets.old.items ++ more.items) }
@@ -257,7 +282,7 @@ fn put_all(packets: &mut Vec<Bytes>, more: Vec<Bytes>) -> Result<(), AllocError>
 
 // Spells a packet of one chunk. A chunk that is longer than its length field can say is not sent.
 #[tactic(auto, unfolding(crate::specs::Gather::packet_bytes), using(crate::proofs::PacketsReadAgain::read_again))]
-fn put_packet(
+pub(crate) fn put_packet(
     packets: &mut Vec<Bytes>,
     alloc: Global,
     common_header: CommonHeader,

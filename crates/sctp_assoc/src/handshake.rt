@@ -51,6 +51,7 @@ impl Association {
         ensures { self.new ≡ learns_peer self.old initial_tsn window }
     {
         self.receiver.set_initial_tsn(initial_tsn);
+        self.resets.meet(initial_tsn);
         self.sender.set_peer_window(window);
     }
 

@@ -2,12 +2,15 @@
 ghost use Rattle.std.specs.Prelude.{◌≡◌, ◌≢◌, ◌⊎◌, true, false, is_ok, OnErr, OnOk, IfOk, Ok, None, if◌then◌else◌};
 ghost use Rattle.sctp_wire.specs.Packets.{checked, finished};
 ghost use Rattle.sctp_inbound.specs.Receiver.{admits, asked, is_new_to};
-ghost use Rattle.sctp_streams.specs.Streams.{bytes_waiting, refusal_in};
+ghost use Rattle.sctp_streams.specs.Streams.{refusal_in};
 ghost use Rattle.sctp_assoc.specs.Inbound.{packet_read, taken_packet};
 ghost use Rattle.sctp_assoc.specs.Memory.{chunk_takes_memory, chunks_take_memory, data_takes_memory, makes_stream};
-ghost use Rattle.sctp_assoc.specs.Memory.{packet_takes_memory, sack_takes_memory, takes_memory};
+ghost use Rattle.sctp_assoc.specs.Memory.{packet_takes_memory, sack_takes_memory, taking_takes_memory, takes_memory};
 ghost use Rattle.sctp_assoc.specs.Chunks.{after_chunks, after_packet, dispatched, on_chunk, on_data, on_sack};
-ghost use Rattle.sctp_assoc.specs.Chunks.{stream_found, taken_in};
+ghost use Rattle.sctp_assoc.specs.Chunks.{asks, asks_or_faults, deferred, deferred_where_admitted, stream_found};
+ghost use Rattle.sctp_assoc.specs.Chunks.{taken_in, taken_where_admitted};
+ghost use Rattle.sctp_assoc.specs.Resets.{settled, settling_takes_memory};
+ghost use Rattle.sctp_assoc.specs.Shown.{all_waiting};
 ghost use Rattle.sctp_assoc.specs.Closing.{is_exhausted};
 
 use crate::Association;
@@ -139,6 +142,7 @@ impl Association {
             Chunk::Heartbeat(heartbeat) => self.on_heartbeat(heartbeat, trigger),
             Chunk::ForwardTsn(forward) => self.on_forward_tsn(forward, trigger, now),
             Chunk::IForwardTsn(forward) => self.on_i_forward_tsn(forward, trigger, now),
+            Chunk::Reconfig(reconfig) => self.on_reconfig(&reconfig, trigger),
             Chunk::Abort(_) | Chunk::Error(_) => Ok(Flow::Fault(Error::ErrAbortChunk)),
             _ => Ok(Flow::Fault(Error::ErrChunkTypeUnhandled)),
         }
@@ -153,17 +157,72 @@ impl Association {
     {
         self.stats.inc_datas();
         let immediate = piece.immediate_sack;
-        if self.receiver.is_new(piece.tsn) {
-            if !self.has_stream(piece.stream_identifier)? {
-                return Ok(Flow::Next(trigger));
-            }
-            if self.admits(piece.tsn) {
-                if let Some(fault) = self.take_in(piece)? {
-                    return Ok(Flow::Fault(fault));
-                }
-            }
+        if !self.receiver.is_new(piece.tsn) {
+            return self.settle_and_ask(trigger, immediate);
         }
+        if self.resets.is_hidden(piece.stream_identifier, piece.tsn) {
+            let fault = self.defer_where_admitted(piece)?;
+            return self.ask_or_fault(fault, trigger, immediate);
+        }
+        if !self.has_stream(piece.stream_identifier)? {
+            return Ok(Flow::Next(trigger));
+        }
+        let fault = self.take_where_admitted(piece)?;
+        self.ask_or_fault(fault, trigger, immediate)
+    }
+
+    // Behind DATA that is no fault, a request of the peer that waited for it is performed.
+    fn ask_or_fault(
+        &mut self,
+        fault: Option<Error>,
+        trigger: AckTrigger,
+        immediate: bool,
+    ) -> Result<Flow, AllocError>
+        ensures exact { IfOk result (λ flow. asks_or_faults (self.old, fault) immediate trigger ≡ (self.new, flow)) }
+        ensures grows { OnErr result (settling_takes_memory self.old ≡ true) }
+    {
+        match fault {
+            Some(fault) => Ok(Flow::Fault(fault)),
+            None => self.settle_and_ask(trigger, immediate),
+        }
+    }
+
+    fn settle_and_ask(&mut self, trigger: AckTrigger, immediate: bool) -> Result<Flow, AllocError>
+        ensures exact { IfOk result (λ flow. asks (settled self.old) immediate trigger ≡ (self.new, flow)) }
+        ensures grows { OnErr result (settling_takes_memory self.old ≡ true) }
+    {
+        self.settle()?;
         Ok(self.ask(trigger, immediate))
+    }
+
+    // Takes in new DATA of the generation that is read, where credit is left or it fills a gap, and applies the skips
+    // that were kept for that generation; answers why its stream refuses it, if it does.
+    fn take_where_admitted(&mut self, piece: ChunkPayloadData) -> Result<Option<Error>, AllocError>
+        requires { is_new_to self.old.receiver piece.tsn ≡ true }
+        ensures exact { IfOk result (λ fault. taken_where_admitted self.old piece ≡ (self.new, fault)) }
+        ensures grows { OnErr result (taking_takes_memory self.old piece ≡ true) }
+    {
+        if !self.admits(piece.tsn) {
+            return Ok(None);
+        }
+        let id = piece.stream_identifier;
+        let fault = self.take_in(piece)?;
+        if fault.is_none() {
+            self.apply_skips_of(id)?;
+        }
+        Ok(fault)
+    }
+
+    // Keeps new DATA of a generation that is not read yet, likewise.
+    #[tactic(auto, unfolding(crate::specs::Chunks::deferred_where_admitted))]
+    fn defer_where_admitted(&mut self, piece: ChunkPayloadData) -> Result<Option<Error>, AllocError>
+        requires { is_new_to self.old.receiver piece.tsn ≡ true }
+        ensures { IfOk result (λ fault. deferred_where_admitted self.old piece ≡ (self.new, fault)) }
+    {
+        if !self.admits(piece.tsn) {
+            return Ok(None);
+        }
+        self.defer(piece)
     }
 
     // DATA asks to be acknowledged, unless the receive buffer is exhausted.
@@ -201,6 +260,20 @@ impl Association {
         Ok(true)
     }
 
+    // Keeps DATA of a generation that is not read yet; answers why that refuses it, if it does.
+    fn defer(&mut self, piece: ChunkPayloadData) -> Result<Option<Error>, AllocError>
+        requires { is_new_to self.old.receiver piece.tsn ≡ true }
+        ensures { IfOk result (λ fault. deferred self.old piece ≡ (self.new, fault)) }
+    {
+        let limit = self.receiver.max_receive_message_size;
+        if let Some(fault) = self.resets.refusal(&piece, limit)? {
+            return Ok(Some(fault));
+        }
+        self.receiver.take(piece.tsn)?;
+        self.resets.defer(piece)?;
+        Ok(None)
+    }
+
     // Hands a new piece to its stream and then moves the last TSN in order; answers why the stream refuses it, if it
     // does: a message that is longer than the limit is a refusal. What the stream refuses isn't held, and lacks no
     // memory.
@@ -229,9 +302,9 @@ impl Association {
     }
 
     fn admits(&self, tsn: u32) -> bool
-        ensures { result ≡ admits self.now.receiver tsn (bytes_waiting self.now.streams) }
+        ensures { result ≡ admits self.now.receiver tsn (all_waiting self.now) }
     {
-        self.receiver.admits(tsn, self.streams.waiting_bytes())
+        self.receiver.admits(tsn, self.waiting_bytes())
     }
 
     // SACK (RFC 4960 section 6.2.1), read by its cumulative TSN ack, its gap ack blocks and its window. Streams that it

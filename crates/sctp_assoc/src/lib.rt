@@ -77,6 +77,7 @@ mod gather;
 mod handshake;
 mod inbound;
 mod readers;
+mod resets;
 mod shared;
 mod skipping;
 mod stream;

@@ -1,10 +1,10 @@
 // FORWARD TSN that comes (RFC 3758 section 3.6; RFC 8260 section 2.3.1).
 ghost use Rattle.std.specs.Prelude.{◌≡◌, true, IfOk, OnErr, OnOk};
-ghost use Rattle.sctp_streams.specs.Streams.{becomes_ready_in};
+ghost use Rattle.sctp_assoc.specs.Resets.{settled};
 ghost use Rattle.sctp_assoc.specs.Skipping.{acknowledged_at_once, asks_behind, forward_takes_memory, on_forward};
-ghost use Rattle.sctp_assoc.specs.Skipping.{standing_of, refused, skips_of, some_is_told, unrecognized_chunk};
-ghost use Rattle.sctp_assoc.specs.Skipping.{with_passed};
-ghost use Rattle.sctp_assoc.specs.Skipping.{with_skip, with_skips};
+ghost use Rattle.sctp_assoc.specs.Skipping.{passing_takes_memory, refused, skip_takes_memory, skips_of};
+ghost use Rattle.sctp_assoc.specs.Skipping.{some_takes_memory, standing_of, unrecognized_chunk, with_passed, with_skip};
+ghost use Rattle.sctp_assoc.specs.Skipping.{with_skips};
 ghost use Rattle.sctp_assoc.specs.declared.inbound.Flow.TheVariants as flows;
 
 use crate::Association;
@@ -52,8 +52,8 @@ impl Association {
             Standing::Unused => self.refuse_forward(trigger),
             Standing::Behind => Ok(self.acknowledge_at_once(trigger, now)),
             Standing::Ahead => {
-                self.skip_streams(forward.streams.as_slice())?;
-                Ok(self.pass_over(forward.new_cumulative_tsn, trigger))
+                self.skip_streams(forward.streams.as_slice(), forward.new_cumulative_tsn)?;
+                self.pass_over(forward.new_cumulative_tsn, trigger)
             }
         }
     }
@@ -78,8 +78,8 @@ impl Association {
             Standing::Unused => self.refuse_forward(trigger),
             Standing::Behind => Ok(self.acknowledge_at_once(trigger, now)),
             Standing::Ahead => {
-                self.skip_messages(forward.entries.as_slice())?;
-                Ok(self.pass_over(forward.new_cumulative_tsn, trigger))
+                self.skip_messages(forward.entries.as_slice(), forward.new_cumulative_tsn)?;
+                self.pass_over(forward.new_cumulative_tsn, trigger)
             }
         }
     }
@@ -116,34 +116,39 @@ impl Association {
     }
 
     // The last TSN in order and the unordered messages pass over a TSN, which asks to be acknowledged as DATA does.
-    fn pass_over(&mut self, tsn: u32, trigger: AckTrigger) -> Flow
-        ensures { asks_behind (with_passed self.old tsn) trigger ≡ (self.new, result) }
+    fn pass_over(&mut self, tsn: u32, trigger: AckTrigger) -> Result<Flow, AllocError>
+        ensures exact { IfOk result
+            (λ flow. asks_behind (settled (with_passed self.old tsn)) trigger ≡ (self.new, flow)) }
+        ensures grows { OnErr result (passing_takes_memory tsn self.old ≡ true) }
     {
         self.receiver.pass_over(tsn);
         self.streams.skip_unordered(tsn);
-        self.ask(trigger, false)
+        self.resets.skip_unordered(tsn)?;
+        self.settle()?;
+        Ok(self.ask(trigger, false))
     }
 
     // The ordered messages of some streams, one after another.
-    fn skip_streams(&mut self, skipped: &[SkippedStream]) -> Result<(), AllocError>
-        ensures exact { OnOk result (self.new ≡ with_skips skipped.now self.old) }
-        ensures grows { OnErr result (some_is_told skipped.now self.old ≡ true) }
+    fn skip_streams(&mut self, skipped: &[SkippedStream], tsn: u32) -> Result<(), AllocError>
+        ensures exact { OnOk result (self.new ≡ with_skips tsn skipped.now self.old) }
+        ensures grows { OnErr result (some_takes_memory tsn skipped.now self.old ≡ true) }
     {
         for skip in skipped {
-            self.skip_stream(skip.stream_identifier, skip.stream_sequence_number)?;
+            self.skip_stream(skip.stream_identifier, skip.stream_sequence_number, tsn)?;
         }
         Ok(())
     }
 
-    fn skip_messages(&mut self, entries: &[IForwardTsnEntry]) -> Result<(), AllocError>
-        ensures exact { OnOk result (self.new ≡ with_skips (skips_of entries.now) self.old) }
-        ensures grows { OnErr result (some_is_told (skips_of entries.now) self.old ≡ true) }
+    fn skip_messages(&mut self, entries: &[IForwardTsnEntry], tsn: u32) -> Result<(), AllocError>
+        ensures exact { OnOk result (self.new ≡ with_skips tsn (skips_of entries.now) self.old) }
+        ensures grows { OnErr result (some_takes_memory tsn (skips_of entries.now) self.old ≡ true) }
     {
         for entry in entries {
             if !entry.unordered {
                 self.skip_stream(
                     entry.stream_identifier,
                     (entry.message_identifier % 65_536) as u16,
+                    tsn,
                 )?;
             }
         }
@@ -151,12 +156,15 @@ impl Association {
     }
 
     // The ordered messages of a live stream up to an SSN. Readable is told where this makes a message ready and none
-    // was.
+    // was. Where a generation of the stream ended and is still read, the skip is kept for its newest one.
     #[tactic(auto, unfolding(crate::specs::Skipping::with_skip))]
-    fn skip_stream(&mut self, id: StreamId, ssn: u16) -> Result<(), AllocError>
-        ensures exact { OnOk result (self.new ≡ with_skip id ssn self.old) }
-        ensures grows { OnErr result (becomes_ready_in self.old.streams id ssn ≡ true) }
+    fn skip_stream(&mut self, id: StreamId, ssn: u16, tsn: u32) -> Result<(), AllocError>
+        ensures exact { OnOk result (self.new ≡ with_skip tsn id ssn self.old) }
+        ensures grows { OnErr result (skip_takes_memory id ssn self.old ≡ true) }
     {
+        if self.resets.is_retiring(id) {
+            return self.resets.skip(id, ssn, tsn);
+        }
         if self.streams.skip(id, ssn) {
             self.events
                 .push(Event::Stream(StreamEvent::Readable { id }))?;

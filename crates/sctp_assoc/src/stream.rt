@@ -2,15 +2,15 @@
 ghost use Rattle.std.specs.Prelude.{◌≡◌, ◌↔◌, ◌∷◌, [], length, slice_get, IsNone, IfOk, IfSome, OnErr, OnOk};
 ghost use Rattle.std.specs.Prelude.{◌==◌, IfErr, None, Some, not, position, set, true};
 ghost use Rattle.sctp_streams.specs.declared.setting.Setting.TheVariants as settings;
-ghost use Rattle.sctp_streams.specs.Stream.{is_read_half_open, is_write_half_open, params_of};
+ghost use Rattle.sctp_streams.specs.Stream.{is_read_half_open, params_of};
 ghost use Rattle.sctp_directions.specs.Acts.{Act};
-ghost use Rattle.sctp_assoc.specs.Happened.{acts_of_read};
+ghost use Rattle.sctp_assoc.specs.Happened.{acts_of_close_stream, acts_of_read, acts_of_stop};
 ghost use Rattle.sctp_assoc.specs.Leads.{LeadsOn};
 ghost use Rattle.sctp_assoc.specs.Stream.{lent, lender, id_of};
 ghost use Rattle.sctp_assoc.specs.Calls.{LeavesTheOthers, Refuses, RefusesOrLacksMemory, RefusesRead, adjusted};
-ghost use Rattle.sctp_assoc.specs.Calls.{buffered_of, first_filled, gone_refusal, holds_of};
+ghost use Rattle.sctp_assoc.specs.Calls.{RefusesStop, buffered_of, first_filled, gone_refusal, holds_of, is_writable};
 ghost use Rattle.sctp_assoc.specs.Calls.{read_from_stream, read_refusal, ready_messages};
-ghost use Rattle.sctp_assoc.specs.Calls.{value_of, without_first_filled};
+ghost use Rattle.sctp_assoc.specs.Calls.{stop_refusal, stopped, value_of, without_first_filled};
 ghost use Rattle.sctp_assoc.specs.Calls.{write_refusal, written};
 
 use crate::Association;
@@ -207,6 +207,39 @@ impl<'a> Stream<'a> {
             .set_stream(self.id, Setting::WriteHalfClosed)
     }
 
+    /// Closes the read half and asks for a reset of the stream (RFC 6525 section 5.1). Nothing changes where the read
+    /// half is closed already.
+    ///
+    /// Refused, in this order with nothing changed: `ErrAssociationFailed`; `ErrStreamClosed` where the stream is gone;
+    /// `ErrResetPacketInStateNotExist` outside Established, where no generation of the stream is retiring;
+    /// `ErrNoMemory`, which leaves the association failed.
+    pub fn stop(&mut self) -> Result<(), Error>
+        ensures same { lender self.new ≡ lender self.old }
+        ensures id { id_of self.new ≡ id_of self.old }
+        ensures refused { RefusesOrLacksMemory result (stop_refusal (lent self.old) (id_of self.old)) }
+        ensures err { IfErr result (λ error. RefusesStop (lent self.old) (id_of self.old) error (lent self.new)) }
+        ensures ok { OnOk result (lent self.new ≡ stopped (lent self.old) (id_of self.old)) }
+        ensures acts { OnOk result
+            (LeadsOn (acts_of_stop (lent self.old) (id_of self.old)) (lent self.old) (lent self.new)) }
+    {
+        self.association.stop_stream(self.id)
+    }
+
+    /// Closes the write half as `finish` does, and then the read half as `stop` does. Refused as `stop` is.
+    pub fn close(&mut self) -> Result<(), Error>
+        ensures same { lender self.new ≡ lender self.old }
+        ensures id { id_of self.new ≡ id_of self.old }
+        ensures refused { RefusesOrLacksMemory result (stop_refusal (lent self.old) (id_of self.old)) }
+        ensures err { IfErr result (λ error. RefusesStop (lent self.old) (id_of self.old) error (lent self.new)) }
+        ensures ok { OnOk result
+            (lent self.new ≡ stopped (adjusted (lent self.old) (id_of self.old) settings.WriteHalfClosed)
+            (id_of self.old)) }
+        ensures acts { OnOk result
+            (LeadsOn (acts_of_close_stream (lent self.old) (id_of self.old)) (lent self.old) (lent self.new)) }
+    {
+        self.association.close_stream(self.id)
+    }
+
     /// Sets how messages are sent that are written from now on: in order or not, and how long each is tried (RFC 3758
     /// sections 3.5 and 4.1). `value` is the greatest number of retransmissions for `Rexmit` and the lifetime in ms for
     /// `Timed`, which begins at the first `poll_transmit` after the write; for `Reliable` it says nothing. Where the
@@ -260,9 +293,10 @@ impl<'a> Stream<'a> {
         self.association.is_stream_readable(self.id)
     }
 
-    /// Whether the write half is open; false where the stream is gone. The state of the association is not asked.
+    /// Whether the write half is open and no reset of the stream is open; false where the stream is gone. The state of
+    /// the association is not asked.
     pub fn is_writable(&self) -> bool
-        ensures { result ≡ holds_of (λ s. is_write_half_open s.halves) (lent self.now) (id_of self.now) }
+        ensures { result ≡ is_writable (lent self.now) (id_of self.now) }
     {
         self.association.is_stream_writable(self.id)
     }

@@ -1,14 +1,17 @@
 // What an association does for the calls of its streams.
 ghost use Rattle.std.specs.Prelude.{◌≡◌, ◌↔◌, ◌∷◌, [], length, slice_get, IsNone, IfErr, IfOk, OnErr, OnOk, true};
 ghost use Rattle.std.specs.Prelude.{Some};
-ghost use Rattle.sctp_streams.specs.Stream.{is_read_half_open, is_write_half_open};
+ghost use Rattle.sctp_streams.specs.Stream.{is_read_half_open};
+ghost use Rattle.sctp_streams.specs.declared.setting.Setting.TheVariants as settings;
 ghost use Rattle.sctp_streams.specs.Streams.{stream_at};
+ghost use Rattle.sctp_resets.specs.Resets.{is_retiring};
 ghost use Rattle.sctp_directions.specs.Acts.{Act};
-ghost use Rattle.sctp_assoc.specs.Happened.{acts_of_read};
+ghost use Rattle.sctp_assoc.specs.Happened.{acts_of_close_stream, acts_of_read, acts_of_stop};
 ghost use Rattle.sctp_assoc.specs.Leads.{LeadsOn};
 ghost use Rattle.sctp_assoc.specs.Calls.{LeavesTheOthers, Refuses, RefusesOrLacksMemory, RefusesRead, adjusted};
-ghost use Rattle.sctp_assoc.specs.Calls.{gone_refusal, holds_of, read_exhausts, read_from_stream};
-ghost use Rattle.sctp_assoc.specs.Calls.{read_refusal, ready_messages};
+ghost use Rattle.sctp_assoc.specs.Calls.{RefusesStop, drained_behind, gone_refusal, holds_of, is_writable};
+ghost use Rattle.sctp_assoc.specs.Calls.{read_from_stream, read_refusal, read_takes_memory, ready_messages};
+ghost use Rattle.sctp_assoc.specs.Calls.{stop_refusal, stopped, stopped_open};
 ghost use Rattle.sctp_assoc.specs.Calls.{with_queued, write_refusal, written};
 ghost use Rattle.sctp_assoc.specs.Closing.{is_exhausted, relieved};
 ghost use Rattle.sctp_assoc.specs.Shown.{HasFailed, answers_of};
@@ -40,14 +43,34 @@ impl Association {
     // Takes the next message out, and closes where that leaves the receive buffer exhausted.
     fn read_next(&mut self, id: StreamId) -> Result<Option<Chunks>, Error>
         ensures ok { IfOk result (λ message. read_from_stream self.old id ≡ (self.new, message)) }
-        ensures err { IfErr result (λ e. (e ≡ Error.ErrNoMemory) × (read_exhausts self.old id ≡ true)
+        ensures err { IfErr result (λ e. (e ≡ Error.ErrNoMemory) × (read_takes_memory self.old id ≡ true)
             × HasFailed (answers_of self.old) self.new) }
     {
-        let Some(message) = self.streams.read(id) else {
-            return Ok(None);
-        };
-        self.relieve()?;
-        Ok(Some(message))
+        let message = self.streams.read(id);
+        let before = self.answers();
+        if self.read_out(id).is_err() {
+            self.fail(before);
+            return Err(Error::ErrNoMemory);
+        }
+        if message.is_some() {
+            self.relieve()?;
+        }
+        Ok(message)
+    }
+
+    // Ends the generations of the stream that ended and of which nothing waits.
+    fn read_out(&mut self, id: StreamId) -> Result<(), AllocError>
+        ensures exact { OnOk result (self.new ≡ drained_behind self.old id self.old.streams) }
+        ensures grows { OnErr result (is_retiring self.old.resets id ≡ true) }
+    {
+        self.resets.read_out(
+            id,
+            &mut self.streams,
+            &mut self.events,
+            &mut self.to_accept,
+            self.sender.queue.next_message_id(),
+            self.receiver.max_receive_message_size,
+        )
     }
 
     // Refuses a read for any reason but memory.
@@ -127,6 +150,9 @@ impl Association {
         }
         if !matches!(self.state, AssociationState::Established) {
             return Err(Error::ErrPayloadDataStateNotExist);
+        }
+        if self.resets.is_blocked(id) {
+            return Err(Error::ErrStreamResetPending);
         }
         if size == 0 {
             return Err(Error::ErrEmptyMessage);
@@ -225,6 +251,70 @@ impl Association {
         Ok(())
     }
 
+    // Closes the read half and asks for a reset; nothing where it is closed already.
+    #[tactic(auto, using(crate::proofs::StopsLeadOn::idle_stop_leads_on))]
+    pub(crate) fn stop_stream(&mut self, id: StreamId) -> Result<(), Error>
+        ensures refused { RefusesOrLacksMemory result (stop_refusal self.old id) }
+        ensures err { IfErr result (λ error. RefusesStop self.old id error self.new) }
+        ensures ok { OnOk result (self.new ≡ stopped self.old id) }
+        ensures acts { OnOk result (LeadsOn (acts_of_stop self.old id) self.old self.new) }
+    {
+        self.check_stop(id)?;
+        if !self.is_stream_readable(id) {
+            return Ok(());
+        }
+        let before = self.answers();
+        if self.stop_open(id).is_err() {
+            self.fail(before);
+            return Err(Error::ErrNoMemory);
+        }
+        self.relieve()
+    }
+
+    // Refuses to stop a stream for any reason but memory.
+    pub(crate) fn check_stop(&self, id: StreamId) -> Result<(), Error>
+        ensures { Refuses result (stop_refusal self.now id) }
+    {
+        self.check_live(id)?;
+        if self.is_stream_readable(id)
+            && !self.resets.is_retiring(id)
+            && !matches!(self.state, AssociationState::Established)
+        {
+            return Err(Error::ErrResetPacketInStateNotExist);
+        }
+        Ok(())
+    }
+
+    fn stop_open(&mut self, id: StreamId) -> Result<(), AllocError>
+        ensures exact { OnOk result (self.new ≡ stopped_open self.old id) }
+    {
+        self.streams.close_read_half(id);
+        if self.resets.is_retiring(id) {
+            self.resets
+                .stop_reading(id, &mut self.streams, &mut self.events)
+        } else {
+            self.resets.wait_for(id)
+        }
+    }
+
+    // Closes both halves of a stream.
+    pub(crate) fn close_stream(&mut self, id: StreamId) -> Result<(), Error>
+        ensures refused { RefusesOrLacksMemory result (stop_refusal self.old id) }
+        ensures err { IfErr result (λ error. RefusesStop self.old id error self.new) }
+        ensures ok { OnOk result (self.new ≡ stopped (adjusted self.old id settings.WriteHalfClosed) id) }
+        ensures acts { OnOk result (LeadsOn (acts_of_close_stream self.old id) self.old self.new) }
+    {
+        self.check_stop(id)?;
+        self.close_write_half(id);
+        self.stop_stream(id)
+    }
+
+    fn close_write_half(&mut self, id: StreamId)
+        ensures { self.new ≡ adjusted self.old id settings.WriteHalfClosed }
+    {
+        self.streams.set(id, Setting::WriteHalfClosed);
+    }
+
     // Whether it is live and its read half is open.
     pub(crate) fn is_stream_readable(&self, id: StreamId) -> bool
         ensures { result ≡ holds_of (λ s. is_read_half_open s.halves) self.now id }
@@ -237,10 +327,10 @@ impl Association {
 
     // Whether it is live and its write half is open.
     pub(crate) fn is_stream_writable(&self, id: StreamId) -> bool
-        ensures { result ≡ holds_of (λ s. is_write_half_open s.halves) self.now id }
+        ensures { result ≡ is_writable self.now id }
     {
         match self.streams.get(id) {
-            Some(stream) => stream.is_write_half_open(),
+            Some(stream) => stream.is_write_half_open() && !self.resets.is_blocked(id),
             None => false,
         }
     }

@@ -2,10 +2,11 @@ use Rattle.std.proofs.Common.{◌≡◌, ◌∙◌, ap, length, nat_lt, subst, s
 use Rattle.sctp_inbound.specs.Handshake.{header_of}
 use Rattle.sctp_outbound.specs.Forward.{gives_forward}
 use Rattle.sctp_outbound.proofs.SenderSteps.{on_err}
-use Rattle.sctp_assoc.specs.Gather.{ack_polled, after_both, data_polled, is_due}
+use Rattle.sctp_assoc.specs.Gather.{after_both, data_polled, is_due, requests_give, requests_polled}
 use Rattle.sctp_assoc.specs.Shown.{Shown}
 use Rattle.sctp_assoc.proofs.MemoryTaken.{ack_is_given, data_is_given, forward_is_given, packets_are_given}
-use Rattle.sctp_assoc.proofs.PacketsReadAgain.{acked_as, exact_of, poll_again}
+use Rattle.sctp_assoc.proofs.MemoryTaken.{requests_are_given}
+use Rattle.sctp_assoc.proofs.PacketsReadAgain.{acked_as, asked_as, exact_of, poll_again}
 use Rattle.sctp_assoc.proofs.PolledSteps.{data_poll_stays}
 use Rattle.sctp_assoc.proofs.association.Association.gather_established.Goals as goal
 
@@ -14,14 +15,15 @@ returns-clause-exact c =
     exact_of c.args.packets.now.items (data_polled c.args.self.now c.args.now)
     (ap header_of (data_poll_stays c.args.self.now c.args.now).handshake) c.in_ok-data.ensures.packets
     c.in_ok-put_all.ensures.exact
-    (ap (λ (b : Shown). after_both c.put_all.new.packets.items (ack_polled b)) c.in_ok-data.ensures.exact
-    ∙ c.in_ok-gather_ack.ensures.exact)
-    c.in_ok-gather_forward.ensures.exact
+    (ap (λ (b : Shown). after_both c.put_all.new.packets.items (requests_polled b)) c.in_ok-data.ensures.exact
+    ∙ c.in_ok-gather_requests.ensures.exact)
+    c.in_ok-gather_ack.ensures.exact c.in_ok-gather_forward.ensures.exact
 
 pub returns-clause-again : goal.returns-clause-again
 returns-clause-again c =
-    poll_again c.args.self.now c.args.now c.put_all.new.packets.items c.in_ok-data.ensures.exact
-    c.in_ok-gather_ack.ensures.exact c.in_ok-data.ensures.again c.in_ok-gather_ack.ensures.again
+    poll_again c.args.self.now c.args.now c.put_all.new.packets.items c.gather_requests.new.packets.items
+    c.in_ok-data.ensures.exact c.in_ok-gather_requests.ensures.exact c.in_ok-gather_ack.ensures.exact
+    c.in_ok-data.ensures.again c.in_ok-gather_ack.ensures.again
     c.in_ok-gather_forward.ensures.again
 
 pub returns-in_err-data-clause-grows : goal.returns-in_err-data-clause-grows
@@ -35,11 +37,19 @@ returns-in_err-put_all-clause-grows c =
     (packets_are_given c.args.self.now c.args.now
     (subst (λ d. nat_lt 0 (length d) ≡ true) c.in_ok-data.ensures.packets c.in_err-put_all.ensures.grows))
 
+pub returns-in_err-gather_requests-clause-grows : goal.returns-in_err-gather_requests-clause-grows
+returns-in_err-gather_requests-clause-grows c =
+    on_err c.from_residual-in_err-gather_requests.result
+    (requests_are_given c.args.self.now c.args.now
+    (subst (λ (b : Shown). requests_give b ≡ true) (sym c.in_ok-data.ensures.exact)
+    c.in_err-gather_requests.ensures.grows))
+
 pub returns-in_err-gather_ack-clause-grows : goal.returns-in_err-gather_ack-clause-grows
 returns-in_err-gather_ack-clause-grows c =
     on_err c.from_residual-in_err-gather_ack.result
     (ack_is_given c.args.self.now c.args.now
-    (subst (λ (b : Shown). is_due b.receiver.ack_state ≡ true) (sym c.in_ok-data.ensures.exact)
+    (subst (λ (b : Shown). is_due b.receiver.ack_state ≡ true)
+    (sym (asked_as c.put_all.new.packets.items c.in_ok-data.ensures.exact c.in_ok-gather_requests.ensures.exact))
     c.in_err-gather_ack.ensures.grows))
 
 pub returns-in_err-gather_forward-clause-grows : goal.returns-in_err-gather_forward-clause-grows
@@ -47,5 +57,7 @@ returns-in_err-gather_forward-clause-grows c =
     on_err c.from_residual-in_err-gather_forward.result
     (forward_is_given c.args.self.now c.args.now
     (subst (λ (b : Shown). gives_forward b.sender ≡ true)
-    (sym (acked_as c.put_all.new.packets.items c.in_ok-data.ensures.exact c.in_ok-gather_ack.ensures.exact))
+    (sym (acked_as c.gather_requests.new.packets.items
+    (asked_as c.put_all.new.packets.items c.in_ok-data.ensures.exact c.in_ok-gather_requests.ensures.exact)
+    c.in_ok-gather_ack.ensures.exact))
     c.in_err-gather_forward.ensures.grows))

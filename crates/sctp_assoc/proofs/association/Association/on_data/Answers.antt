@@ -1,26 +1,69 @@
-use Rattle.std.proofs.Common.{rules, ◌≡◌, true, None}
-use Rattle.sctp_streams.specs.Streams.{bytes_waiting, refusal_in}
-use Rattle.sctp_inbound.specs.Receiver.{admits, is_new_to}
-use Rattle.sctp_assoc.specs.Chunks.{counted_data, stream_found}
-use Rattle.sctp_assoc.proofs.MemoryTaken.{found_receiver, taking_takes}
+use Rattle.std.proofs.Common.{rules, ◌≡◌, ◌∙◌, true}
+use Rattle.std.proofs.lemmas.Result.{IfOk-weaker, on_err_weaker}
+use Rattle.sctp_inbound.specs.Receiver.{is_new_to}
 use Rattle.sctp_outbound.proofs.SenderSteps.{on_err}
+use Rattle.sctp_resets.specs.Resets.{is_hidden}
+use Rattle.sctp_assoc.specs.declared.inbound.Flow.{Flow}
+use Rattle.sctp_assoc.specs.Chunks.{asks_or_faults, counted_data, deferred_where_admitted, on_data, stream_found}
+use Rattle.sctp_assoc.specs.Resets.{settling_takes_memory}
+use Rattle.sctp_assoc.proofs.HiddenData.{data_is_deferred}
+use Rattle.sctp_assoc.proofs.MemoryTaken.{found_receiver, found_resets, hidden_takes, settling_takes, taking_takes}
+use Rattle.sctp_assoc.proofs.TakingSettles.{same_resets, settles_on, taking_settles}
 use Rattle.sctp_assoc.proofs.association.Association.on_data.Goals as goal
 
-pub take_in-requires : goal.take_in-requires
-take_in-requires c =
+pub returns-in_err-fault-clause-grows : goal.returns-in_err-fault-clause-grows
+returns-in_err-fault-clause-grows c =
+    let hidden : is_hidden c.args.self.now.resets c.args.piece.stream_identifier c.args.piece.tsn ≡ true =
+    search rules in
+    on_err c.from_residual.result (hidden_takes c.args.self.now c.args.piece hidden)
+
+pub returns-then-is_hidden-clause-exact : goal.returns-then-is_hidden-clause-exact
+returns-then-is_hidden-clause-exact c =
+    let next : is_new_to c.args.self.now.receiver c.args.piece.tsn ≡ true = search rules in
+    let hidden : is_hidden c.args.self.now.resets c.args.piece.stream_identifier c.args.piece.tsn ≡ true =
+    search rules in
+    let apart : deferred_where_admitted (counted_data c.args.self.now) c.args.piece
+    ≡ (c.defer_where_admitted.new.self, c.in_ok-fault.fault) = search rules in
+    let same : on_data c.args.self.now c.args.piece c.args.trigger
+    ≡ asks_or_faults (c.defer_where_admitted.new.self, c.in_ok-fault.fault) c.args.piece.immediate_sack
+    c.args.trigger =
+    data_is_deferred c.args.self.now c.defer_where_admitted.new.self c.args.piece c.args.trigger c.in_ok-fault.fault
+    next hidden apart in
+    IfOk-weaker c.ask_or_fault.result _ _ (λ (flow : Flow) e. same ∙ e) c.ask_or_fault.ensures.exact
+
+pub returns-then-is_hidden-clause-grows : goal.returns-then-is_hidden-clause-grows
+returns-then-is_hidden-clause-grows c =
+    let hidden : is_hidden c.args.self.now.resets c.args.piece.stream_identifier c.args.piece.tsn ≡ true =
+    search rules in
+    on_err c.ask_or_fault.result (hidden_takes c.args.self.now c.args.piece hidden)
+
+pub take_where_admitted-requires : goal.take_where_admitted-requires
+take_where_admitted-requires c =
     let found : stream_found (counted_data c.args.self.now) c.args.piece.stream_identifier
     ≡ (c.has_stream.new.self, true) = search rules in
     let next : is_new_to c.args.self.now.receiver c.args.piece.tsn ≡ true = search rules in
     rw (found_receiver (counted_data c.args.self.now) c.has_stream.new.self c.args.piece.stream_identifier found) next
 
-pub returns-in_err-fault-clause-grows : goal.returns-in_err-fault-clause-grows
-returns-in_err-fault-clause-grows c =
+pub returns-in_err-fault-2-clause-grows : goal.returns-in_err-fault-2-clause-grows
+returns-in_err-fault-2-clause-grows c =
     let next : is_new_to c.args.self.now.receiver c.args.piece.tsn ≡ true = search rules in
     let found : stream_found (counted_data c.args.self.now) c.args.piece.stream_identifier
     ≡ (c.has_stream.new.self, true) = search rules in
-    let credit : admits c.has_stream.new.self.receiver c.args.piece.tsn (bytes_waiting c.has_stream.new.self.streams)
-    ≡ true = search rules in
-    let free : refusal_in c.has_stream.new.self.streams c.args.piece.stream_identifier c.args.piece
-    c.has_stream.new.self.receiver.max_receive_message_size ≡ None = search rules in
-    on_err c.from_residual-in_err-fault.result
-    (taking_takes c.args.self.now c.has_stream.new.self c.args.piece next found credit free)
+    on_err c.from_residual-in_err-fault-2.result
+    (taking_takes c.args.self.now c.has_stream.new.self c.args.piece next found c.in_err-fault-2.ensures.grows)
+
+pub returns-clause-grows : goal.returns-clause-grows
+returns-clause-grows c =
+    let found : stream_found (counted_data c.args.self.now) c.args.piece.stream_identifier
+    ≡ (c.has_stream.new.self, true) = search rules in
+    let b = c.has_stream.new.self in
+    let taken = c.take_where_admitted.new.self in
+    let no_more =
+    settles_on c.args.self.now b taken
+    (same_resets c.args.self.now b
+    (found_resets (counted_data c.args.self.now) b c.args.piece.stream_identifier found))
+    (taking_settles b taken c.args.piece c.in_ok-fault-2.fault c.in_ok-fault-2.ensures.exact) in
+    on_err_weaker c.ask_or_fault-2.result
+    (λ (takes : settling_takes_memory c.take_where_admitted.new.self ≡ true).
+    settling_takes c.args.self.now taken c.args.piece no_more takes)
+    c.ask_or_fault-2.ensures.grows

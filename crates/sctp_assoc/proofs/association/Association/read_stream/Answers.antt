@@ -1,4 +1,4 @@
-use Rattle.sctp_assoc.proofs.CallsLeadOn.{read_leads_on}
+use Rattle.sctp_assoc.proofs.ReadsLeadOn.{read_leads_on}
 use Rattle.sctp_assoc.proofs.StreamReads.{reads_give_none, reads_give_the_first, reads_leave_the_others}
 use Rattle.sctp_assoc.proofs.association.Association.read_stream.Goals as goal
 

@@ -7,14 +7,14 @@ pub returns-in_err-skip_stream-clause-grows : goal.returns-in_err-skip_stream-cl
 returns-in_err-skip_stream-clause-grows c =
     on_err c.from_residual.result
     (c.loop-skip.invariant.grows
-    (skip_told c.args.skipped.now c.loop-skip.skip-index _ c.loop-skip.self c.loop-skip-test.true
+    (skip_told c.args.tsn c.args.skipped.now c.loop-skip.skip-index _ c.loop-skip.self c.loop-skip-test.true
     c.in_err-skip_stream.ensures.grows))
 
 pub loop-skip-preserved : goal.loop-skip-preserved
 loop-skip-preserved c =
     let more =
-    skip_more c.args.skipped.now c.loop-skip.skip-index _ c.loop-skip.self c.loop-skip-test.true c.skip_stream.new.self
-    c.in_ok-skip_stream.ensures.exact in
+    skip_more c.args.tsn c.args.skipped.now c.loop-skip.skip-index _ c.loop-skip.self c.loop-skip-test.true
+    c.skip_stream.new.self c.in_ok-skip_stream.ensures.exact in
     record {
       same = sym more.0 ∙ c.loop-skip.invariant.same;
       grows = λ told. c.loop-skip.invariant.grows (more.1 told);

@@ -1,0 +1,103 @@
+-- The requests to reset streams that a poll gives, and what they leave for the rest of it.
+use Rattle.std.proofs.Common.{◌≡◌, refl, sym, ap, ◌∙◌, ℕ, Bool, true, false, ◌==◌, if◌then◌else◌, length}
+use Rattle.std.proofs.Common.{List, [], ◌∷◌, ◌++◌, Option, Some, None}
+use Rattle.std.proofs.lemmas.List.{append-nil, append_assoc}
+use Rattle.sctp_wire_types.specs.declared.packet.CommonHeader.{CommonHeader}
+use Rattle.sctp_wire_types.specs.declared.param.Param.TheVariants as params
+use Rattle.sctp_wire_types.specs.declared.param.ParamOutgoingResetRequest.{ParamOutgoingResetRequest}
+use Rattle.sctp_inbound.specs.Handshake.{header_of}
+use Rattle.sctp_reset_requests.specs.Own.{OwnView, repeated, sent_first}
+use Rattle.sctp_resets.specs.Resets.{with_own}
+use Rattle.sctp_directions.specs.Acts.{History}
+use Rattle.sctp_assoc.specs.Gather.{first_request_behind, first_request_polled, packet_bytes, repeat_polled}
+use Rattle.sctp_assoc.specs.Gather.{request_made, request_packet, requests_polled, with_request_again}
+use Rattle.sctp_assoc.specs.Gather.{with_request_sent}
+use Rattle.sctp_assoc.specs.Happened.{acks_given, acts_of_ack, requests_given}
+use Rattle.sctp_assoc.specs.Leads.{parts}
+use Rattle.sctp_assoc.specs.Resets.{reconfig_of}
+use Rattle.sctp_assoc.specs.Shown.{Shown}
+use Rattle.sctp_assoc.proofs.PacketsReadAgain.{ack_again_before}
+use Rattle.sctp_assoc.proofs.PartsOfPolls.{LeavesTheRest, both_second, first_request_if, requests_made_leave}
+use Rattle.sctp_assoc.proofs.PolledSteps.{IsSentBeside}
+
+abbrev pub listed : Option ParamOutgoingResetRequest → List ParamOutgoingResetRequest
+listed None = []
+listed (Some request) = request ∷ []
+
+abbrev first_listed : Bool → Shown → List ParamOutgoingResetRequest
+first_listed none a = if none then [] else listed (sent_first a.resets.own a.sender.queue).1
+
+-- the active request again, and the oldest that was never sent
+abbrev pub requests_of : Shown → List ParamOutgoingResetRequest
+requests_of a =
+    (let b = request_made (repeat_polled a).0 in
+    listed (repeated a.resets.own).1 ++ first_listed (length b.control == 0) b)
+
+given_join : (header : CommonHeader) (xs ys : List ParamOutgoingResetRequest)
+    → requests_given header xs ++ requests_given header ys ≡ requests_given header (xs ++ ys)
+given_join header [] ys = refl
+given_join header (x ∷ xs) ys =
+    append_assoc (packet_bytes header (reconfig_of (params.OutgoingResetRequest x))) (requests_given header xs)
+    (requests_given header ys)
+    ∙ ap (λ (z : List (List ℕ)). packet_bytes header (reconfig_of (params.OutgoingResetRequest x)) ++ z)
+    (given_join header xs ys)
+
+again_said : (a : Shown) (own : OwnView) (request : Option ParamOutgoingResetRequest)
+    → (with_request_again a (with_own a.resets (own, request))).1
+    ≡ requests_given (header_of a.handshake) (listed request)
+again_said a own None = refl
+again_said a own (Some request) = sym (append-nil (request_packet a request))
+
+sent_said : (a : Shown) (own : OwnView) (request : Option ParamOutgoingResetRequest)
+    → (with_request_sent a (with_own a.resets (own, request))).1
+    ≡ requests_given (header_of a.handshake) (listed request)
+sent_said a own None = refl
+sent_said a own (Some request) = sym (append-nil (request_packet a request))
+
+first_said : (none : Bool) (a : Shown)
+    → (first_request_if none a).1 ≡ requests_given (header_of a.handshake) (first_listed none a)
+first_said true a = refl
+first_said false a =
+    let sent = sent_first a.resets.own a.sender.queue in
+    sent_said a sent.0 sent.1
+
+behind_said : (y : Shown × List (List ℕ)) (header : CommonHeader) (xs : List ParamOutgoingResetRequest)
+    → header_of (request_made y.0).handshake ≡ header → y.1 ≡ requests_given header xs
+    → (first_request_behind y).1
+    ≡ requests_given header
+    (xs ++ first_listed (length (request_made y.0).control == 0) (request_made y.0))
+behind_said (b, packets) header xs same said =
+    let c = request_made b in
+    let none = length c.control == 0 in
+    both_second packets (first_request_polled c)
+    ∙ ap (λ (z : List (List ℕ)). packets ++ z)
+    (first_said none c ∙ ap (λ (k : CommonHeader). requests_given k (first_listed none c)) same)
+    ∙ ap (λ (z : List (List ℕ)). z ++ requests_given header (first_listed none c)) said
+    ∙ given_join header xs (first_listed none c)
+
+pub requests_said : (a : Shown) → (requests_polled a).1 ≡ requests_given (header_of a.handshake) (requests_of a)
+unfolding requests_polled
+requests_said a =
+    let again = repeated a.resets.own in
+    behind_said (repeat_polled a) (header_of a.handshake) (listed again.1)
+    (ap header_of (requests_made_leave a).handshake) (again_said a again.0 again.1)
+
+-- what the directions see stays
+pub parts_left : (b c : Shown) (h : History) → LeavesTheRest b c → parts c h ≡ parts b h
+parts_left b c h rest = rw (rest.sender, rest.streams) refl
+
+acks_left : (b c : Shown) → LeavesTheRest b c → acks_given c ≡ acks_given b
+acks_left b c rest = rw (rest.receiver, rest.handshake, rest.streams, rest.generations) refl
+
+acts_left : (b c : Shown) → LeavesTheRest b c → acts_of_ack c ≡ acts_of_ack b
+acts_left b c rest = rw rest.receiver refl
+
+-- and so does the acknowledgement
+pub beside_requests : (a b c : Shown) → IsSentBeside a b → LeavesTheRest b c → IsSentBeside a c
+beside_requests a b c same rest = record {
+  receiver = rest.receiver ∙ same.receiver;
+  handshake = rest.handshake ∙ same.handshake;
+  acts = acts_left b c rest ∙ same.acts;
+  acks = acks_left b c rest ∙ same.acks;
+  again = λ again. same.again (ack_again_before b c rest again);
+}

@@ -1,0 +1,15 @@
+use Rattle.std.proofs.Common.{◌≡◌, ◌∙◌}
+use Rattle.std.proofs.lemmas.Result.{on_ok_weaker}
+use Rattle.sctp_assoc.specs.Gather.{after_both, first_request_polled}
+use Rattle.sctp_assoc.proofs.PartsOfPolls.{requests_are}
+use Rattle.sctp_assoc.proofs.association.Association.gather_requests.Goals as goal
+
+pub returns-clause-exact : goal.returns-clause-exact
+returns-clause-exact c =
+    let are =
+    requests_are c.args.self.now c.gather_repeat.new.self c.make_request.new.self c.args.packets.now.items
+    c.gather_repeat.new.packets.items c.in_ok-gather_repeat.ensures.exact c.in_ok-make_request.ensures.exact in
+    on_ok_weaker c.gather_first_request.result
+    (λ (first : after_both c.gather_repeat.new.packets.items (first_request_polled c.make_request.new.self)
+    ≡ (c.gather_first_request.new.self, c.gather_first_request.new.packets.items)). are ∙ first)
+    c.gather_first_request.ensures.exact
