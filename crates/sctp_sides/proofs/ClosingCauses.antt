@@ -19,19 +19,21 @@ use Rattle.sctp_assoc.specs.declared.inbound.Flow.{Flow}
 use Rattle.sctp_assoc.specs.declared.inbound.Flow.TheVariants as flows
 use Rattle.sctp_assoc.specs.Leads.{Binds}
 use Rattle.sctp_directions.specs.Acts.{History}
-use Rattle.sctp_assoc.specs.Calls.{is_beginning, is_cookie_wait}
+use Rattle.sctp_assoc.specs.Calls.{is_beginning, is_cookie_wait, is_established}
 use Rattle.sctp_assoc.specs.Closing.{is_closed_state}
 use Rattle.sctp_sides.specs.Causes.{CausesClose, ClosingPacketsHaveCauses, IsCause, Reaches}
 use Rattle.sctp_assoc.specs.Chunks.{checked_first, dispatched, on_chunk}
 use Rattle.sctp_assoc.specs.Handshake.{echoed, on_init, on_init_ack}
 use Rattle.sctp_sides.specs.Laws.{faults_or, is_faulted, is_faulted_packet}
 use Rattle.sctp_assoc.specs.Shown.{Shown}
-use Rattle.sctp_sides.proofs.PacketLaws.{chunks_lead_on}
+use Rattle.sctp_assoc.proofs.CallsLeadOn.{chunk_leads}
 use Rattle.sctp_sides.proofs.FaultCauses.{cookie_ack_flow, echo_flow, faults_are_causes, heartbeat_flow, never}
 use Rattle.sctp_sides.proofs.DataIntake.{exhausts_of, fault_of}
 use Rattle.sctp_sides.proofs.FaultCauses.{cookie_ack_spares, echo_spares, heartbeat_spares, init_ack_spares}
 use Rattle.sctp_sides.proofs.FaultCauses.{init_spares}
 use Rattle.std.proofs.Common.{⊎_elim, inl, inr}
+use Rattle.sctp_assoc.specs.Skipping.{skips_of}
+use Rattle.sctp_sides.proofs.ClosingPackets.{forward_goes_on, on_data_goes_on, reconfig_goes_on, sack_goes_on}
 
 open_state : (s : AssociationState) → s ≢ states.Closed → is_closed_state s ≡ false
 open_state states.Closed n = absurd (n refl)
@@ -72,9 +74,10 @@ fault_leaves_kind : (header : CommonHeader) (c : Chunk) (a : Shown) (trigger : A
     → (dispatched a header c trigger now).0.state ≡ a.state
 unfolding on_chunk
 fault_leaves_kind header (chunks.Data piece) a trigger now error f =
-    (chunks_lead_on header (chunks.Data piece) a trigger now).leaves.state
+    (on_data_goes_on a piece trigger).state
 fault_leaves_kind header (chunks.SelectiveAck sack) a trigger now error f =
-    (chunks_lead_on header (chunks.SelectiveAck sack) a trigger now).leaves.state
+    (sack_goes_on (is_established a.state) a sack.cumulative_tsn_ack sack.gap_ack_blocks
+    sack.advertised_receiver_window_credit trigger now refl).state
 fault_leaves_kind header (chunks.Init x) a trigger now error f =
     fault_leaves_init (is_beginning a.state) a header x trigger error refl f
 fault_leaves_kind header (chunks.InitAck x) a trigger now error f =
@@ -87,9 +90,11 @@ fault_leaves_kind header chunks.CookieAck a trigger now error f =
 fault_leaves_kind header (chunks.Heartbeat x) a trigger now error f =
     absurd (never _ error (heartbeat_flow a x trigger) f)
 fault_leaves_kind header (chunks.ForwardTsn x) a trigger now error f =
-    (chunks_lead_on header (chunks.ForwardTsn x) a trigger now).leaves.state
+    (forward_goes_on a x.new_cumulative_tsn x.streams trigger now).state
 fault_leaves_kind header (chunks.IForwardTsn x) a trigger now error f =
-    (chunks_lead_on header (chunks.IForwardTsn x) a trigger now).leaves.state
+    (forward_goes_on a x.new_cumulative_tsn (skips_of x.entries) trigger now).state
+fault_leaves_kind header (chunks.Reconfig x) a trigger now error f =
+    (reconfig_goes_on a x trigger).state
 fault_leaves_kind header c a trigger now error f = refl
 
 fault_leaves_checked : (r : Result (Unit {0}) Error) (header : CommonHeader) (c : Chunk) (a : Shown)
@@ -112,9 +117,10 @@ exhaustion_leaves_kind : (header : CommonHeader) (c : Chunk) (a : Shown) (trigge
     → (dispatched a header c trigger now).0.state ≡ a.state
 unfolding on_chunk
 exhaustion_leaves_kind header (chunks.Data piece) a trigger now e =
-    (chunks_lead_on header (chunks.Data piece) a trigger now).leaves.state
+    (on_data_goes_on a piece trigger).state
 exhaustion_leaves_kind header (chunks.SelectiveAck sack) a trigger now e =
-    (chunks_lead_on header (chunks.SelectiveAck sack) a trigger now).leaves.state
+    (sack_goes_on (is_established a.state) a sack.cumulative_tsn_ack sack.gap_ack_blocks
+    sack.advertised_receiver_window_credit trigger now refl).state
 exhaustion_leaves_kind header (chunks.Init x) a trigger now e =
     absurd (false≢true (sym (init_spares _ a header x trigger refl) ∙ e))
 exhaustion_leaves_kind header (chunks.InitAck x) a trigger now e =
@@ -126,9 +132,11 @@ exhaustion_leaves_kind header chunks.CookieAck a trigger now e =
 exhaustion_leaves_kind header (chunks.Heartbeat x) a trigger now e =
     absurd (false≢true (sym (heartbeat_spares a x trigger) ∙ e))
 exhaustion_leaves_kind header (chunks.ForwardTsn x) a trigger now e =
-    (chunks_lead_on header (chunks.ForwardTsn x) a trigger now).leaves.state
+    (forward_goes_on a x.new_cumulative_tsn x.streams trigger now).state
 exhaustion_leaves_kind header (chunks.IForwardTsn x) a trigger now e =
-    (chunks_lead_on header (chunks.IForwardTsn x) a trigger now).leaves.state
+    (forward_goes_on a x.new_cumulative_tsn (skips_of x.entries) trigger now).state
+exhaustion_leaves_kind header (chunks.Reconfig x) a trigger now e =
+    (reconfig_goes_on a x trigger).state
 exhaustion_leaves_kind header c a trigger now e = refl
 
 exhaustion_leaves_checked : (r : Result (Unit {0}) Error) (header : CommonHeader) (c : Chunk) (a : Shown)
@@ -221,7 +229,7 @@ module _ (header : CommonHeader) (now : ℕ) where
       → CauseAmong header cs a trigger now
   cause_among [] a h trigger binds f = absurd (false≢true f)
   cause_among (c ∷ cs) a h trigger binds f =
-      let next = (chunks_lead_on header c a trigger now).leads h binds in
+      let next = chunk_leads header c a trigger now h binds in
       cause_step header c cs a trigger now (on_chunk a header c trigger now) h next.0 binds refl next.1.binds f
       (λ b wished stands g.
       cause_among cs b next.0 wished stands g)

@@ -1,19 +1,19 @@
 -- DATA is taken in exactly where it may be, and its stream does not refuse it.
-use Rattle.std.proofs.Common.{◌≡◌, refl, sym, ap, ◌∙◌, subst, ◌⊎◌, ⊎_elim, inl, inr, ℕ, zero, suc, ◌<◌, ◌≤◌, ◌+◌, ◌-◌}
+use Rattle.std.proofs.Common.{◌≡◌, refl, sym, ap, ◌∙◌, subst, ◌⊎◌, ⊎_elim, inl, inr, ℕ, ◌<◌, ◌≤◌, ◌+◌, ◌-◌}
 use Rattle.std.proofs.Common.{◌^◌, min, arith, Bool, true, false, eqb, ltb, ◌||◌, if◌then◌else◌, List}
 use Rattle.std.proofs.Common.{[], ◌∷◌, ◌++◌, map, fold, Option, Some, None, is_some, Ordering, Less, Equal, Greater}
-use Rattle.std.proofs.Common.{nat_cmp, is_eq}
-use Rattle.std.specs.Prelude.{slice_get}
+use Rattle.std.proofs.Common.{nat_cmp, is_eq, not}
+use Rattle.std.specs.List.{AllByRecursion}
+use Rattle.std.proofs.lemmas.List.{append_assoc}
 use Rattle.std.specs.BTreeMap.{is_at, insert_entry}
 use Rattle.std.specs.Map.{lookup}
 use Rattle.std.specs.Ordering.{match_ordering}
 use Rattle.std.proofs.lemmas.Bool.{cond-true, eq-eqb, false≢true, lt-ltb, ltb-true}
 use Rattle.std.proofs.lemmas.Bool.{or_cases, or_left, or_right, true≢false}
-use Rattle.sctp_wire_types.specs.declared.chunk.Chunk.TheVariants as chunks
 use Rattle.sctp_wire_types.specs.declared.chunk.ChunkPayloadData.{ChunkPayloadData}
-use Rattle.sctp_wire_types.specs.declared.chunk.ChunkInit.{ChunkInit}
 use Rattle.sctp_wire_types.specs.declared.error.Error.{Error}
 use Rattle.sctp_wire_types.specs.declared.ids.PayloadProtocolIdentifier.TheVariants as kinds
+use Rattle.sctp_receive_queues.specs.Pieces.{bytes_of}
 use Rattle.sctp_receive_queues.specs.Reassembly.{refusal}
 use Rattle.sctp_receive_queues.specs.Reassembly as reassembly
 use Rattle.sctp_streams.specs.Stream.{StreamView, fresh_stream}
@@ -21,30 +21,32 @@ use Rattle.sctp_streams.specs.Streams.{StreamMap, bytes_waiting, generation_left
 use Rattle.sctp_streams.specs.Streams.{stream_at}
 use Rattle.sctp_inbound.specs.declared.receiver.AckTrigger.{AckTrigger}
 use Rattle.sctp_inbound.specs.Held.{is_passed}
-use Rattle.sctp_inbound.specs.Receiver.{admits, credit_of, is_new_to}
+use Rattle.sctp_inbound.specs.Receiver.{admits, asked, credit_of, is_new_to}
+use Rattle.sctp_generations.specs.Generations.{has_skips}
+use Rattle.sctp_resets.specs.Concerned.{in_reset, skipped_ids}
 use Rattle.sctp_assoc.specs.declared.inbound.Flow.{Flow}
 use Rattle.sctp_assoc.specs.declared.inbound.Flow.TheVariants as flows
-use Rattle.sctp_directions.specs.Acts.{Act, History}
-use Rattle.sctp_assoc.specs.Leads.{Binds}
-use Rattle.sctp_assoc.specs.Chunks.{asks_or_faults, counted_data, on_chunk, on_data, on_new_data}
-use Rattle.sctp_assoc.specs.Chunks.{stream_found, taken_in, taken_unless}
-use Rattle.sctp_assoc.specs.Happened.{acts_of_chunk, acts_of_data, acts_of_found, acts_of_stream, acts_unless_refused}
-use Rattle.sctp_sides.specs.Intake.{DataIsTakenIn, IsTakenIn, MayTakeIn, NothingElseIsTakenIn, WasToBeTakenIn, held_by}
-use Rattle.sctp_sides.specs.Intake.{FillsAGap, receive_limit, refusal_of}
-use Rattle.sctp_wire_types.specs.declared.chunk.ChunkSelectiveAck.{ChunkSelectiveAck}
-use Rattle.sctp_wire_types.specs.declared.chunk.SkippedStream.{SkippedStream}
-use Rattle.sctp_assoc.specs.Skipping.{skips_of}
-use Rattle.sctp_sides.specs.SideLaws.{IsAcknowledging, IsPassingOver, IsPeerKnown}
-use Rattle.sctp_assoc.specs.Shown.{Shown}
-use Rattle.sctp_assoc.proofs.DataCame.{from_new_tsn, new_tsn}
-use Rattle.sctp_sides.proofs.ActsOfChunks.{forwards_pass_over, greetings_make_the_peer_known, i_forwards_pass_over}
-use Rattle.sctp_sides.proofs.ActsOfChunks.{other_chunks_do_nothing, sacks_acknowledge}
-use Rattle.sctp_sides.proofs.GapsFilled.{came_passed, passed_came}
-use Rattle.sctp_fit.proofs.StreamsThere.{at_made}
-use Rattle.sctp_assoc.specs.Chunks.{asks, with_message}
+use Rattle.sctp_directions.specs.Acts.{Act, History, IsNewTsn}
+use Rattle.sctp_model.proofs.Lists.{all_join}
+use Rattle.sctp_assoc.specs.Chunks.{asks, asks_or_faults, counted_data, deferred, deferred_unless}
+use Rattle.sctp_assoc.specs.Chunks.{deferred_where_admitted, on_chunk, on_data, on_new_data, stream_found, taken_in}
+use Rattle.sctp_assoc.specs.Chunks.{taken_unless, taken_where_admitted, then_skips}
 use Rattle.sctp_assoc.specs.Closing.{is_exhausted}
-use Rattle.sctp_inbound.specs.Receiver.{asked}
-use Rattle.sctp_streams.specs.Streams.{pushed_in}
+use Rattle.sctp_assoc.specs.Happened.{acts_of_data, acts_of_found}
+use Rattle.sctp_assoc.specs.Happened.{acts_of_hidden, acts_of_skips_behind}
+use Rattle.sctp_assoc.specs.Happened.{acts_of_stream, acts_of_taking, acts_unless_faulty, acts_unless_refused}
+use Rattle.sctp_assoc.specs.Leads.{Binds}
+use Rattle.sctp_assoc.specs.ResetActs.{acts_of_settling, spans_end_if}
+use Rattle.sctp_assoc.specs.Resets.{settled, settling_takes_memory, skips_applied_of}
+use Rattle.sctp_assoc.specs.Shown.{Shown, all_waiting}
+use Rattle.sctp_assoc.proofs.DataCame.{from_new_tsn, new_tsn}
+use Rattle.sctp_fit.proofs.StreamsThere.{at_made}
+use Rattle.sctp_sides.specs.Intake.{DataIsTakenIn, FillsAGap, HasRoomFor, IsEndOfSpans, LaterDataIsKeptApart}
+use Rattle.sctp_sides.specs.Intake.{MayKeepApart, MayTakeIn}
+use Rattle.sctp_sides.specs.Intake.{held_by, is_for_later, later_refusal_of}
+use Rattle.sctp_sides.specs.Intake.{receive_limit, refusal_of}
+use Rattle.sctp_sides.specs.SideLaws.{OpensAndTakes, TakesOnly}
+use Rattle.sctp_sides.proofs.GapsFilled.{came_passed, passed_came}
 
 -- A stream that is made holds nothing: as many bytes wait as before.
 
@@ -94,7 +96,7 @@ made_waits m id first free =
 
 -- there is room for a TSN
 abbrev pub has_room : Shown → ChunkPayloadData → Bool
-has_room a piece = admits a.receiver piece.tsn (bytes_waiting a.streams)
+has_room a piece = admits a.receiver piece.tsn (all_waiting a)
 
 -- its stream was found or made: then it has room and holds what it did
 pub record Found (a : Shown) (piece : ChunkPayloadData) (x : Shown × Bool) : Type 0 where
@@ -125,7 +127,7 @@ found_if None true a piece e f =
     rw (there, f) (record {
       found = rw (there, f) refl;
       room =
-          ap (λ (n : ℕ). admits a.receiver piece.tsn n)
+          ap (λ (n : ℕ). admits a.receiver piece.tsn (min (n + bytes_of a.resets.generations.deferred) (2 ^ 64 - 1)))
           (made_waits a.streams piece.stream_identifier a.sender.queue.next_message_id e);
       refused =
           λ b. ap (λ (o : Option StreamView). refusal_at o piece (receive_limit a)) made_at
@@ -136,7 +138,7 @@ pub stream_is_found : (a : Shown) (piece : ChunkPayloadData)
     → Found a piece (stream_found (counted_data a) piece.stream_identifier)
 stream_is_found a piece = found_if _ _ a piece refl refl
 
--- What DATA is a fault by, and what it is taken in by.
+-- What DATA is a fault by.
 
 abbrev pub is_found : Shown → ChunkPayloadData → Bool
 is_found a piece = is_some (stream_at a.streams piece.stream_identifier) || generation_left a.streams
@@ -163,70 +165,202 @@ flow_if true a t = (refl, refl)
 flow_if false a t = (refl, refl)
 
 -- DATA that asks is no fault, and tells whether the receive buffer is exhausted
-pub asks_flow : (a : Shown) (piece : ChunkPayloadData) (trigger : AckTrigger)
-    → (fault_of (asks a piece trigger).1 ≡ None) × (exhausts_of (asks a piece trigger).1 ≡ is_exhausted a)
-asks_flow a piece trigger = flow_if (is_exhausted a) a (asked a.receiver trigger piece.immediate_sack)
+pub asks_flow : (a : Shown) (immediate : Bool) (trigger : AckTrigger)
+    → (fault_of (asks a immediate trigger).1 ≡ None) × (exhausts_of (asks a immediate trigger).1 ≡ is_exhausted a)
+asks_flow a immediate trigger = flow_if (is_exhausted a) a (asked a.receiver trigger immediate)
+
+-- DATA that was taken in, kept apart or left is a fault where it was refused
+pub behind_flow : (x : Shown × Option Error) (immediate : Bool) (trigger : AckTrigger)
+    → fault_of (asks_or_faults x immediate trigger).1 ≡ x.1
+behind_flow (b, None) immediate trigger = (asks_flow (settled b) immediate trigger).0
+behind_flow (b, Some fault) immediate trigger = refl
+
+skips_refuse : (x : Shown × Option Error) (id : ℕ) → (then_skips x id).1 ≡ x.1
+skips_refuse (b, None) id = refl
+skips_refuse (b, Some fault) id = refl
+
+taking_refuses : (o : Option Error) (x : Shown) (piece : ChunkPayloadData) → (taken_unless o x piece).1 ≡ o
+taking_refuses None x piece = refl
+taking_refuses (Some error) x piece = refl
+
+deferring_refuses : (o : Option Error) (x : Shown) (piece : ChunkPayloadData) → (deferred_unless o x piece).1 ≡ o
+deferring_refuses None x piece = refl
+deferring_refuses (Some error) x piece = refl
+
+refuses_if : (room : Bool) (x : Shown) (y : Shown × Option Error) (o : Option Error) → y.1 ≡ o
+    → (if◌then◌else◌ {A = Shown × Option Error} room y (x, None)).1 ≡ (if room then o else None)
+refuses_if true x y o e = e
+refuses_if false x y o e = refl
+
+taken_refuses : (x : Shown) (piece : ChunkPayloadData)
+    → (taken_in x piece).1 ≡ refusal_in x.streams piece.stream_identifier piece (receive_limit x)
+unfolding taken_in
+taken_refuses x piece =
+    taking_refuses (refusal_in x.streams piece.stream_identifier piece x.receiver.max_receive_message_size) x piece
+
+admitted_refuses : (x : Shown) (piece : ChunkPayloadData)
+    → (taken_where_admitted x piece).1
+    ≡ (if has_room x piece then refusal_in x.streams piece.stream_identifier piece (receive_limit x) else None)
+admitted_refuses x piece =
+    refuses_if (has_room x piece) x (then_skips (taken_in x piece) piece.stream_identifier) _
+    (skips_refuse (taken_in x piece) piece.stream_identifier ∙ taken_refuses x piece)
+
+deferred_refuses : (x : Shown) (piece : ChunkPayloadData)
+    → (deferred_where_admitted x piece).1 ≡ (if has_room x piece then later_refusal_of x piece else None)
+unfolding deferred_where_admitted
+deferred_refuses x piece =
+    refuses_if (has_room x piece) x (deferred x piece) (later_refusal_of x piece)
+    (deferring_refuses (later_refusal_of x piece) x piece)
 
 abbrev decided : Bool → Bool → Option Error → Option Error
 decided found room o = if found then (if room then o else None) else None
-
-abbrev decided_acts : Bool → Bool → Option Error → ChunkPayloadData → List Act
-decided_acts found room o piece = if found then (if room then acts_unless_refused o piece else []) else []
-
-taking_flow : (o : Option Error) (x : Shown) (piece : ChunkPayloadData) (trigger : AckTrigger)
-    → fault_of (asks_or_faults (taken_unless o x piece) piece trigger).1 ≡ o
-taking_flow None x piece trigger =
-    (asks_flow (with_message x piece (pushed_in x.streams piece.stream_identifier piece)) piece trigger).0
-taking_flow (Some error) x piece trigger = refl
-
-room_flow : (room : Bool) (x : Shown) (piece : ChunkPayloadData) (trigger : AckTrigger) → has_room x piece ≡ room
-    → fault_of (on_new_data (x, true) piece trigger).1
-    ≡ (if room then refusal_in x.streams piece.stream_identifier piece (receive_limit x) else None)
-unfolding taken_in
-room_flow true x piece trigger e =
-    rw e (taking_flow (refusal_in x.streams piece.stream_identifier piece (receive_limit x)) x piece trigger)
-room_flow false x piece trigger e = rw e (asks_flow x piece trigger).0
 
 found_flow : (a : Shown) (x : Shown × Bool) (piece : ChunkPayloadData) (trigger : AckTrigger) → Found a piece x
     → fault_of (on_new_data x piece trigger).1 ≡ decided (is_found a piece) (has_room a piece) (refusal_of a piece)
 found_flow a (x, false) piece trigger f = ap (λ (b : Bool). decided b (has_room a piece) (refusal_of a piece)) f.found
 found_flow a (x, true) piece trigger f =
-    room_flow (has_room x piece) x piece trigger refl
+    behind_flow (taken_where_admitted x piece) piece.immediate_sack trigger
+    ∙ admitted_refuses x piece
     ∙ ap (λ (b : Bool). decided true b (refusal_in x.streams piece.stream_identifier piece (receive_limit x))) f.room
     ∙ ap (λ (o : Option Error). decided true (has_room a piece) o) (f.refused refl)
     ∙ ap (λ (b : Bool). decided b (has_room a piece) (refusal_of a piece)) f.found
 
-data_flow : (next : Bool) (a : Shown) (piece : ChunkPayloadData) (trigger : AckTrigger) → is_new a piece ≡ next
-    → fault_of (on_data a piece trigger).1
-    ≡ (if next then decided (is_found a piece) (has_room a piece) (refusal_of a piece) else None)
+-- what DATA is a fault by, where it is new, of a later generation, its stream is found and there is room
+abbrev pub fault_if : Bool → Bool → Shown → ChunkPayloadData → Option Error
+fault_if next later a piece =
+    if not next then None else
+    if later then (if has_room a piece then later_refusal_of a piece else None) else
+    decided (is_found a piece) (has_room a piece) (refusal_of a piece)
+
+data_flow_if : (next later : Bool) (a : Shown) (piece : ChunkPayloadData) (trigger : AckTrigger)
+    → is_new a piece ≡ next → is_for_later a piece ≡ later
+    → fault_of (on_data a piece trigger).1 ≡ fault_if next later a piece
 unfolding on_data
-data_flow true a piece trigger e =
-    rw e (found_flow a (stream_found (counted_data a) piece.stream_identifier) piece trigger (stream_is_found a piece))
-data_flow false a piece trigger e = rw e (asks_flow (counted_data a) piece trigger).0
+data_flow_if true true a piece trigger e f =
+    rw (e, f) (behind_flow (deferred_where_admitted (counted_data a) piece) piece.immediate_sack trigger
+    ∙ deferred_refuses (counted_data a) piece)
+data_flow_if true false a piece trigger e f =
+    rw (e, f)
+    (found_flow a (stream_found (counted_data a) piece.stream_identifier) piece trigger (stream_is_found a piece))
+data_flow_if false later a piece trigger e f =
+    rw e (asks_flow (settled (counted_data a)) piece.immediate_sack trigger).0
+
+pub data_flow : (a : Shown) (piece : ChunkPayloadData) (trigger : AckTrigger)
+    → fault_of (on_data a piece trigger).1 ≡ fault_if (is_new a piece) (is_for_later a piece) a piece
+data_flow a piece trigger = data_flow_if (is_new a piece) (is_for_later a piece) a piece trigger refl refl
+
+-- What it is taken in by.
+
+pub spans_end : (c : Bool) (ids : List ℕ) (m : StreamMap) → AllByRecursion IsEndOfSpans (spans_end_if c ids m)
+spans_end true ids m = (tt, tt)
+spans_end false ids m = tt
+
+pub settling_ends_spans : (a : Shown) → AllByRecursion IsEndOfSpans (acts_of_settling a)
+settling_ends_spans a = spans_end (settling_takes_memory a) (in_reset a.resets a.streams) (settled a).streams
+
+skips_end_spans : (x : Shown × Option Error) (id : ℕ) → AllByRecursion IsEndOfSpans (acts_of_skips_behind x id)
+skips_end_spans (b, None) id =
+    spans_end (has_skips b.resets.generations) (skipped_ids b.resets.generations) (skips_applied_of id b).streams
+skips_end_spans (b, Some fault) id = tt
+
+rest_ends_spans : (x : Shown × Option Error) → AllByRecursion IsEndOfSpans (acts_unless_faulty x)
+rest_ends_spans (b, None) = settling_ends_spans b
+rest_ends_spans (b, Some fault) = tt
+
+-- these acts, and then ends of spans
+pub record Then (first acts : List Act) : Type 0 where
+  pub others : List Act
+  pub ends : AllByRecursion IsEndOfSpans others
+  pub are : acts ≡ first ++ others
+
+then_by : (first other acts : List Act) → first ≡ other → Then first acts → Then other acts
+then_by first other acts e t = subst (λ (z : List Act). Then z acts) e t
+
+then_if : (room : Bool) (first more rest : List Act) → AllByRecursion IsEndOfSpans more
+    → AllByRecursion IsEndOfSpans rest
+    → Then (if room then first else []) ((if room then first ++ more else []) ++ rest)
+then_if true first more rest e f =
+    record { others = more ++ rest; ends = all_join IsEndOfSpans more rest e f; are = append_assoc first more rest }
+then_if false first more rest e f = record { others = rest; ends = f; are = refl }
+
+abbrev pub decided_acts : Bool → Bool → Option Error → ChunkPayloadData → List Act
+decided_acts found room o piece =
+    if found then (if room then acts_unless_refused o (Act.Took piece) else []) else []
 
 found_acts : (a : Shown) (x : Shown × Bool) (piece : ChunkPayloadData) → Found a piece x
-    → acts_of_found x piece ≡ decided_acts (is_found a piece) (has_room a piece) (refusal_of a piece) piece
+    → Then (decided_acts (is_found a piece) (has_room a piece) (refusal_of a piece) piece) (acts_of_found x piece)
 found_acts a (x, false) piece f =
-    ap (λ (b : Bool). decided_acts b (has_room a piece) (refusal_of a piece) piece) f.found
+    then_by [] _ [] (ap (λ (b : Bool). decided_acts b (has_room a piece) (refusal_of a piece) piece) f.found)
+    (record { others = []; ends = tt; are = refl })
 found_acts a (x, true) piece f =
-    ap (λ (b : Bool). decided_acts true b (refusal_in x.streams piece.stream_identifier piece (receive_limit x)) piece)
-    f.room
+    let here = refusal_in x.streams piece.stream_identifier piece (receive_limit x) in
+    let acts = acts_of_found (x, true) piece in
+    then_by (decided_acts true (has_room x piece) here piece)
+    (decided_acts (is_found a piece) (has_room a piece) (refusal_of a piece) piece) acts
+    (ap (λ (b : Bool). decided_acts true b here piece) f.room
     ∙ ap (λ (o : Option Error). decided_acts true (has_room a piece) o piece) (f.refused refl)
-    ∙ ap (λ (b : Bool). decided_acts b (has_room a piece) (refusal_of a piece) piece) f.found
+    ∙ ap (λ (b : Bool). decided_acts b (has_room a piece) (refusal_of a piece) piece) f.found)
+    (then_if (has_room x piece) (acts_of_taking x piece)
+    (acts_of_skips_behind (taken_in x piece) piece.stream_identifier)
+    (acts_unless_faulty (taken_where_admitted x piece))
+    (skips_end_spans (taken_in x piece) piece.stream_identifier)
+    (rest_ends_spans (taken_where_admitted x piece)))
 
-data_acts : (next : Bool) (a : Shown) (piece : ChunkPayloadData) → is_new a piece ≡ next
-    → acts_of_data a piece ≡ (if next then acts_of_stream a piece.stream_identifier
-    ++ decided_acts (is_found a piece) (has_room a piece) (refusal_of a piece) piece else [])
-data_acts true a piece e =
-    rw e (ap (λ (z : List Act). acts_of_stream a piece.stream_identifier ++ z)
-    (found_acts a _ piece (stream_is_found a piece)))
-data_acts false a piece e = rw e refl
+then_behind : (before first acts : List Act) → Then first acts → Then (before ++ first) (before ++ acts)
+then_behind before first acts t = record {
+  others = t.others;
+  ends = t.ends;
+  are = ap (λ (z : List Act). before ++ z) t.are ∙ sym (append_assoc before first t.others);
+}
+
+abbrev pub kept_acts : Bool → Option Error → ChunkPayloadData → List Act
+kept_acts room o piece = if room then acts_unless_refused o (Act.Deferred piece) else []
+
+hidden_acts : (a : Shown) (piece : ChunkPayloadData)
+    → Then (kept_acts (has_room a piece) (later_refusal_of a piece) piece) (acts_of_hidden a piece)
+hidden_acts a piece = record {
+  others = acts_unless_faulty (deferred_where_admitted a piece);
+  ends = rest_ends_spans (deferred_where_admitted a piece);
+  are = refl;
+}
+
+-- what DATA does first, where it is new or not, and of a later generation or not
+abbrev pub first_acts : Bool → Bool → Shown → ChunkPayloadData → List Act
+first_acts next later a piece =
+    if not next then [] else
+    if later then kept_acts (has_room a piece) (later_refusal_of a piece) piece else
+    acts_of_stream a piece.stream_identifier
+    ++ decided_acts (is_found a piece) (has_room a piece) (refusal_of a piece) piece
+
+data_acts_if : (next later : Bool) (a : Shown) (piece : ChunkPayloadData) → is_new a piece ≡ next
+    → is_for_later a piece ≡ later → Then (first_acts next later a piece) (acts_of_data a piece)
+data_acts_if true true a piece e f = rw (e, f) (hidden_acts (counted_data a) piece)
+data_acts_if true false a piece e f =
+    rw (e, f) (then_behind (acts_of_stream a piece.stream_identifier) _ _
+    (found_acts a (stream_found (counted_data a) piece.stream_identifier) piece (stream_is_found a piece)))
+data_acts_if false later a piece e f =
+    rw e (record {
+      others = acts_of_settling (counted_data a);
+      ends = settling_ends_spans (counted_data a);
+      are = refl;
+    })
+
+pub data_acts : (a : Shown) (piece : ChunkPayloadData)
+    → Then (first_acts (is_new a piece) (is_for_later a piece) a piece) (acts_of_data a piece)
+data_acts a piece = data_acts_if (is_new a piece) (is_for_later a piece) a piece refl refl
 
 -- What may be taken in, as the tests that a side makes.
 
 pub record PassesTests (a : Shown) (piece : ChunkPayloadData) : Type 0 where
   pub new : is_new a piece ≡ true
+  pub read_now : is_for_later a piece ≡ false
   pub found : is_found a piece ≡ true
+  pub room : has_room a piece ≡ true
+
+-- What may be kept apart, likewise.
+pub record PassesLater (a : Shown) (piece : ChunkPayloadData) : Type 0 where
+  pub new : is_new a piece ≡ true
+  pub read_later : is_for_later a piece ≡ true
   pub room : has_room a piece ≡ true
 
 room_left : (size waiting : ℕ) → waiting < size → 0 < size - waiting
@@ -239,67 +373,112 @@ stream_found_as : (there left : Bool) → (there ≡ true) ⊎ (left ≡ true) �
 stream_found_as there left h =
     ⊎_elim (λ (e : there ≡ true). or_left there left e) (λ (e : left ≡ true). or_right there left e) h
 
+-- An association on its history, and new DATA.
+module _ (a : Shown) (h : History) (piece : ChunkPayloadData) (binds : Binds a h) where
+  tested_new : IsNewTsn h piece.tsn → is_new a piece ≡ true
+  tested_new new = from_new_tsn h a.streams a.receiver piece.tsn binds.peer_last_tsn binds.held new
+
+  new_from_test : is_new a piece ≡ true → IsNewTsn h piece.tsn
+  new_from_test e = new_tsn h a.streams a.receiver piece.tsn binds.peer_last_tsn binds.held e
+
+  tested_room : IsNewTsn h piece.tsn → HasRoomFor a h piece.tsn → has_room a piece ≡ true
+  tested_room new room =
+      let waiting = all_waiting a in
+      let r = a.receiver in
+      ⊎_elim
+      (λ (l : waiting < r.buffer_size).
+      or_left (ltb 0 (credit_of r waiting)) (is_passed r.held r.peer_last_tsn piece.tsn)
+      (lt-ltb 0 (r.buffer_size - waiting) (room_left r.buffer_size waiting l)))
+      (λ (g : FillsAGap h piece.tsn).
+      or_right (ltb 0 (credit_of r waiting)) (is_passed r.held r.peer_last_tsn piece.tsn)
+      (ap (λ p. is_passed r.held p piece.tsn) binds.peer_last_tsn
+      ∙ came_passed h a.streams r.held piece.tsn binds.held new g))
+      room
+
+  room_from_test : IsNewTsn h piece.tsn → has_room a piece ≡ true → HasRoomFor a h piece.tsn
+  room_from_test new e =
+      let waiting = all_waiting a in
+      let r = a.receiver in
+      ⊎_elim
+      (λ (l : ltb 0 (credit_of r waiting) ≡ true).
+      inl (left_room r.buffer_size waiting (ltb-true 0 (r.buffer_size - waiting) l)))
+      (λ (g : is_passed r.held r.peer_last_tsn piece.tsn ≡ true).
+      inr (passed_came h a.streams r.held piece.tsn binds.held new
+      (ap (λ q. is_passed r.held q piece.tsn) (sym binds.peer_last_tsn) ∙ g)))
+      (or_cases (ltb 0 (credit_of r waiting)) (is_passed r.held r.peer_last_tsn piece.tsn) e)
+
 pub may_passes : (a : Shown) (h : History) (piece : ChunkPayloadData) → Binds a h → MayTakeIn a h piece
     → PassesTests a piece
-may_passes a h piece binds may =
-    let waiting = bytes_waiting a.streams in
-    let r = a.receiver in
-    record {
-      new = from_new_tsn h a.streams r piece.tsn binds.peer_last_tsn binds.held may.new;
-      found =
-          stream_found_as (is_some (stream_at a.streams piece.stream_identifier))
-          (generation_left a.streams) may.stream;
-      room = ⊎_elim
-          (λ (l : waiting < r.buffer_size).
-          or_left (ltb 0 (credit_of r waiting)) (is_passed r.held r.peer_last_tsn piece.tsn)
-          (lt-ltb 0 (r.buffer_size - waiting) (room_left r.buffer_size waiting l)))
-          (λ (g : FillsAGap h piece.tsn).
-          or_right (ltb 0 (credit_of r waiting)) (is_passed r.held r.peer_last_tsn piece.tsn)
-          (ap (λ p. is_passed r.held p piece.tsn) binds.peer_last_tsn
-          ∙ came_passed h a.streams r.held piece.tsn binds.held may.new g))
-          may.room;
-    }
+may_passes a h piece binds may = record {
+  new = tested_new a h piece binds may.new;
+  read_now = may.read_now;
+  found =
+      stream_found_as (is_some (stream_at a.streams piece.stream_identifier)) (generation_left a.streams) may.stream;
+  room = tested_room a h piece binds may.new may.room;
+}
 
 pub passes_may : (a : Shown) (h : History) (piece : ChunkPayloadData) → Binds a h → PassesTests a piece
     → MayTakeIn a h piece
 passes_may a h piece binds p =
-    let waiting = bytes_waiting a.streams in
-    let r = a.receiver in
-    let new = new_tsn h a.streams r piece.tsn binds.peer_last_tsn binds.held p.new in
+    let new = new_from_test a h piece binds p.new in
     record {
       new = new;
+      read_now = p.read_now;
       stream = or_cases (is_some (stream_at a.streams piece.stream_identifier)) (generation_left a.streams) p.found;
-      room = ⊎_elim
-          (λ (l : ltb 0 (credit_of r waiting) ≡ true).
-          inl (left_room r.buffer_size waiting (ltb-true 0 (r.buffer_size - waiting) l)))
-          (λ (g : is_passed r.held r.peer_last_tsn piece.tsn ≡ true).
-          inr (passed_came h a.streams r.held piece.tsn binds.held new
-          (ap (λ q. is_passed r.held q piece.tsn) (sym binds.peer_last_tsn) ∙ g)))
-          (or_cases (ltb 0 (credit_of r waiting)) (is_passed r.held r.peer_last_tsn piece.tsn) p.room);
+      room = room_from_test a h piece binds new p.room;
     }
+
+pub may_pass_later : (a : Shown) (h : History) (piece : ChunkPayloadData) → Binds a h → MayKeepApart a h piece
+    → PassesLater a piece
+may_pass_later a h piece binds may = record {
+  new = tested_new a h piece binds may.new;
+  read_later = may.read_later;
+  room = tested_room a h piece binds may.new may.room;
+}
+
+pub passes_may_later : (a : Shown) (h : History) (piece : ChunkPayloadData) → Binds a h → PassesLater a piece
+    → MayKeepApart a h piece
+passes_may_later a h piece binds p =
+    let new = new_from_test a h piece binds p.new in
+    record { new = new; read_later = p.read_later; room = room_from_test a h piece binds new p.room }
 
 -- Taken in
 
 pub refused_data : (a : Shown) (piece : ChunkPayloadData) (trigger : AckTrigger) → PassesTests a piece
     → fault_of (on_data a piece trigger).1 ≡ refusal_of a piece
-refused_data a piece trigger p = data_flow true a piece trigger p.new ∙ rw (p.found, p.room) refl
+refused_data a piece trigger p = data_flow a piece trigger ∙ rw (p.new, p.read_now, p.found, p.room) refl
 
-refused_if : (next found room : Bool) (o : Option Error) (error : Error)
-    → (if next then decided found room o else None) ≡ Some error
-    → (next ≡ true) × (found ≡ true) × (room ≡ true) × (o ≡ Some error)
-refused_if false found room o error e = absurd (false≢true (ap is_some e))
-refused_if true false room o error e = absurd (false≢true (ap is_some e))
-refused_if true true false o error e = absurd (false≢true (ap is_some e))
-refused_if true true true o error e = (refl, refl, refl, e)
+pub refused_later : (a : Shown) (piece : ChunkPayloadData) (trigger : AckTrigger) → PassesLater a piece
+    → fault_of (on_data a piece trigger).1 ≡ later_refusal_of a piece
+refused_later a piece trigger p = data_flow a piece trigger ∙ rw (p.new, p.read_later, p.room) refl
+
+-- It passed the tests, and its stream refused it; or it passed those of DATA that is kept apart, and what waits of its
+-- generation refused it.
+abbrev pub WasRefused : Shown → ChunkPayloadData → Error → Type 0
+WasRefused a piece error =
+    (PassesTests a piece × (refusal_of a piece ≡ Some error))
+    ⊎ (PassesLater a piece × (later_refusal_of a piece ≡ Some error))
+
+refused_if : (found room : Bool) (o : Option Error) (error : Error) → decided found room o ≡ Some error
+    → (found ≡ true) × (room ≡ true) × (o ≡ Some error)
+refused_if false room o error e = absurd (false≢true (ap is_some e))
+refused_if true false o error e = absurd (false≢true (ap is_some e))
+refused_if true true o error e = (refl, refl, e)
+
+refused_as : (next later : Bool) (a : Shown) (piece : ChunkPayloadData) (error : Error) → is_new a piece ≡ next
+    → is_for_later a piece ≡ later → fault_if next later a piece ≡ Some error → WasRefused a piece error
+refused_as false later a piece error n l e = absurd (false≢true (ap is_some e))
+refused_as true true a piece error n l e =
+    let r = refused_if true (has_room a piece) (later_refusal_of a piece) error e in
+    inr (record { new = n; read_later = l; room = r.1 }, r.2)
+refused_as true false a piece error n l e =
+    let r = refused_if (is_found a piece) (has_room a piece) (refusal_of a piece) error e in
+    inl (record { new = n; read_now = l; found = r.0; room = r.1 }, r.2)
 
 pub data_passed : (a : Shown) (piece : ChunkPayloadData) (trigger : AckTrigger) (error : Error)
-    → fault_of (on_data a piece trigger).1 ≡ Some error
-    → PassesTests a piece × (refusal_of a piece ≡ Some error)
+    → fault_of (on_data a piece trigger).1 ≡ Some error → WasRefused a piece error
 data_passed a piece trigger error e =
-    let r =
-    refused_if (is_new a piece) (is_found a piece) (has_room a piece) (refusal_of a piece) error
-    (sym (data_flow (is_new a piece) a piece trigger refl) ∙ e) in
-    (record { new = r.0; found = r.1; room = r.2 }, r.3)
+    refused_as (is_new a piece) (is_for_later a piece) a piece error refl refl (sym (data_flow a piece trigger) ∙ e)
 
 abbrev error_or : Error → Option Error → Error
 error_or other None = other
@@ -310,26 +489,29 @@ fault_from (flows.Next trigger) error e = absurd (false≢true (ap is_some e))
 fault_from (flows.Fault other) error e = ap (λ (o : Option Error). flows.Fault (error_or other o)) e
 fault_from flows.Exhausted error e = absurd (false≢true (ap is_some e))
 
+-- what is taken in makes its stream, or is of a live one
 taken_if : (o : Option StreamView) (left : Bool) (a : Shown) (piece : ChunkPayloadData)
     → stream_at a.streams piece.stream_identifier ≡ o → generation_left a.streams ≡ left
-    → is_found a piece ≡ true → IsTakenIn a piece (acts_of_stream a piece.stream_identifier ++ Act.Took piece ∷ [])
-taken_if (Some t) left a piece e f found =
+    → is_found a piece ≡ true
+    → (first : List Act) → first ≡ acts_of_stream a piece.stream_identifier ++ Act.Took piece ∷ []
+    → OpensAndTakes a piece first ⊎ TakesOnly a piece first
+taken_if (Some t) left a piece e f found first are =
     let there : is_some (stream_at a.streams piece.stream_identifier) ≡ true = ap is_some e in
-    rw there (inr (record { stream = t; live = e; are = refl }))
-taken_if None true a piece e f found =
+    inr (record { stream = t; live = e; are = are ∙ rw there refl })
+taken_if None true a piece e f found first are =
     let there : is_some (stream_at a.streams piece.stream_identifier) ≡ false = ap is_some e in
     let id = piece.stream_identifier in
     let number = a.sender.queue.next_message_id in
     let made_at = at_made a.streams id number id kinds.Unknown e ∙ cond-true (eqb id id) _ _ (eq-eqb id id refl) in
-    rw (there, f) (inl (record {
+    inl (record {
       first = number;
       kind = kinds.Unknown;
       stream = fresh_stream id a.streams.next_generation number kinds.Unknown;
       none = e;
       live = made_at;
-      are = refl;
-    }))
-taken_if None false a piece e f found =
+      are = are ∙ rw (there, f) refl;
+    })
+taken_if None false a piece e f found first are =
     let there : is_some (stream_at a.streams piece.stream_identifier) ≡ false = ap is_some e in
     let no : false ≡ true = rw (there, f) at found in
     absurd (false≢true no)
@@ -338,132 +520,37 @@ pub data_is_taken_in : DataIsTakenIn
 unfolding on_chunk
 data_is_taken_in a h header piece binds may =
     let p = may_passes a h piece binds may in
+    let acts = data_acts a piece in
     record {
       taken = λ none.
-          let acts : acts_of_data a piece ≡ acts_of_stream a piece.stream_identifier ++ Act.Took piece ∷ [] =
-          data_acts true a piece p.new ∙ rw (p.found, p.room, none) refl in
-          subst (IsTakenIn a piece) (sym acts) (taken_if _ _ a piece refl refl p.found);
+          let first = first_acts (is_new a piece) (is_for_later a piece) a piece in
+          let are : first ≡ acts_of_stream a piece.stream_identifier ++ Act.Took piece ∷ [] =
+          rw (p.new, p.read_now, p.found, p.room, none) refl in
+          record {
+            first = first;
+            taking = taken_if _ _ a piece refl refl p.found first are;
+            others = acts.others;
+            ends = acts.ends;
+            are = acts.are;
+          };
       refused =
           λ trigger now error e. fault_from (on_data a piece trigger).1 error (refused_data a piece trigger p ∙ e);
     }
 
--- Nothing else is taken in
-
--- what an act took in
-abbrev taken_by : ChunkPayloadData → Option Act → ChunkPayloadData
-taken_by other (Some (Act.Took piece)) = piece
-taken_by other act = other
-
-abbrev is_took : Option Act → Bool
-is_took (Some (Act.Took piece)) = true
-is_took act = false
-
-none_there : (index : ℕ) (piece : ChunkPayloadData) → slice_get [] index ≡ Some (Act.Took piece) → ⊥
-none_there index piece e = false≢true (ap is_took e)
-
-not_alone : (x : Act) (index : ℕ) (piece : ChunkPayloadData) → is_took (Some x) ≡ false
-    → slice_get (x ∷ []) index ≡ Some (Act.Took piece) → ⊥
-not_alone x zero piece n e = false≢true (sym n ∙ ap is_took e)
-not_alone x (suc index) piece n e = none_there index piece e
-
-behind_opened : (there left : Bool) (x : Act) (acts : List Act) (index : ℕ) (piece : ChunkPayloadData)
-    → is_took (Some x) ≡ false
-    → slice_get ((if there then [] else if left then x ∷ [] else []) ++ acts) index ≡ Some (Act.Took piece)
-    → (k : ℕ) × (slice_get acts k ≡ Some (Act.Took piece))
-behind_opened true left x acts index piece n e = (index, e)
-behind_opened false false x acts index piece n e = (index, e)
-behind_opened false true x acts zero piece n e = absurd (false≢true (sym n ∙ ap is_took e))
-behind_opened false true x acts (suc index) piece n e = (index, e)
-
--- the tests that were passed where this DATA was taken in
-record PassedAll (there fits : Bool) (o : Option Error) (piece came : ChunkPayloadData) : Type 0 where
-  found : there ≡ true
-  room : fits ≡ true
-  unrefused : o ≡ None
-  same : came ≡ piece
-
-passed_all : (found room : Bool) (o : Option Error) (piece came : ChunkPayloadData) (index : ℕ)
-    → slice_get (decided_acts found room o piece) index ≡ Some (Act.Took came)
-    → PassedAll found room o piece came
-passed_all false room o piece came index e = absurd (none_there index came e)
-passed_all true false o piece came index e = absurd (none_there index came e)
-passed_all true true (Some error) piece came index e = absurd (none_there index came e)
-passed_all true true None piece came zero e =
-    record { found = refl; room = refl; unrefused = refl; same = sym (ap (taken_by piece) e) }
-passed_all true true None piece came (suc index) e = absurd (none_there index came e)
-
-passed_data : (next : Bool) (a : Shown) (piece came : ChunkPayloadData) (index : ℕ) → is_new a piece ≡ next
-    → slice_get (acts_of_data a piece) index ≡ Some (Act.Took came)
-    → (is_new a piece ≡ true) × PassedAll (is_found a piece) (has_room a piece) (refusal_of a piece) piece came
-passed_data false a piece came index n e =
-    absurd
-    (none_there index came (sym (ap (λ (acts : List Act). slice_get acts index) (data_acts false a piece n)) ∙ e))
-passed_data true a piece came index n e =
-    let behind = behind_opened (is_some (stream_at a.streams piece.stream_identifier)) (generation_left a.streams)
-    (Act.Opened piece.stream_identifier a.sender.queue.next_message_id kinds.Unknown)
-    (decided_acts (is_found a piece) (has_room a piece) (refusal_of a piece) piece) index came refl
-    (sym (ap (λ (acts : List Act). slice_get acts index) (data_acts true a piece n)) ∙ e) in
-    (n, passed_all (is_found a piece) (has_room a piece) (refusal_of a piece) piece came behind.0 behind.1)
-
-data_was : (a : Shown) (h : History) (piece came : ChunkPayloadData) → Binds a h → is_new a piece ≡ true
-    → PassedAll (is_found a piece) (has_room a piece) (refusal_of a piece) piece came
-    → WasToBeTakenIn a h (chunks.Data piece) came
-data_was a h piece came binds new p =
-    subst (λ (z : ChunkPayloadData). WasToBeTakenIn a h (chunks.Data piece) z) (sym p.same) (record {
-      data_itself = refl;
-      may = passes_may a h piece binds (record { new = new; found = p.found; room = p.room });
-      unrefused = p.unrefused;
-    })
-
-no_acts : (acts : List Act) (index : ℕ) (piece : ChunkPayloadData) → acts ≡ []
-    → slice_get acts index ≡ Some (Act.Took piece) → ⊥
-no_acts acts index piece none e = none_there index piece (sym (ap (λ (zs : List Act). slice_get zs index) none) ∙ e)
-
-one_act : (acts : List Act) (x : Act) (index : ℕ) (piece : ChunkPayloadData) → is_took (Some x) ≡ false
-    → acts ≡ x ∷ [] → slice_get acts index ≡ Some (Act.Took piece) → ⊥
-one_act acts x index piece n one e =
-    not_alone x index piece n (sym (ap (λ (zs : List Act). slice_get zs index) one) ∙ e)
-
-peer_known_is_no_data : (acts : List Act) (init : ChunkInit) (index : ℕ) (piece : ChunkPayloadData)
-    → IsPeerKnown init acts
-    → slice_get acts index ≡ Some (Act.Took piece) → ⊥
-peer_known_is_no_data acts init index piece m e =
-    ⊎_elim (λ (n : acts ≡ []). no_acts acts index piece n e) (λ (n : acts ≡ Act.PeerKnown init.initial_tsn ∷ []).
-    one_act acts (Act.PeerKnown init.initial_tsn) index piece refl n e) m
-
-sack_no_data : (acts : List Act) (a : Shown) (h : History) (sack : ChunkSelectiveAck) (index : ℕ)
-    (piece : ChunkPayloadData)
-    → (acts ≡ []) ⊎ IsAcknowledging a h sack acts
-    → slice_get acts index ≡ Some (Act.Took piece) → ⊥
-sack_no_data acts a h sack index piece m e =
-    ⊎_elim (λ (n : acts ≡ []). no_acts acts index piece n e)
-    (λ (n : IsAcknowledging a h sack acts).
-    one_act acts (Act.Acknowledged n.count sack.gap_ack_blocks n.missing) index piece refl n.are e) m
-
-passing_is_no_data : (acts : List Act) (tsn : ℕ) (skipped : List SkippedStream) (index : ℕ) (piece : ChunkPayloadData)
-    → IsPassingOver tsn skipped acts → slice_get acts index ≡ Some (Act.Took piece) → ⊥
-passing_is_no_data acts tsn skipped index piece m e =
-    ⊎_elim (λ (n : acts ≡ []). no_acts acts index piece n e) (λ (n : acts ≡ Act.PassedOver tsn skipped ∷ []).
-    one_act acts (Act.PassedOver tsn skipped) index piece refl n e) m
-
-pub nothing_else_is_taken_in : NothingElseIsTakenIn
-nothing_else_is_taken_in a h header (chunks.Data piece) index came binds e =
-    let p = passed_data (is_new a piece) a piece came index refl e in
-    data_was a h piece came binds p.0 p.1
-nothing_else_is_taken_in a h header (chunks.SelectiveAck sack) index came binds e =
-    absurd (sack_no_data (acts_of_chunk a header (chunks.SelectiveAck sack)) a h sack index came
-    (sacks_acknowledge a h header sack binds) e)
-nothing_else_is_taken_in a h header (chunks.Init init) index came binds e =
-    absurd (peer_known_is_no_data (acts_of_chunk a header (chunks.Init init)) init index came
-    (greetings_make_the_peer_known a header init).0 e)
-nothing_else_is_taken_in a h header (chunks.InitAck init) index came binds e =
-    absurd (peer_known_is_no_data (acts_of_chunk a header (chunks.InitAck init)) init index came
-    (greetings_make_the_peer_known a header init).1 e)
-nothing_else_is_taken_in a h header (chunks.ForwardTsn x) index came binds e =
-    absurd (passing_is_no_data (acts_of_chunk a header (chunks.ForwardTsn x)) x.new_cumulative_tsn x.streams index came
-    (forwards_pass_over a header x) e)
-nothing_else_is_taken_in a h header (chunks.IForwardTsn x) index came binds e =
-    absurd (passing_is_no_data (acts_of_chunk a header (chunks.IForwardTsn x)) x.new_cumulative_tsn
-    (skips_of x.entries) index came (i_forwards_pass_over a header x) e)
-nothing_else_is_taken_in a h header chunk index came binds e =
-    absurd (no_acts (acts_of_chunk a header chunk) index came (other_chunks_do_nothing a header chunk tt) e)
+pub later_data_is_kept_apart : LaterDataIsKeptApart
+unfolding on_chunk
+later_data_is_kept_apart a h header piece binds may =
+    let p = may_pass_later a h piece binds may in
+    let acts = data_acts a piece in
+    record {
+      kept = λ none.
+          let first : first_acts (is_new a piece) (is_for_later a piece) a piece ≡ Act.Deferred piece ∷ [] =
+          rw (p.new, p.read_later, p.room, none) refl in
+          record {
+            others = acts.others;
+            ends = acts.ends;
+            are = acts.are ∙ ap (λ (z : List Act). z ++ acts.others) first;
+          };
+      refused =
+          λ trigger now error e. fault_from (on_data a piece trigger).1 error (refused_later a piece trigger p ∙ e);
+    }

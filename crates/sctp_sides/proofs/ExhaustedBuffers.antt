@@ -16,7 +16,7 @@ use Rattle.sctp_receive_queues.specs.Reassembly.{Group, Reassembly, after_read, 
 use Rattle.sctp_receive_queues.specs.Reassembly.{read_ordered, ready, taken}
 use Rattle.sctp_receive_queues.proofs.ReadyMessages.{reads_give_what_is_ready}
 use Rattle.sctp_streams.specs.Stream.{StreamView, gives_messages, is_read_half_open}
-use Rattle.sctp_streams.specs.Streams.{bytes_waiting, generation_left, live_streams, pushed_in, refusal_in}
+use Rattle.sctp_streams.specs.Streams.{generation_left, live_streams, pushed_in, refusal_in}
 use Rattle.sctp_streams.specs.Streams.{some_gives_messages, stream_at}
 use Rattle.sctp_inbound.specs.declared.receiver.AckTrigger.{AckTrigger}
 use Rattle.sctp_inbound.specs.Held.{has_gap}
@@ -28,16 +28,25 @@ use Rattle.sctp_directions.specs.Acts.{History, reach_in}
 use Rattle.sctp_assoc.specs.Leads.{Binds, parts}
 use Rattle.sctp_assoc.specs.declared.inbound.Flow.{Flow}
 use Rattle.sctp_assoc.specs.declared.inbound.Flow.TheVariants as flows
-use Rattle.sctp_assoc.specs.Chunks.{asks, asks_or_faults, counted_data, on_data, on_new_data, stream_found, taken_in}
-use Rattle.sctp_assoc.specs.Chunks.{taken_unless, told, with_message}
+use Rattle.sctp_wire_types.specs.declared.chunk.Chunk.TheVariants as chunks
+use Rattle.sctp_inbound.specs.declared.receiver.AckTrigger.TheVariants as triggers
+use Rattle.sctp_inbound.specs.Receiver.{asked}
+use Rattle.sctp_assoc.specs.Chunks.{asks, asks_or_faults, counted_data, deferred, deferred_unless}
+use Rattle.sctp_assoc.specs.Chunks.{deferred_where_admitted, on_chunk, on_data, on_new_data, stream_found, taken_in}
+use Rattle.sctp_assoc.specs.Chunks.{taken_unless, taken_where_admitted, then_skips, told}
 use Rattle.sctp_assoc.specs.Closing.{is_exhausted}
-use Rattle.sctp_assoc.specs.Shown.{Shown}
-use Rattle.sctp_sides.specs.Causes.{IsFullForGood, IsUnreadable, LeavesNothingToRead}
-use Rattle.sctp_sides.specs.Intake.{receive_limit, refusal_of}
-use Rattle.sctp_assoc.proofs.CallsLeadOn.{asks_keeps, asks_same, next_leads}
+use Rattle.sctp_assoc.specs.Resets.{settled}
+use Rattle.sctp_assoc.specs.Shown.{Shown, all_waiting}
+use Rattle.sctp_sides.specs.Causes.{IsFullForGood, IsUnreadable, LeavesNothingToRead, kept_apart, kept_behind}
+use Rattle.sctp_sides.specs.Intake.{is_for_later, later_refusal_of, receive_limit, refusal_of}
+use Rattle.sctp_assoc.proofs.CallsLeadOn.{chunk_leads}
+use Rattle.sctp_assoc.specs.Happened.{acts_of_chunk}
+use Rattle.sctp_assoc.specs.Leads.{Leads}
 use Rattle.sctp_assoc.proofs.DataCame.{from_new_tsn, new_tsn}
-use Rattle.sctp_sides.proofs.DataIntake.{Found, asks_flow, exhausts_of, has_room, is_found, is_new, may_passes}
-use Rattle.sctp_sides.proofs.DataIntake.{passes_may, stream_is_found}
+use Rattle.sctp_sides.proofs.DataIntake.{Found, PassesLater, PassesTests, data_passed, exhausts_of, fault_of, has_room}
+use Rattle.sctp_sides.proofs.DataIntake.{is_found, is_new, may_pass_later, may_passes, passes_may, passes_may_later}
+use Rattle.sctp_sides.proofs.DataIntake.{refused_data, refused_later, stream_is_found}
+use Rattle.sctp_sides.proofs.ResetsBeside.{settling_changes, skips_of_change}
 
 -- A stream gives a message exactly where one is ready.
 
@@ -151,9 +160,9 @@ not_true true e = absurd (false≢true e)
 not_true false e = refl
 
 pub exhausted_is_full : (b : Shown) (k : History) → Binds b k → is_exhausted b ≡ true
-    → IsFullForGood b.receiver.buffer_size (parts b k)
+    → IsFullForGood b.receiver.buffer_size (kept_apart b) (parts b k)
 exhausted_is_full b k binds e =
-    let waiting = bytes_waiting b.streams in
+    let waiting = all_waiting b in
     let credit = eqb (credit_of b.receiver waiting) 0 in
     let gapless = not (has_gap b.receiver.held) in
     let last = and_parts ((credit && gapless) && ltb 0 waiting) (not (some_gives_messages b.streams)) e in
@@ -168,10 +177,10 @@ exhausted_is_full b k binds e =
           all_unreadable (live_streams b.streams) (not_true (some_gives_messages b.streams) last.1);
     }
 
-pub full_is_exhausted : (b : Shown) (k : History) → Binds b k → IsFullForGood b.receiver.buffer_size (parts b k)
-    → is_exhausted b ≡ true
+pub full_is_exhausted : (b : Shown) (k : History) → Binds b k
+    → IsFullForGood b.receiver.buffer_size (kept_apart b) (parts b k) → is_exhausted b ≡ true
 full_is_exhausted b k binds f =
-    let waiting = bytes_waiting b.streams in
+    let waiting = all_waiting b in
     let credit = eqb (credit_of b.receiver waiting) 0 in
     let gapless = not (has_gap b.receiver.held) in
     let none = ap not (gap_of_past _ b.receiver.held binds.held.only f.no_gap) in
@@ -180,7 +189,24 @@ full_is_exhausted b k binds f =
     (and_from (credit && gapless) (ltb 0 waiting) (and_from credit gapless spent none) (lt-ltb 0 waiting f.some))
     (ap not (none_gives (live_streams b.streams) f.unreadable))
 
+-- Resets leave the receiver.
+
+pub settled_receiver : (a : Shown) → (settled a).receiver ≡ a.receiver
+settled_receiver a = ap (λ (z : Shown). z.receiver) (settling_changes a)
+
+-- What asks to be acknowledged changes nothing.
+keeps_if : (e : Bool) (a : Shown) (f g : Flow) → (if◌then◌else◌ {A = Shown × Flow} e (a, f) (a, g)).0 ≡ a
+keeps_if true a f g = refl
+keeps_if false a f g = refl
+
+asks_keeps : (a : Shown) (immediate : Bool) (trigger : AckTrigger) → (asks a immediate trigger).0 ≡ a
+asks_keeps a immediate trigger =
+    keeps_if (is_exhausted a) a flows.Exhausted (flows.Next (asked a.receiver trigger immediate))
+
 -- DATA leaves the size of the buffer.
+
+abbrev size_of : Shown → ℕ
+size_of a = a.receiver.buffer_size
 
 pick_receiver : (c : Bool) (x y : Shown) (r : Receiver) → x.receiver ≡ r → y.receiver ≡ r
     → (if◌then◌else◌ {A = Shown} c x y).receiver ≡ r
@@ -191,7 +217,7 @@ told_receiver : (a : Shown) (id : ℕ) (kept : Bool) → (told a id kept).receiv
 told_receiver a id kept = pick_receiver _ _ _ a.receiver refl refl
 
 taken_size : (o : Option Error) (x : Shown) (piece : ChunkPayloadData)
-    → (taken_unless o x piece).0.receiver.buffer_size ≡ x.receiver.buffer_size
+    → size_of (taken_unless o x piece).0 ≡ size_of x
 taken_size (Some error) x piece = refl
 taken_size None x piece =
     let put = pushed_in x.streams piece.stream_identifier piece in
@@ -199,157 +225,229 @@ taken_size None x piece =
     (told_receiver (record x { streams = put.0; receiver = taken_to x.receiver piece.tsn }) piece.stream_identifier
     put.1)
 
-room_size : (room : Bool) (x : Shown) (piece : ChunkPayloadData) (trigger : AckTrigger) → has_room x piece ≡ room
-    → (on_new_data (x, true) piece trigger).0.receiver.buffer_size ≡ x.receiver.buffer_size
+skips_size : (y : Shown × Option Error) (id : ℕ) → size_of (then_skips y id).0 ≡ size_of y.0
+skips_size (b, None) id =
+    ap size_of (skips_of_change id b)
+skips_size (b, Some fault) id = refl
+
+admitted_size : (room : Bool) (x : Shown) (y : Shown × Option Error) → size_of y.0 ≡ size_of x
+    → size_of (if◌then◌else◌ {A = Shown × Option Error} room y (x, None)).0 ≡ size_of x
+admitted_size true x y e = e
+admitted_size false x y e = refl
+
+behind_size : (y : Shown × Option Error) (immediate : Bool) (trigger : AckTrigger)
+    → size_of (asks_or_faults y immediate trigger).0 ≡ size_of y.0
+behind_size (b, None) immediate trigger =
+    ap size_of (asks_keeps (settled b) immediate trigger) ∙ ap (λ (r : Receiver). r.buffer_size) (settled_receiver b)
+behind_size (b, Some fault) immediate trigger = refl
+
+new_size : (x : Shown × Bool) (piece : ChunkPayloadData) (trigger : AckTrigger)
+    → size_of (on_new_data x piece trigger).0 ≡ size_of x.0
 unfolding taken_in
-room_size true x piece trigger e =
-    rw e (ap (λ (z : Shown). z.receiver.buffer_size) (asks_same (taken_in x piece) piece trigger)
+new_size (x, false) piece trigger = refl
+new_size (x, true) piece trigger =
+    behind_size (taken_where_admitted x piece) piece.immediate_sack trigger
+    ∙ admitted_size (has_room x piece) x (then_skips (taken_in x piece) piece.stream_identifier)
+    (skips_size (taken_in x piece) piece.stream_identifier
     ∙ taken_size (refusal_in x.streams piece.stream_identifier piece (receive_limit x)) x piece)
-room_size false x piece trigger e =
-    rw e (ap (λ (z : Shown). z.receiver.buffer_size) (asks_keeps x piece trigger))
+
+deferring_size : (o : Option Error) (x : Shown) (piece : ChunkPayloadData)
+    → size_of (deferred_unless o x piece).0 ≡ size_of x
+deferring_size (Some error) x piece = refl
+deferring_size None x piece = refl
+
+deferred_size : (x : Shown) (piece : ChunkPayloadData) → size_of (deferred_where_admitted x piece).0 ≡ size_of x
+unfolding deferred_where_admitted
+deferred_size x piece =
+    admitted_size (has_room x piece) x (deferred x piece) (deferring_size (later_refusal_of x piece) x piece)
 
 found_size : (there left : Bool) (a : Shown) (id : ℕ) → is_some (stream_at a.streams id) ≡ there
     → generation_left a.streams ≡ left
-    → (stream_found a id).0.receiver.buffer_size ≡ a.receiver.buffer_size
+    → size_of (stream_found a id).0 ≡ size_of a
 unfolding stream_found
 found_size true left a id e f = rw e refl
 found_size false true a id e f = rw (e, f) refl
 found_size false false a id e f = rw (e, f) refl
 
-new_size : (x : Shown × Bool) (piece : ChunkPayloadData) (trigger : AckTrigger)
-    → (on_new_data x piece trigger).0.receiver.buffer_size ≡ x.0.receiver.buffer_size
-new_size (x, false) piece trigger = refl
-new_size (x, true) piece trigger = room_size (has_room x piece) x piece trigger refl
-
-data_size : (next : Bool) (a : Shown) (piece : ChunkPayloadData) (trigger : AckTrigger) → is_new a piece ≡ next
-    → (on_data a piece trigger).0.receiver.buffer_size ≡ a.receiver.buffer_size
+data_size : (next later : Bool) (a : Shown) (piece : ChunkPayloadData) (trigger : AckTrigger) → is_new a piece ≡ next
+    → is_for_later a piece ≡ later → size_of (on_data a piece trigger).0 ≡ size_of a
 unfolding on_data
-data_size true a piece trigger e =
-    rw e (new_size (stream_found (counted_data a) piece.stream_identifier) piece trigger
+data_size true true a piece trigger e f =
+    rw (e, f) (behind_size (deferred_where_admitted (counted_data a) piece) piece.immediate_sack trigger
+    ∙ deferred_size (counted_data a) piece)
+data_size true false a piece trigger e f =
+    rw (e, f) (new_size (stream_found (counted_data a) piece.stream_identifier) piece trigger
     ∙ found_size _ _ (counted_data a) piece.stream_identifier refl refl)
-data_size false a piece trigger e =
-    rw e (ap (λ (z : Shown). z.receiver.buffer_size) (asks_keeps (counted_data a) piece trigger))
+data_size false later a piece trigger e f =
+    rw e (behind_size (counted_data a, None) piece.immediate_sack trigger)
 
--- DATA tells of it where it asks to be acknowledged: it is no fault, and its stream is there or can be made.
+-- What DATA leaves is the same whatever asked before.
 
-abbrev asked_at : Bool → Bool → Option Error → Bool
-asked_at found room o = if found then (if room then not (is_some o) else true) else false
+behind_same : (y : Shown × Option Error) (immediate : Bool) (s t : AckTrigger)
+    → (asks_or_faults y immediate s).0 ≡ (asks_or_faults y immediate t).0
+behind_same (b, None) immediate s t = asks_keeps (settled b) immediate s ∙ sym (asks_keeps (settled b) immediate t)
+behind_same (b, Some fault) immediate s t = refl
 
-abbrev asked_by : Shown → ChunkPayloadData → Bool
-asked_by a piece =
-    if is_new a piece then asked_at (is_found a piece) (has_room a piece) (refusal_of a piece) else true
+new_same : (x : Shown × Bool) (piece : ChunkPayloadData) (s t : AckTrigger)
+    → (on_new_data x piece s).0 ≡ (on_new_data x piece t).0
+new_same (x, false) piece s t = refl
+new_same (x, true) piece s t = behind_same (taken_where_admitted x piece) piece.immediate_sack s t
 
-asked_exhausts : (x : Shown) (piece : ChunkPayloadData) (trigger : AckTrigger)
-    → exhausts_of (asks x piece trigger).1 ≡ is_exhausted (asks x piece trigger).0
-asked_exhausts x piece trigger = (asks_flow x piece trigger).1 ∙ ap is_exhausted (sym (asks_keeps x piece trigger))
-
-taking_exhausts : (o : Option Error) (x : Shown) (piece : ChunkPayloadData) (trigger : AckTrigger)
-    → exhausts_of (asks_or_faults (taken_unless o x piece) piece trigger).1
-    ≡ (not (is_some o) && is_exhausted (asks_or_faults (taken_unless o x piece) piece trigger).0)
-taking_exhausts None x piece trigger =
-    asked_exhausts (with_message x piece (pushed_in x.streams piece.stream_identifier piece)) piece trigger
-taking_exhausts (Some error) x piece trigger = refl
-
-room_exhausts : (room : Bool) (x : Shown) (piece : ChunkPayloadData) (trigger : AckTrigger)
-    → has_room x piece ≡ room
-    → exhausts_of (on_new_data (x, true) piece trigger).1
-    ≡ ((if room then not (is_some (refusal_in x.streams piece.stream_identifier piece (receive_limit x))) else true)
-    && is_exhausted (on_new_data (x, true) piece trigger).0)
-unfolding taken_in
-room_exhausts true x piece trigger e =
-    rw e (taking_exhausts (refusal_in x.streams piece.stream_identifier piece (receive_limit x)) x piece trigger)
-room_exhausts false x piece trigger e = rw e (asked_exhausts x piece trigger)
-
-found_exhausts : (a : Shown) (x : Shown × Bool) (piece : ChunkPayloadData) (trigger : AckTrigger) → Found a piece x
-    → exhausts_of (on_new_data x piece trigger).1
-    ≡ (asked_at (is_found a piece) (has_room a piece) (refusal_of a piece)
-    && is_exhausted (on_new_data x piece trigger).0)
-found_exhausts a (x, false) piece trigger f =
-    ap (λ (c : Bool). asked_at c (has_room a piece) (refusal_of a piece) && is_exhausted x) f.found
-found_exhausts a (x, true) piece trigger f =
-    let left : Bool = is_exhausted (on_new_data (x, true) piece trigger).0 in
-    room_exhausts (has_room x piece) x piece trigger refl
-    ∙ ap (λ (c : Bool).
-    asked_at true c (refusal_in x.streams piece.stream_identifier piece (receive_limit x)) && left) f.room
-    ∙ ap (λ (o : Option Error). asked_at true (has_room a piece) o && left) (f.refused refl)
-    ∙ ap (λ (c : Bool). asked_at c (has_room a piece) (refusal_of a piece) && left) f.found
-
-data_exhausts : (next : Bool) (a : Shown) (piece : ChunkPayloadData) (trigger : AckTrigger) → is_new a piece ≡ next
-    → exhausts_of (on_data a piece trigger).1 ≡ (asked_by a piece && is_exhausted (on_data a piece trigger).0)
+data_same : (next later : Bool) (a : Shown) (piece : ChunkPayloadData) (s t : AckTrigger) → is_new a piece ≡ next
+    → is_for_later a piece ≡ later → (on_data a piece s).0 ≡ (on_data a piece t).0
 unfolding on_data
-data_exhausts true a piece trigger e =
-    rw e (found_exhausts a (stream_found (counted_data a) piece.stream_identifier) piece trigger
-    (stream_is_found a piece))
-data_exhausts false a piece trigger e = rw e (asked_exhausts (counted_data a) piece trigger)
+data_same true true a piece s t e f =
+    rw (e, f) (behind_same (deferred_where_admitted (counted_data a) piece) piece.immediate_sack s t)
+data_same true false a piece s t e f =
+    rw (e, f) (new_same (stream_found (counted_data a) piece.stream_identifier) piece s t)
+data_same false later a piece s t e f = rw e (behind_same (counted_data a, None) piece.immediate_sack s t)
+
+kept_same : (a : Shown) (header : CommonHeader) (piece : ChunkPayloadData) (trigger : AckTrigger)
+    → kept_apart (on_data a piece trigger).0 ≡ kept_behind a header (chunks.Data piece)
+unfolding on_chunk
+kept_same a header piece trigger =
+    ap kept_apart (data_same (is_new a piece) (is_for_later a piece) a piece trigger triggers.None refl refl)
+
+-- DATA tells of it where it asks to be acknowledged: it is no fault, and its stream is there or can be made, or it is
+-- of a generation that is not read yet.
+
+-- not new, or of a generation that is not read yet, or of a stream that is there or can be made
+abbrev goes_somewhere : Shown → ChunkPayloadData → Bool
+goes_somewhere a piece = not (is_new a piece) || (is_for_later a piece || is_found a piece)
+
+abbrev is_no_fault : Flow → Bool
+is_no_fault f = not (is_some (fault_of f))
+
+-- a flow tells of an exhausted receive buffer where it is no fault and leaves one
+abbrev TellsTruly : Shown × Flow → Type 0
+TellsTruly x = exhausts_of x.1 ≡ (is_no_fault x.1 && is_exhausted x.0)
+
+truly_if : (e : Bool) (a : Shown) (t : AckTrigger) → is_exhausted a ≡ e
+    → TellsTruly (if◌then◌else◌ {A = Shown × Flow} e (a, flows.Exhausted) (a, flows.Next t))
+truly_if true a t e = sym e
+truly_if false a t e = sym e
+
+behind_truly : (y : Shown × Option Error) (immediate : Bool) (trigger : AckTrigger)
+    → TellsTruly (asks_or_faults y immediate trigger)
+behind_truly (b, None) immediate trigger =
+    let c : Shown = settled b in truly_if (is_exhausted c) c (asked c.receiver trigger immediate) refl
+behind_truly (b, Some fault) immediate trigger = refl
+
+found_truly : (a : Shown) (x : Shown × Bool) (piece : ChunkPayloadData) (trigger : AckTrigger) → Found a piece x
+    → exhausts_of (on_new_data x piece trigger).1
+    ≡ (is_found a piece && (is_no_fault (on_new_data x piece trigger).1
+    && is_exhausted (on_new_data x piece trigger).0))
+found_truly a (x, false) piece trigger f = ap (λ (c : Bool). c && is_exhausted x) f.found
+found_truly a (x, true) piece trigger f =
+    let y = on_new_data (x, true) piece trigger in
+    behind_truly (taken_where_admitted x piece) piece.immediate_sack trigger
+    ∙ ap (λ (c : Bool). c && (is_no_fault y.1 && is_exhausted y.0)) f.found
+
+data_truly : (next later : Bool) (a : Shown) (piece : ChunkPayloadData) (trigger : AckTrigger)
+    → is_new a piece ≡ next → is_for_later a piece ≡ later
+    → exhausts_of (on_data a piece trigger).1
+    ≡ ((not next || (later || is_found a piece))
+    && (is_no_fault (on_data a piece trigger).1 && is_exhausted (on_data a piece trigger).0))
+unfolding on_data
+data_truly true true a piece trigger e f =
+    rw (e, f) (behind_truly (deferred_where_admitted (counted_data a) piece) piece.immediate_sack trigger)
+data_truly true false a piece trigger e f =
+    rw (e, f)
+    (found_truly a (stream_found (counted_data a) piece.stream_identifier) piece trigger (stream_is_found a piece))
+data_truly false later a piece trigger e f =
+    rw e (behind_truly (counted_data a, None) piece.immediate_sack trigger)
 
 pub flow_is : (f : Flow) → exhausts_of f ≡ true → f ≡ flows.Exhausted
 flow_is (flows.Next trigger) e = absurd (false≢true e)
 flow_is (flows.Fault error) e = absurd (false≢true e)
 flow_is flows.Exhausted e = refl
 
-asked_found : (next found room : Bool) (o : Option Error) → next ≡ true
-    → (if next then asked_at found room o else true) ≡ true → found ≡ true
-asked_found true true room o n e = refl
-asked_found true false room o n e = absurd (false≢true e)
-asked_found false found room o n e = absurd (false≢true n)
+somewhere_found : (next later found : Bool) → next ≡ true → later ≡ false → (not next || (later || found)) ≡ true
+    → found ≡ true
+somewhere_found true false found n l e = e
+somewhere_found true true found n l e = absurd (true≢false l)
+somewhere_found false later found n l e = absurd (false≢true n)
 
-asked_unrefused : (next found room : Bool) (o : Option Error) → next ≡ true → found ≡ true → room ≡ true
-    → (if next then asked_at found room o else true) ≡ true → o ≡ None
-asked_unrefused true true true None n f r e = refl
-asked_unrefused true true true (Some error) n f r e = absurd (false≢true e)
-asked_unrefused true true false o n f r e = absurd (false≢true r)
-asked_unrefused true false room o n f r e = absurd (false≢true f)
-asked_unrefused false found room o n f r e = absurd (false≢true n)
+found_somewhere : (next later found : Bool) → (next ≡ true → later ≡ false → found ≡ true)
+    → (not next || (later || found)) ≡ true
+found_somewhere true false found f = f refl refl
+found_somewhere true true found f = refl
+found_somewhere false later found f = refl
 
-asked_if : (next found room : Bool) (o : Option Error) → (next ≡ true → found ≡ true)
-    → (next ≡ true → found ≡ true → room ≡ true → o ≡ None)
-    → (if next then asked_at found room o else true) ≡ true
-asked_if false found room o f u = refl
-asked_if true false room o f u = absurd (false≢true (f refl))
-asked_if true true false o f u = refl
-asked_if true true true None f u = refl
-asked_if true true true (Some error) f u = absurd (true≢false (ap is_some (u refl refl refl)))
+no_fault_is : (f : Flow) (o : Option Error) → fault_of f ≡ o → is_no_fault f ≡ true → o ≡ None
+no_fault_is f None e n = refl
+no_fault_is f (Some error) e n = absurd (false≢true (sym (ap (λ (x : Option Error). not (is_some x)) e) ∙ n))
+
+none_is_no_fault : (o : Option Error) (f : Flow) → fault_of f ≡ o → ((error : Error) → fault_of f ≡ Some error → ⊥)
+    → is_no_fault f ≡ true
+none_is_no_fault None f e none = ap (λ (x : Option Error). not (is_some x)) e
+none_is_no_fault (Some error) f e none = absurd (none error e)
 
 module _ (a : Shown) (h : History) (header : CommonHeader) (piece : ChunkPayloadData) (trigger : AckTrigger)
     (binds : Binds a h) where
+  data_leads_on : (k : History) × Leads (acts_of_chunk a header (chunks.Data piece)) a h (on_data a piece trigger).0 k
+  unfolding on_chunk
+  data_leads_on = chunk_leads header (chunks.Data piece) a trigger 0 h binds
+
   pub exhausting_data_leaves_nothing : exhausts_of (on_data a piece trigger).1 ≡ true
       → LeavesNothingToRead a h header piece
   exhausting_data_leaves_nothing e =
+      let b : Shown = (on_data a piece trigger).0 in
+      let flow : Flow = (on_data a piece trigger).1 in
       let both =
-      and_parts (asked_by a piece) (is_exhausted (on_data a piece trigger).0)
-      (sym (data_exhausts (is_new a piece) a piece trigger refl) ∙ e) in
-      let on = next_leads (is_new a piece) a piece trigger h refl binds in
-      let full = exhausted_is_full (on_data a piece trigger).0 on.0 on.1.binds both.1 in
+      and_parts (goes_somewhere a piece) (is_no_fault flow && is_exhausted b)
+      (sym (data_truly (is_new a piece) (is_for_later a piece) a piece trigger refl refl) ∙ e) in
+      let left = and_parts (is_no_fault flow) (is_exhausted b) both.1 in
+      let on = data_leads_on in
+      let full = exhausted_is_full b on.0 on.1.binds left.1 in
       record {
-        stream = λ new. or_cases (is_some (stream_at a.streams piece.stream_identifier)) (generation_left a.streams)
-            (asked_found (is_new a piece) (is_found a piece) (has_room a piece) (refusal_of a piece)
-            (from_new_tsn h a.streams a.receiver piece.tsn binds.peer_last_tsn binds.held new) both.0);
+        stream = λ new now.
+            or_cases (is_some (stream_at a.streams piece.stream_identifier)) (generation_left a.streams)
+            (somewhere_found (is_new a piece) (is_for_later a piece) (is_found a piece)
+            (from_new_tsn h a.streams a.receiver piece.tsn binds.peer_last_tsn binds.held new) now both.0);
         fits = λ may.
-            let p = may_passes a h piece binds may in
-            asked_unrefused (is_new a piece) (is_found a piece) (has_room a piece) (refusal_of a piece)
-            p.new p.found p.room both.0;
+            no_fault_is flow (refusal_of a piece)
+            (refused_data a piece trigger (may_passes a h piece binds may)) left.0;
+        later_fits = λ may.
+            no_fault_is flow (later_refusal_of a piece)
+            (refused_later a piece trigger (may_pass_later a h piece binds may)) left.0;
         full =
-            subst (IsFullForGood a.receiver.buffer_size) on.1.there
-            (subst (λ (n : ℕ). IsFullForGood n (parts (on_data a piece trigger).0 on.0))
-            (data_size (is_new a piece) a piece trigger refl) full);
+            subst (IsFullForGood a.receiver.buffer_size (kept_behind a header (chunks.Data piece))) on.1.there
+            (subst (λ (n : ℕ). IsFullForGood a.receiver.buffer_size n (parts b on.0))
+            (kept_same a header piece trigger)
+            (subst (λ (n : ℕ). IsFullForGood n (kept_apart b) (parts b on.0))
+            (data_size (is_new a piece) (is_for_later a piece) a piece trigger refl refl) full));
       }
+
+  unrefused : LeavesNothingToRead a h header piece → (error : Error)
+      → fault_of (on_data a piece trigger).1 ≡ Some error → ⊥
+  unrefused c error e = ⊎_elim
+      (λ (r : PassesTests a piece × (refusal_of a piece ≡ Some error)).
+      false≢true (ap is_some (sym (c.fits (passes_may a h piece binds r.0)) ∙ r.1)))
+      (λ (r : PassesLater a piece × (later_refusal_of a piece ≡ Some error)).
+      false≢true (ap is_some (sym (c.later_fits (passes_may_later a h piece binds r.0)) ∙ r.1)))
+      (data_passed a piece trigger error e)
 
   pub nothing_left_exhausts : LeavesNothingToRead a h header piece → exhausts_of (on_data a piece trigger).1 ≡ true
   nothing_left_exhausts c =
-      let on = next_leads (is_new a piece) a piece trigger h refl binds in
-      let full : IsFullForGood (on_data a piece trigger).0.receiver.buffer_size
-      (parts (on_data a piece trigger).0 on.0) =
-      subst (λ (n : ℕ). IsFullForGood n (parts (on_data a piece trigger).0 on.0))
-      (sym (data_size (is_new a piece) a piece trigger refl))
-      (subst (IsFullForGood a.receiver.buffer_size) (sym on.1.there) c.full) in
-      let asked : asked_by a piece ≡ true =
-      asked_if (is_new a piece) (is_found a piece) (has_room a piece) (refusal_of a piece)
-      (λ (n : is_new a piece ≡ true).
+      let b : Shown = (on_data a piece trigger).0 in
+      let flow : Flow = (on_data a piece trigger).1 in
+      let on = data_leads_on in
+      let full : IsFullForGood b.receiver.buffer_size (kept_apart b) (parts b on.0) =
+      subst (λ (n : ℕ). IsFullForGood n (kept_apart b) (parts b on.0))
+      (sym (data_size (is_new a piece) (is_for_later a piece) a piece trigger refl refl))
+      (subst (λ (n : ℕ). IsFullForGood a.receiver.buffer_size n (parts b on.0))
+      (sym (kept_same a header piece trigger))
+      (subst (IsFullForGood a.receiver.buffer_size (kept_behind a header (chunks.Data piece))) (sym on.1.there)
+      c.full)) in
+      let somewhere : goes_somewhere a piece ≡ true =
+      found_somewhere (is_new a piece) (is_for_later a piece) (is_found a piece)
+      (λ (n : is_new a piece ≡ true) (l : is_for_later a piece ≡ false).
       ⊎_elim
       (λ there. or_left (is_some (stream_at a.streams piece.stream_identifier)) (generation_left a.streams) there)
       (λ left. or_right (is_some (stream_at a.streams piece.stream_identifier)) (generation_left a.streams) left)
-      (c.stream (new_tsn h a.streams a.receiver piece.tsn binds.peer_last_tsn binds.held n)))
-      (λ n f r. c.fits (passes_may a h piece binds (record { new = n; found = f; room = r }))) in
-      data_exhausts (is_new a piece) a piece trigger refl
-      ∙ and_from (asked_by a piece) (is_exhausted (on_data a piece trigger).0) asked
-      (full_is_exhausted (on_data a piece trigger).0 on.0 on.1.binds full)
+      (c.stream (new_tsn h a.streams a.receiver piece.tsn binds.peer_last_tsn binds.held n) l)) in
+      data_truly (is_new a piece) (is_for_later a piece) a piece trigger refl refl
+      ∙ and_from (goes_somewhere a piece) (is_no_fault flow && is_exhausted b) somewhere
+      (and_from (is_no_fault flow) (is_exhausted b) (none_is_no_fault (fault_of flow) flow refl (unrefused c))
+      (full_is_exhausted b on.0 on.1.binds full))

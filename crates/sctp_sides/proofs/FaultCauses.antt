@@ -38,8 +38,16 @@ use Rattle.sctp_assoc.specs.Chunks.{checked_first, dispatched, on_chunk, on_coun
 use Rattle.sctp_assoc.specs.Handshake.{echoed, on_cookie_ack, on_cookie_echo, on_heartbeat, on_init, on_init_ack}
 use Rattle.sctp_assoc.specs.Shown.{Shown}
 use Rattle.sctp_sides.proofs.ActsOfChunks.{acked_at, acked_back}
-use Rattle.sctp_sides.proofs.DataIntake.{data_passed, fault_from, fault_of, may_passes, passes_may, refused_data}
-use Rattle.sctp_sides.proofs.DataIntake.{exhausts_of}
+use Rattle.sctp_sides.proofs.DataIntake.{PassesLater, PassesTests, data_passed, exhausts_of, fault_from, fault_of}
+use Rattle.sctp_sides.proofs.DataIntake.{may_pass_later, may_passes, passes_may, passes_may_later, refused_data}
+use Rattle.sctp_sides.proofs.DataIntake.{refused_later}
+use Rattle.sctp_sides.specs.Intake.{later_refusal_of, refusal_of}
+use Rattle.sctp_wire_types.specs.declared.chunk.ChunkReconfig.{ChunkReconfig}
+use Rattle.sctp_wire_types.specs.declared.param.Param.{Param}
+use Rattle.sctp_wire_types.specs.declared.param.Param.TheVariants as params
+use Rattle.sctp_assoc.specs.declared.inbound.Flow.{Flow}
+use Rattle.sctp_assoc.specs.Resets.{after_param, behind_first, behind_params, on_reconfig}
+use Rattle.sctp_sides.specs.Causes.{FitsNoLaterMessage, HasOtherParameter, is_of_reset, is_second_of_reset}
 use Rattle.sctp_sides.proofs.ExhaustedBuffers.{exhausting_data_leaves_nothing, flow_is, nothing_left_exhausts}
 use Rattle.sctp_sides.specs.Causes.{LeavesNothingToRead}
 use Rattle.sctp_assoc.specs.Skipping.{on_forward, skips_of}
@@ -92,10 +100,13 @@ never o error n e = false≢true (ap is_some (sym n ∙ e))
 -- DATA
 
 data_cause : (a : Shown) (h : History) (piece : ChunkPayloadData) (trigger : AckTrigger) (error : Error) → Binds a h
-    → fault_of (on_data a piece trigger).1 ≡ Some error → FitsNoMessage a h piece
-data_cause a h piece trigger error binds e =
-    let p = data_passed a piece trigger error e in
-    record { may = passes_may a h piece binds p.0; error = error; refused = p.1 }
+    → fault_of (on_data a piece trigger).1 ≡ Some error → FitsNoMessage a h piece ⊎ FitsNoLaterMessage a h piece
+data_cause a h piece trigger error binds e = ⊎_elim
+    (λ (p : PassesTests a piece × (refusal_of a piece ≡ Some error)).
+    inl (record { may = passes_may a h piece binds p.0; error = error; refused = p.1 }))
+    (λ (p : PassesLater a piece × (later_refusal_of a piece ≡ Some error)).
+    inr (record { may = passes_may_later a h piece binds p.0; error = error; refused = p.1 }))
+    (data_passed a piece trigger error e)
 
 cause_data : (a : Shown) (h : History) (piece : ChunkPayloadData) (trigger : AckTrigger) → Binds a h
     → FitsNoMessage a h piece → IsFault (on_data a piece trigger)
@@ -103,6 +114,78 @@ cause_data a h piece trigger binds c = inl (
   c.error,
   fault_from (on_data a piece trigger).1 c.error
       (refused_data a piece trigger (may_passes a h piece binds c.may) ∙ c.refused),
+)
+
+cause_later : (a : Shown) (h : History) (piece : ChunkPayloadData) (trigger : AckTrigger) → Binds a h
+    → FitsNoLaterMessage a h piece → IsFault (on_data a piece trigger)
+cause_later a h piece trigger binds c = inl (
+  c.error,
+  fault_from (on_data a piece trigger).1 c.error
+      (refused_later a piece trigger (may_pass_later a h piece binds c.may) ∙ c.refused),
+)
+
+first_two : {A B C : Type 0} → A ⊎ B → A ⊎ (B ⊎ C)
+first_two (inl x) = inl x
+first_two (inr y) = inr (inl y)
+
+-- RE-CONFIG
+
+abbrev reconfig_fault : Bool → Bool → Option Error
+reconfig_fault first second =
+    if first then (if second then None else Some errors.ErrParameterType) else Some errors.ErrParameterType
+
+param_is : (param : Param) (a : Shown) → (after_param param a).1 ≡ is_of_reset param
+param_is (params.OutgoingResetRequest request) a = refl
+param_is (params.ReconfigResponse response) a = refl
+param_is param a = refl
+
+-- it is a fault so, and tells of no exhausted receive buffer
+abbrev IsFaultBy : Flow → Option Error → Type 0
+IsFaultBy f o = (fault_of f ≡ o) × (exhausts_of f ≡ false)
+
+params_flow : (x : Shown × Bool) (trigger : AckTrigger)
+    → IsFaultBy (behind_params x trigger).1 (reconfig_fault true x.1)
+params_flow (b, true) trigger = (refl, refl)
+params_flow (b, false) trigger = (refl, refl)
+
+first_flow : (x : Shown × Bool) (second : Option Param) (trigger : AckTrigger)
+    → IsFaultBy (behind_first x second trigger).1 (reconfig_fault x.1 (is_second_of_reset second))
+first_flow (b, true) None trigger = (refl, refl)
+first_flow (b, true) (Some param) trigger =
+    let p = params_flow (after_param param b) trigger in
+    (p.0 ∙ ap (reconfig_fault true) (param_is param b), p.1)
+first_flow (b, false) second trigger = (refl, refl)
+
+pub reconfig_flow : (a : Shown) (x : ChunkReconfig) (trigger : AckTrigger)
+    → IsFaultBy (on_reconfig a x trigger).1 (reconfig_fault (is_of_reset x.first) (is_second_of_reset x.second))
+unfolding on_reconfig
+reconfig_flow a x trigger =
+    let p = first_flow (after_param x.first a) x.second trigger in
+    (p.0 ∙ ap (λ (c : Bool). reconfig_fault c (is_second_of_reset x.second)) (param_is x.first a), p.1)
+
+other_if : (first second : Bool) (error : Error) → reconfig_fault first second ≡ Some error
+    → (first ≡ false) ⊎ (second ≡ false)
+other_if true true error e = absurd (never None error refl e)
+other_if true false error e = inr refl
+other_if false second error e = inl refl
+
+other_faults : (first second : Bool) → (first ≡ false) ⊎ (second ≡ false)
+    → reconfig_fault first second ≡ Some errors.ErrParameterType
+other_faults first second (inl e) = rw e refl
+other_faults true second (inr e) = rw e refl
+other_faults false second (inr e) = refl
+
+reconfig_cause : (a : Shown) (x : ChunkReconfig) (trigger : AckTrigger) (error : Error)
+    → fault_of (on_reconfig a x trigger).1 ≡ Some error → HasOtherParameter x
+reconfig_cause a x trigger error e =
+    other_if (is_of_reset x.first) (is_second_of_reset x.second) error (sym (reconfig_flow a x trigger).0 ∙ e)
+
+cause_reconfig : (a : Shown) (x : ChunkReconfig) (trigger : AckTrigger) → HasOtherParameter x
+    → IsFault (on_reconfig a x trigger)
+cause_reconfig a x trigger c = inl (
+  errors.ErrParameterType,
+  fault_from (on_reconfig a x trigger).1 errors.ErrParameterType
+      ((reconfig_flow a x trigger).0 ∙ other_faults (is_of_reset x.first) (is_second_of_reset x.second) c),
 )
 
 -- SACK
@@ -466,8 +549,9 @@ heartbeat_spares a heartbeat trigger = refl
 -- DATA and FORWARD TSN that do leave nothing to read
 pub kind_exhausts : (header : CommonHeader) (c : Chunk) (a : Shown) (h : History) (trigger : AckTrigger) (now : ℕ)
     → Binds a h → exhausts_of (dispatched a header c trigger now).1 ≡ true → IsCauseOfItsKind a h header c
+unfolding on_chunk
 kind_exhausts header (chunks.Data piece) a h trigger now binds e =
-    inr (exhausting_data_leaves_nothing a h header piece trigger binds e)
+    inr (inr (exhausting_data_leaves_nothing a h header piece trigger binds e))
 kind_exhausts header (chunks.SelectiveAck sack) a h trigger now binds e =
     absurd (false≢true (sym (sack_spares _ a sack.cumulative_tsn_ack sack.gap_ack_blocks
     sack.advertised_receiver_window_credit trigger now refl) ∙ e))
@@ -482,11 +566,13 @@ kind_exhausts header chunks.CookieAck a h trigger now binds e =
 kind_exhausts header (chunks.Heartbeat x) a h trigger now binds e =
     absurd (false≢true (sym (heartbeat_spares a x trigger) ∙ e))
 kind_exhausts header (chunks.ForwardTsn x) a h trigger now binds e =
-    exhausting_forwards_leave_nothing a h header (chunks.ForwardTsn x) x.new_cumulative_tsn x.streams trigger now refl
-    binds e
+    exhausting_forwards_leave_nothing a h header (chunks.ForwardTsn x) x.new_cumulative_tsn x.streams trigger now
+    (λ asked at. refl) binds e
 kind_exhausts header (chunks.IForwardTsn x) a h trigger now binds e =
     exhausting_forwards_leave_nothing a h header (chunks.IForwardTsn x) x.new_cumulative_tsn (skips_of x.entries)
-    trigger now refl binds e
+    trigger now (λ asked at. refl) binds e
+kind_exhausts header (chunks.Reconfig x) a h trigger now binds e =
+    absurd (false≢true (sym (reconfig_flow a x trigger).1 ∙ e))
 kind_exhausts header c a h trigger now binds e = tt
 
 nothing_to_read_exhausts : (a : Shown) (h : History) (header : CommonHeader) (piece : ChunkPayloadData)
@@ -500,7 +586,9 @@ kind_cause : (header : CommonHeader) (c : Chunk) (a : Shown) (h : History) (trig
     (error : Error)
     → Binds a h
     → fault_of (dispatched a header c trigger now).1 ≡ Some error → IsCauseOfItsKind a h header c
-kind_cause header (chunks.Data piece) a h trigger now error binds e = inl (data_cause a h piece trigger error binds e)
+unfolding on_chunk
+kind_cause header (chunks.Data piece) a h trigger now error binds e =
+    first_two (data_cause a h piece trigger error binds e)
 kind_cause header (chunks.SelectiveAck sack) a h trigger now error binds e =
     sack_cause a h sack sack.advertised_receiver_window_credit trigger now error binds e
 kind_cause header (chunks.Init x) a h trigger now error binds e =
@@ -517,13 +605,16 @@ kind_cause header (chunks.ForwardTsn x) a h trigger now error binds e =
     absurd (never _ error (forward_flow a x.new_cumulative_tsn x.streams trigger now) e)
 kind_cause header (chunks.IForwardTsn x) a h trigger now error binds e =
     absurd (never _ error (forward_flow a x.new_cumulative_tsn (skips_of x.entries) trigger now) e)
+kind_cause header (chunks.Reconfig x) a h trigger now error binds e = reconfig_cause a x trigger error e
 kind_cause header c a h trigger now error binds e = tt
 
 cause_kind : (header : CommonHeader) (c : Chunk) (a : Shown) (h : History) (trigger : AckTrigger) (now : ℕ) → Binds a h
     → IsCauseOfItsKind a h header c
     → IsFault (dispatched a header c trigger now)
+unfolding on_chunk
 cause_kind header (chunks.Data piece) a h trigger now binds cause =
-    ⊎_elim (cause_data a h piece trigger binds) (nothing_to_read_exhausts a h header piece trigger binds) cause
+    ⊎_elim (cause_data a h piece trigger binds)
+    (⊎_elim (cause_later a h piece trigger binds) (nothing_to_read_exhausts a h header piece trigger binds)) cause
 cause_kind header (chunks.SelectiveAck sack) a h trigger now binds cause =
     cause_sack a h sack sack.advertised_receiver_window_credit trigger now binds cause
 cause_kind header (chunks.Init x) a h trigger now binds cause = inl (
@@ -537,12 +628,13 @@ cause_kind header chunks.CookieAck a h trigger now binds cause = absurd cause
 cause_kind header (chunks.Heartbeat x) a h trigger now binds cause = absurd cause
 cause_kind header (chunks.ForwardTsn x) a h trigger now binds cause =
     inr (flow_is (on_forward a x.new_cumulative_tsn x.streams trigger now).1
-    (passing_to_nothing_exhausts a h header (chunks.ForwardTsn x) x.new_cumulative_tsn x.streams trigger now refl
-    binds cause))
+    (passing_to_nothing_exhausts a h header (chunks.ForwardTsn x) x.new_cumulative_tsn x.streams trigger now
+    (λ asked at. refl) binds cause))
 cause_kind header (chunks.IForwardTsn x) a h trigger now binds cause =
     inr (flow_is (on_forward a x.new_cumulative_tsn (skips_of x.entries) trigger now).1
     (passing_to_nothing_exhausts a h header (chunks.IForwardTsn x) x.new_cumulative_tsn (skips_of x.entries) trigger now
-    refl binds cause))
+    (λ asked at. refl) binds cause))
+cause_kind header (chunks.Reconfig x) a h trigger now binds cause = cause_reconfig a x trigger cause
 cause_kind header (chunks.Abort x) a h trigger now binds cause = inl (errors.ErrAbortChunk, refl)
 cause_kind header (chunks.Error x) a h trigger now binds cause = inl (errors.ErrAbortChunk, refl)
 cause_kind header c a h trigger now binds cause = inl (errors.ErrChunkTypeUnhandled, refl)

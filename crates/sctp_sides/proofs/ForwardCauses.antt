@@ -1,7 +1,7 @@
 -- A FORWARD TSN is no fault, and closes exactly where it is in use, lies ahead and leaves nothing to read.
 use Rattle.std.proofs.Common.{◌≡◌, refl, sym, ap, ◌∙◌, subst, ◌⊎◌, ⊎_elim, inl, inr, ℕ, ◌+◌, ◌-◌, ◌%◌, ◌^◌, ◌<◌, ◌≤◌}
 use Rattle.std.proofs.Common.{◌==◌, ◌&&◌}
-use Rattle.std.proofs.Common.{◌||◌, arith, Bool, true, false, nat_lt, not, if◌then◌else◌, List, None}
+use Rattle.std.proofs.Common.{◌||◌, arith, Bool, true, false, nat_lt, not, if◌then◌else◌, List, [], ◌∷◌, None}
 use Rattle.std.proofs.lemmas.Bool.{and_from, and_parts, cases_Bool, eqb-true, le-ltb, lt-ltb}
 use Rattle.sctp_serial.specs.Serial.{tsn, tsn_lte, tsn_past}
 use Rattle.sctp_wire_types.specs.declared.chunk.Chunk.{Chunk}
@@ -10,20 +10,25 @@ use Rattle.sctp_wire_types.specs.declared.packet.CommonHeader.{CommonHeader}
 use Rattle.sctp_inbound.specs.declared.receiver.AckTrigger.{AckTrigger}
 use Rattle.sctp_inbound.specs.Receiver.{asked, is_behind}
 use Rattle.sctp_fit.specs.Incoming.{tsn_before}
-use Rattle.sctp_directions.specs.Acts.{History, IsAhead, done_all, reach_in}
+use Rattle.sctp_directions.specs.Acts.{History, IsAhead, reach_in}
 use Rattle.sctp_assoc.specs.declared.inbound.Flow.{Flow}
 use Rattle.sctp_assoc.specs.declared.inbound.Flow.TheVariants as flows
 use Rattle.sctp_assoc.specs.Closing.{is_exhausted}
-use Rattle.sctp_assoc.specs.Happened.{acts_of_chunk, acts_of_forward}
-use Rattle.sctp_assoc.specs.Leads.{Binds, parts}
+use Rattle.sctp_assoc.specs.Happened.{acts_of_chunk}
+use Rattle.sctp_assoc.specs.Leads.{Binds, Leads, parts}
 use Rattle.sctp_assoc.specs.Shown.{Shown, uses_forward_tsn}
-use Rattle.sctp_assoc.specs.Skipping.{acknowledged_at_once, asks_behind, is_ahead, on_forward, refused, with_passed}
-use Rattle.sctp_assoc.specs.Skipping.{with_skips}
+use Rattle.sctp_assoc.specs.Skipping.{acknowledged_at_once, asks_behind, is_ahead, on_forward, refused}
+use Rattle.sctp_assoc.specs.Skipping.{with_passed, with_skip, with_skips}
+use Rattle.sctp_assoc.specs.Chunks.{on_chunk}
+use Rattle.sctp_assoc.specs.Resets.{settled}
+use Rattle.sctp_resets.specs.Resets.{is_retiring}
+use Rattle.sctp_inbound.specs.declared.receiver.Receiver.{Receiver}
+use Rattle.sctp_inbound.specs.declared.receiver.AckTrigger.TheVariants as triggers
 use Rattle.sctp_assoc.proofs.ForwardCame.{lies_ahead}
-use Rattle.sctp_assoc.proofs.PassesOver.{forward_leads, skips_are}
-use Rattle.sctp_sides.specs.Causes.{IsFullForGood, PassesToNothingToRead}
+use Rattle.sctp_assoc.proofs.CallsLeadOn.{chunk_leads}
+use Rattle.sctp_sides.specs.Causes.{IsFullForGood, PassesToNothingToRead, kept_apart, kept_behind}
 use Rattle.sctp_sides.proofs.DataIntake.{exhausts_of, fault_of}
-use Rattle.sctp_sides.proofs.ExhaustedBuffers.{exhausted_is_full, full_is_exhausted}
+use Rattle.sctp_sides.proofs.ExhaustedBuffers.{exhausted_is_full, full_is_exhausted, settled_receiver}
 use Rattle.sctp_sides.proofs.ForwardKinds.{forward_is_one_of}
 
 -- It is no fault.
@@ -37,7 +42,7 @@ pub forward_flow : (a : Shown) (t : ℕ) (es : List SkippedStream) (trigger : Ac
     → fault_of (on_forward a t es trigger now).1 ≡ None
 forward_flow a t es trigger now =
     forward_is_one_of t es (λ b x. fault_of x.1 ≡ None) trigger now (λ b e. refl) (λ b e f. refl)
-    (λ b e f. let c : Shown = with_passed (with_skips es b) t in
+    (λ b e f. let c : Shown = settled (with_passed (with_skips t es b) t) in
     asks_without_fault (is_exhausted c) c (asked c.receiver trigger false))
     a
 
@@ -65,7 +70,7 @@ forward_exhausts a t es trigger now =
     trigger now
     (λ b e. sym (none_and (uses_forward_tsn b) (is_ahead b t) (is_exhausted (refused b trigger).0) (inl e)))
     (λ b e f. sym (none_and (uses_forward_tsn b) (is_ahead b t) (is_exhausted (acknowledged_at_once b now)) (inr f)))
-    (λ b e f. let c : Shown = with_passed (with_skips es b) t in
+    (λ b e f. let c : Shown = settled (with_passed (with_skips t es b) t) in
     both_and (uses_forward_tsn b) (is_ahead b t) (exhausts_of (asks_behind c trigger).1)
     (is_exhausted (asks_behind c trigger).0) e f
     (asks_exhausts (is_exhausted c) c (asked c.receiver trigger false) refl))
@@ -79,15 +84,66 @@ asks_size : (e : Bool) (b : Shown) (f : AckTrigger)
 asks_size true b f = refl
 asks_size false b f = refl
 
+skip_receiver : (c : Bool) (t id ssn : ℕ) (a : Shown) → is_retiring a.resets id ≡ c
+    → (with_skip t id ssn a).receiver ≡ a.receiver
+unfolding with_skip
+skip_receiver true t id ssn a e = rw e refl
+skip_receiver false t id ssn a e = rw e refl
+
+skips_receiver : (t : ℕ) (es : List SkippedStream) (a : Shown) → (with_skips t es a).receiver ≡ a.receiver
+skips_receiver t [] a = refl
+skips_receiver t (e ∷ es) a =
+    skips_receiver t es (with_skip t e.stream_identifier e.stream_sequence_number a)
+    ∙ skip_receiver _ t e.stream_identifier e.stream_sequence_number a refl
+
 forward_size : (a : Shown) (t : ℕ) (es : List SkippedStream) (trigger : AckTrigger) (now : ℕ)
     → (on_forward a t es trigger now).0.receiver.buffer_size ≡ a.receiver.buffer_size
 forward_size a t es trigger now =
     forward_is_one_of t es (λ b x. x.0.receiver.buffer_size ≡ b.receiver.buffer_size) trigger now
     (λ b e. refl) (λ b e f. refl)
-    (λ b e f. let c : Shown = with_passed (with_skips es b) t in
+    (λ b e f. let c : Shown = settled (with_passed (with_skips t es b) t) in
     asks_size (is_exhausted c) c (asked c.receiver trigger false)
-    ∙ ap (λ (z : Shown). z.receiver.buffer_size) (skips_are es b))
+    ∙ ap (λ (r : Receiver). r.buffer_size) (settled_receiver (with_passed (with_skips t es b) t))
+    ∙ ap (λ (r : Receiver). r.buffer_size) (skips_receiver t es b))
     a
+
+-- What is kept apart behind it is the same whatever asked before, and whenever it comes.
+
+asks_kept : (e : Bool) (b : Shown) (f : AckTrigger)
+    → kept_apart (if◌then◌else◌ {A = Shown × Flow} e (b, flows.Exhausted) (b, flows.Next f)).0 ≡ kept_apart b
+asks_kept true b f = refl
+asks_kept false b f = refl
+
+-- what is kept apart behind a FORWARD TSN: what settling left where that is in use and lies ahead, else what was
+abbrev kept_left : ℕ → List SkippedStream → Shown → ℕ
+kept_left t es b =
+    if uses_forward_tsn b && is_ahead b t then kept_apart (settled (with_passed (with_skips t es b) t)) else
+    kept_apart b
+
+kept_none : (c d : Bool) (x y : ℕ) → (c ≡ false) ⊎ (d ≡ false) → y ≡ (if c && d then x else y)
+kept_none c d x y (inl e) = rw e refl
+kept_none true d x y (inr e) = rw e refl
+kept_none false d x y (inr e) = refl
+
+kept_some : (c d : Bool) (x y z : ℕ) → c ≡ true → d ≡ true → z ≡ x → z ≡ (if c && d then x else y)
+kept_some c d x y z e f g = rw (e, f) g
+
+forward_keeps : (a : Shown) (t : ℕ) (es : List SkippedStream) (trigger : AckTrigger) (now : ℕ)
+    → kept_apart (on_forward a t es trigger now).0 ≡ kept_left t es a
+forward_keeps a t es trigger now =
+    forward_is_one_of t es (λ b x. kept_apart x.0 ≡ kept_left t es b) trigger now
+    (λ b e. kept_none (uses_forward_tsn b) (is_ahead b t)
+    (kept_apart (settled (with_passed (with_skips t es b) t))) (kept_apart b) (inl e))
+    (λ b e f. kept_none (uses_forward_tsn b) (is_ahead b t)
+    (kept_apart (settled (with_passed (with_skips t es b) t))) (kept_apart b) (inr f))
+    (λ b e f. let c : Shown = settled (with_passed (with_skips t es b) t) in
+    kept_some (uses_forward_tsn b) (is_ahead b t) (kept_apart c) (kept_apart b) (kept_apart (asks_behind c trigger).0)
+    e f (asks_kept (is_exhausted c) c (asked c.receiver trigger false)))
+    a
+
+forward_kept : (a : Shown) (t : ℕ) (es : List SkippedStream) (trigger : AckTrigger) (now : ℕ)
+    → kept_apart (on_forward a t es trigger now).0 ≡ kept_apart (on_forward a t es triggers.None 0).0
+forward_kept a t es trigger now = forward_keeps a t es trigger now ∙ sym (forward_keeps a t es triggers.None 0)
 
 -- A TSN that lies ahead is not behind.
 
@@ -131,8 +187,18 @@ is_ahead_from a h t binds ahead =
 -- Both ways.
 
 module _ (a : Shown) (h : History) (header : CommonHeader) (chunk : Chunk) (t : ℕ) (es : List SkippedStream)
-    (trigger : AckTrigger) (now : ℕ) (acts : acts_of_chunk a header chunk ≡ acts_of_forward a t es)
+    (trigger : AckTrigger) (now : ℕ)
+    (is_forward : (asked : AckTrigger) (at : ℕ) → on_chunk a header chunk asked at ≡ on_forward a t es asked at)
     (binds : Binds a h) where
+  forward_leads_on : (k : History) × Leads (acts_of_chunk a header chunk) a h (on_forward a t es trigger now).0 k
+  forward_leads_on =
+      subst (λ (x : Shown × Flow). (k : History) × Leads (acts_of_chunk a header chunk) a h x.0 k)
+      (is_forward trigger now) (chunk_leads header chunk a trigger now h binds)
+
+  kept : kept_apart (on_forward a t es trigger now).0 ≡ kept_behind a header chunk
+  kept =
+      forward_kept a t es trigger now ∙ sym (ap (λ (x : Shown × Flow). kept_apart x.0) (is_forward triggers.None 0))
+
   pub exhausting_forwards_leave_nothing : exhausts_of (on_forward a t es trigger now).1 ≡ true
       → PassesToNothingToRead a h header chunk t
   exhausting_forwards_leave_nothing e =
@@ -141,7 +207,7 @@ module _ (a : Shown) (h : History) (header : CommonHeader) (chunk : Chunk) (t : 
       and_parts (uses_forward_tsn a && is_ahead a t) (is_exhausted b)
       (sym (forward_exhausts a t es trigger now) ∙ e) in
       let where_it_is = and_parts (uses_forward_tsn a) (is_ahead a t) both.0 in
-      let on = forward_leads a t es trigger now h binds in
+      let on = forward_leads_on in
       let full = exhausted_is_full b on.0 on.1.binds both.1 in
       record {
         could = record {
@@ -149,20 +215,21 @@ module _ (a : Shown) (h : History) (header : CommonHeader) (chunk : Chunk) (t : 
           ahead = lies_ahead h a.streams a.receiver t binds.peer_last_tsn binds.held where_it_is.1;
         };
         full =
-            subst (λ zs. IsFullForGood a.receiver.buffer_size (done_all zs (parts a h))) (sym acts)
-            (subst (IsFullForGood a.receiver.buffer_size) on.1.there
-            (subst (λ (n : ℕ). IsFullForGood n (parts b on.0)) (forward_size a t es trigger now) full));
+            subst (IsFullForGood a.receiver.buffer_size (kept_behind a header chunk)) on.1.there
+            (subst (λ (n : ℕ). IsFullForGood a.receiver.buffer_size n (parts b on.0)) kept
+            (subst (λ (n : ℕ). IsFullForGood n (kept_apart b) (parts b on.0)) (forward_size a t es trigger now)
+            full));
       }
 
   pub passing_to_nothing_exhausts : PassesToNothingToRead a h header chunk t
       → exhausts_of (on_forward a t es trigger now).1 ≡ true
   passing_to_nothing_exhausts c =
       let b : Shown = (on_forward a t es trigger now).0 in
-      let on = forward_leads a t es trigger now h binds in
-      let full : IsFullForGood b.receiver.buffer_size (parts b on.0) =
-      subst (λ (n : ℕ). IsFullForGood n (parts b on.0)) (sym (forward_size a t es trigger now))
-      (subst (IsFullForGood a.receiver.buffer_size) (sym on.1.there)
-      (subst (λ zs. IsFullForGood a.receiver.buffer_size (done_all zs (parts a h))) acts c.full)) in
+      let on = forward_leads_on in
+      let full : IsFullForGood b.receiver.buffer_size (kept_apart b) (parts b on.0) =
+      subst (λ (n : ℕ). IsFullForGood n (kept_apart b) (parts b on.0)) (sym (forward_size a t es trigger now))
+      (subst (λ (n : ℕ). IsFullForGood a.receiver.buffer_size n (parts b on.0)) (sym kept)
+      (subst (IsFullForGood a.receiver.buffer_size (kept_behind a header chunk)) (sym on.1.there) c.full)) in
       forward_exhausts a t es trigger now
       ∙ and_from (uses_forward_tsn a && is_ahead a t) (is_exhausted b)
       (and_from (uses_forward_tsn a) (is_ahead a t) c.could.used (is_ahead_from a h t binds c.could.ahead))

@@ -1,11 +1,13 @@
 -- What a FORWARD TSN that comes is: one that isn't in use, one that isn't ahead, or one that passes over what it says.
-use Rattle.std.proofs.Common.{◌≡◌, refl, ℕ, Bool, true, false, List, [], ◌∷◌}
+use Rattle.std.proofs.Common.{◌≡◌, refl, ℕ, Bool, true, false, List, [], ◌∷◌, ◌++◌}
 use Rattle.sctp_wire_types.specs.declared.chunk.SkippedStream.{SkippedStream}
 use Rattle.sctp_inbound.specs.declared.receiver.AckTrigger.{AckTrigger}
 use Rattle.sctp_directions.specs.Acts.{Act}
 use Rattle.sctp_assoc.specs.declared.inbound.Flow.{Flow}
 use Rattle.sctp_assoc.specs.declared.inbound.Flow.TheVariants as flows
 use Rattle.sctp_assoc.specs.Happened.{acts_of_forward}
+use Rattle.sctp_assoc.specs.ResetActs.{acts_of_keeping, acts_of_settling}
+use Rattle.sctp_assoc.specs.Resets.{settled}
 use Rattle.sctp_assoc.specs.Shown.{Shown, uses_forward_tsn}
 use Rattle.sctp_assoc.specs.Skipping.{acknowledged_at_once, asks_behind, is_ahead, on_forward, refused, with_passed}
 use Rattle.sctp_assoc.specs.Skipping.{with_skips}
@@ -20,7 +22,7 @@ module _ (tsn : ℕ) (es : List SkippedStream) where
       (behind : (a : Shown) → uses_forward_tsn a ≡ true → is_ahead a tsn ≡ false
       → P a (acknowledged_at_once a now, flows.Next trigger))
       (ahead : (a : Shown) → uses_forward_tsn a ≡ true → is_ahead a tsn ≡ true
-      → P a (asks_behind (with_passed (with_skips es a) tsn) trigger)) where
+      → P a (asks_behind (settled (with_passed (with_skips tsn es a) tsn)) trigger)) where
     by_use : (c d : Bool) (a : Shown) → is_ahead a tsn ≡ d
         → P (with_use c a) (on_forward (with_use c a) tsn es trigger now)
     unfolding on_forward
@@ -35,7 +37,8 @@ module _ (tsn : ℕ) (es : List SkippedStream) where
       (unused : (a : Shown) → uses_forward_tsn a ≡ false → P a [])
       (behind : (a : Shown) → uses_forward_tsn a ≡ true → is_ahead a tsn ≡ false → P a [])
       (ahead : (a : Shown) → uses_forward_tsn a ≡ true → is_ahead a tsn ≡ true
-      → P a (Act.PassedOver tsn es ∷ [])) where
+      → P a (Act.PassedOver tsn es ∷ (acts_of_keeping tsn es a
+      ++ acts_of_settling (with_passed (with_skips tsn es a) tsn)))) where
     acts_by_use : (c d : Bool) (a : Shown) → is_ahead a tsn ≡ d
         → P (with_use c a) (acts_of_forward (with_use c a) tsn es)
     acts_by_use false d a e = unused (with_use false a) refl

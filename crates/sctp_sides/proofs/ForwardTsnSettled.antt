@@ -1,5 +1,6 @@
 -- Once an association was established, whether FORWARD TSN is in use changes no more.
 use Rattle.std.proofs.Common.{◌≡◌, refl, sym, ap, ◌∙◌, subst, ◌⊎◌, ⊎_elim, inl, inr, ℕ, Bool, true, false}
+use Rattle.std.proofs.Common.{if◌then◌else◌}
 use Rattle.std.proofs.Common.{List, [], ◌∷◌, Option, Some, None, Result, Ok, Err}
 use Rattle.std.proofs.lemmas.Bool.{cond-false, false≢true}
 use Rattle.std.specs.Prelude.{⊤}
@@ -20,19 +21,25 @@ use Rattle.sctp_inbound.specs.declared.receiver.AckTrigger.{AckTrigger}
 use Rattle.sctp_inbound.specs.declared.receiver.AckTrigger.TheVariants as triggers
 use Rattle.sctp_inbound.specs.Greeting.{information_of}
 use Rattle.sctp_inbound.specs.Handshake.{has_issued}
-use Rattle.sctp_assoc.specs.Calls.{event_polled, is_established, read_exhausts, read_from_stream}
+use Rattle.sctp_receive_queues.specs.Messages.{ReceivedMessage}
+use Rattle.sctp_streams.specs.Streams.{StreamMap, read_in}
+use Rattle.sctp_assoc.specs.Calls.{after_read, drained_behind, event_polled, is_established}
 use Rattle.sctp_assoc.specs.Chunks.{after_chunks, after_packet, after_packet_of, checked_first, dispatched, ended}
 use Rattle.sctp_assoc.specs.Chunks.{on_chunk}
-use Rattle.sctp_assoc.specs.Closing.{closed_by, exhausted, is_closed_state}
+use Rattle.sctp_assoc.specs.Closing.{closed_by, exhausted, is_closed_state, is_exhausted}
 use Rattle.sctp_assoc.specs.Handshake.{information_returned, on_cookie_ack, on_cookie_echo, on_heartbeat, on_init}
 use Rattle.sctp_assoc.specs.Handshake.{on_init_ack}
 use Rattle.sctp_assoc.specs.Shown.{Shown, uses_forward_tsn}
 use Rattle.sctp_sides.specs.OneSide.{Call, carried_out, with_told}
-use Rattle.sctp_sides.specs.SideLaws.{Closes, Exhausts, IsSameStatus, with_read}
+use Rattle.sctp_sides.specs.SideLaws.{Closes, Exhausts, IsSameStatus}
+use Rattle.sctp_assoc.specs.Skipping.{skips_of}
+use Rattle.sctp_sides.proofs.ClosingPackets.{Remains, drained_goes_on, forward_goes_on, on_data_goes_on}
+use Rattle.sctp_sides.proofs.ClosingPackets.{reconfig_goes_on}
+use Rattle.sctp_sides.proofs.ClosingPackets.{sack_goes_on}
 use Rattle.sctp_sides.proofs.PacketLaws.{exhaustion_closes, faults_close, lost_associations_take_nothing}
 use Rattle.sctp_sides.proofs.PacketsByChunks.{chunks_carry}
-use Rattle.sctp_sides.proofs.Status.{accepted_streams_keep_the_status, chunk_leaves, limits_keep_the_status}
-use Rattle.sctp_sides.proofs.Status.{opened_streams_keep_the_status, polls_keep_the_status, reads_keep_the_status}
+use Rattle.sctp_sides.proofs.Status.{accepted_streams_keep_the_status, limits_keep_the_status}
+use Rattle.sctp_sides.proofs.Status.{opened_streams_keep_the_status, polls_keep_the_status}
 use Rattle.sctp_sides.proofs.Status.{settings_keep_the_status, timers_keep_the_status, told_events_keep_the_status}
 use Rattle.sctp_sides.proofs.Status.{writes_keep_the_status}
 use Rattle.sctp_sides.proofs.TimersRun.{established_begins_no_more, established_shakes_no_hands}
@@ -60,6 +67,17 @@ same_settles used a b s h = record {
       ⊎_elim (λ (e : is_established a.state ≡ true). inl (ap is_established s.state ∙ e))
       (λ (e : a.lost ≡ true). inr (s.lost ∙ e)) h.over;
   uses = ap (λ (k : Handshake). k.use_forward_tsn) s.handshake ∙ h.uses;
+}
+
+remaining_talks : (used : Bool) (a b : Shown) → Remains a b → IsTalking used a → IsTalking used b
+remaining_talks used a b m h = talks_by used a b m.state (ap (λ (k : Handshake). k.use_forward_tsn) m.handshake) h
+
+remaining_settles : (used : Bool) (a b : Shown) → Remains a b → IsSettled used a → IsSettled used b
+remaining_settles used a b m h = record {
+  over =
+      ⊎_elim (λ (e : is_established a.state ≡ true). inl (ap is_established m.state ∙ e))
+      (λ (e : a.lost ≡ true). inr (m.lost ∙ e)) h.over;
+  uses = ap (λ (k : Handshake). k.use_forward_tsn) m.handshake ∙ h.uses;
 }
 
 talking_settles : (used : Bool) (a : Shown) → IsTalking used a → IsSettled used a
@@ -114,13 +132,22 @@ greeting_talks used a header c trigger now h k = checked_talks (checked_chunk c)
 chunk_talks : (used : Bool) (header : CommonHeader) (c : Chunk) (a : Shown) (trigger : AckTrigger) (now : ℕ)
     → IsTalking used a → IsTalking used (on_chunk a header c trigger now).0
 chunk_talks used header (chunks.Data piece) a trigger now h =
-    same_talks used a _ (chunk_leaves header (chunks.Data piece) a trigger now) h
+    greeting_talks used a header (chunks.Data piece) trigger now h
+    (remaining_talks used a _ (on_data_goes_on a piece trigger) h)
 chunk_talks used header (chunks.SelectiveAck sack) a trigger now h =
-    same_talks used a _ (chunk_leaves header (chunks.SelectiveAck sack) a trigger now) h
+    greeting_talks used a header (chunks.SelectiveAck sack) trigger now h
+    (remaining_talks used a _ (sack_goes_on (is_established a.state) a sack.cumulative_tsn_ack sack.gap_ack_blocks
+    sack.advertised_receiver_window_credit trigger now refl) h)
 chunk_talks used header (chunks.ForwardTsn forward) a trigger now h =
-    same_talks used a _ (chunk_leaves header (chunks.ForwardTsn forward) a trigger now) h
+    greeting_talks used a header (chunks.ForwardTsn forward) trigger now h
+    (remaining_talks used a _ (forward_goes_on a forward.new_cumulative_tsn forward.streams trigger now) h)
 chunk_talks used header (chunks.IForwardTsn forward) a trigger now h =
-    same_talks used a _ (chunk_leaves header (chunks.IForwardTsn forward) a trigger now) h
+    greeting_talks used a header (chunks.IForwardTsn forward) trigger now h
+    (remaining_talks used a _
+    (forward_goes_on a forward.new_cumulative_tsn (skips_of forward.entries) trigger now) h)
+chunk_talks used header (chunks.Reconfig reconfig) a trigger now h =
+    greeting_talks used a header (chunks.Reconfig reconfig) trigger now h
+    (remaining_talks used a _ (reconfig_goes_on a reconfig trigger) h)
 chunk_talks used header (chunks.Init init) a trigger now h =
     greeting_talks used a header (chunks.Init init) trigger now h (init_talks used a header init trigger h)
 chunk_talks used header (chunks.InitAck init) a trigger now h =
@@ -192,15 +219,18 @@ packet_settles false used a packet now e h =
 
 -- Any call that is carried out
 
-read_settles : (exhausts used : Bool) (a : Shown) (id : ℕ) → read_exhausts a id ≡ exhausts → IsSettled used a
-    → IsSettled used (read_from_stream a id).0
-read_settles true used a id e h =
-    let r = reads_keep_the_status a id in
-    subst (IsSettled used) (sym (r.exhausts e))
-    (exhausted_settles used (with_read a id) (same_settles used a (with_read a id) r.same h))
-read_settles false used a id e h =
-    let r = reads_keep_the_status a id in
-    subst (IsSettled used) (sym (r.plainly e)) (same_settles used a (with_read a id) r.same h)
+relieved_settles : (exhausts used : Bool) (b : Shown) → IsSettled used b
+    → IsSettled used (if exhausts then exhausted b else b)
+relieved_settles true used b h = exhausted_settles used b h
+relieved_settles false used b h = h
+
+read_settles : (x : StreamMap × Option ReceivedMessage) (used : Bool) (a : Shown) (id : ℕ) → IsSettled used a
+    → IsSettled used (after_read a id x).0
+read_settles (streams, None) used a id h =
+    remaining_settles used a (drained_behind a id streams) (drained_goes_on a id streams) h
+read_settles (streams, Some message) used a id h =
+    let b : Shown = drained_behind a id streams in
+    relieved_settles (is_exhausted b) used b (remaining_settles used a b (drained_goes_on a id streams) h)
 
 told_settles : (x : Shown × Option Event) (used : Bool) (a : Shown) → event_polled a ≡ x → IsSettled used a
     → IsSettled used (with_told x).0
@@ -217,7 +247,7 @@ carried_settles Call.AcceptStream used a h = same_settles used a _ (accepted_str
 carried_settles (Call.SetMaxSendMessageSize size) used a h =
     same_settles used a _ (limits_keep_the_status a size).0 h
 carried_settles Call.Close used a h = closed_settles used a reasons.AssociationClosed h
-carried_settles (Call.Read id) used a h = read_settles (read_exhausts a id) used a id refl h
+carried_settles (Call.Read id) used a h = read_settles (read_in a.streams id) used a id h
 carried_settles Call.Poll used a h = told_settles (event_polled a) used a refl h
 carried_settles (Call.PollTransmit now) used a h = same_settles used a _ (polls_keep_the_status a now) h
 carried_settles (Call.HandleTimeout now) used a h = same_settles used a _ (timers_keep_the_status a now).0 h

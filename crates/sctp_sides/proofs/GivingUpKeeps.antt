@@ -18,7 +18,7 @@ use Rattle.sctp_outbound.specs.Sender.{after_marked, after_missing, sent_new}
 use Rattle.sctp_assoc.specs.Calls.{is_established}
 use Rattle.sctp_assoc.specs.Gather.{ack_after, ack_polled, both_of, data_polled, exchange_polled}
 use Rattle.sctp_assoc.specs.Gather.{fast_polled, forward_after, forward_polled, is_due, late_abandoned, late_dropped}
-use Rattle.sctp_assoc.specs.Gather.{marks_polled}
+use Rattle.sctp_assoc.specs.Gather.{marks_polled, requests_after, requests_polled}
 use Rattle.sctp_assoc.specs.Shown.{Shown, uses_forward_tsn}
 use Rattle.sctp_assoc.proofs.PollsLeadOn.{after_is as left_by_both}
 
@@ -129,17 +129,19 @@ unfolding forward_polled
 forward_is b = refl
 
 pub after_is : (x : Shown × List (List ChunkPayloadData))
-    → (forward_after (ack_after x)).0 ≡ after_data x.0 (ack_polled x.0).0.receiver
+    → (forward_after (ack_after (requests_after x))).0
+    ≡ after_data (requests_polled x.0).0 (ack_polled (requests_polled x.0).0).0.receiver
 after_is x =
     left_by_both x
-    ∙ forward_is (ack_polled x.0).0
-    ∙ ap (λ (z : Shown). record z { sender = forward_given z.sender }) (ack_is x.0)
+    ∙ forward_is (ack_polled (requests_polled x.0).0).0
+    ∙ ap (λ (z : Shown). record z { sender = forward_given z.sender }) (ack_is (requests_polled x.0).0)
 
 -- in Established
 pub exchange_is : (a : Shown) (now : ℕ) → is_established a.state ≡ true
-    → (exchange_polled a now).0 ≡ after_data (data_polled a now).0 (ack_polled (data_polled a now).0).0.receiver
+    → (exchange_polled a now).0
+    ≡ (let b = (requests_polled (data_polled a now).0).0 in after_data b (ack_polled b).0.receiver)
 unfolding exchange_polled
 exchange_is a now e =
     ap (λ (z : Shown × List (List ℕ)). z.0)
-    (cond-true (is_established a.state) (forward_after (ack_after (data_polled a now))) (a, []) e)
+    (cond-true (is_established a.state) (forward_after (ack_after (requests_after (data_polled a now)))) (a, []) e)
     ∙ after_is (data_polled a now)

@@ -16,7 +16,8 @@ use Rattle.sctp_inbound.specs.declared.handshake.Offer.{Offer}
 use Rattle.sctp_inbound.specs.declared.receiver.AckTrigger.{AckTrigger}
 use Rattle.sctp_inbound.specs.Greeting.{first_cookie}
 use Rattle.sctp_inbound.specs.Handshake.{comes_back, has_issued, header_of}
-use Rattle.sctp_assoc.specs.declared.control.ControlPacket.{ControlPacket}
+use Rattle.sctp_assoc.specs.declared.control.Control.{Control}
+use Rattle.sctp_assoc.specs.declared.control.Control.TheVariants as controls
 use Rattle.sctp_directions.specs.Acts.{Act}
 use Rattle.sctp_assoc.specs.Calls.{is_beginning, is_cookie_echoed, is_cookie_wait, is_established}
 use Rattle.sctp_assoc.specs.Chunks.{checked_first, on_chunk}
@@ -226,7 +227,8 @@ module _ (own peer : ℕ) (t : Stage) (a : Shown) (truthful : IsTruthful own a) 
   echoed_greets (Some cookie) m n trigger now e some is met =
       let w = waits_for_it a e come in
       let b : Shown = with_echo m cookie now in
-      let c : ControlPacket = record { header = header_of m.handshake; chunk = chunks.CookieEcho cookie } in
+      let c : Control =
+      controls.Packet (record { header = header_of m.handshake; chunk = chunks.CookieEcho cookie }) in
       let known : is_some m.handshake.peer_initial_tsn ≡ true = ap is_some met.known in
       let goes : IsNoEarlier (stage_of a)
       (stage_of b) = record { side = met.side; knows = λ k. known; completed = λ d. met.completed ∙ d } in
@@ -238,7 +240,7 @@ module _ (own peer : ℕ) (t : Stage) (a : Shown) (truthful : IsTruthful own a) 
       } in
       record {
         truthful =
-            truthful_with own a b c truthful keeps (ap (λ (z : List ControlPacket). z ++ c ∷ []) met.control)
+            truthful_with own a b c truthful keeps (ap (λ (z : List Control). z ++ c ∷ []) met.control)
             (met.side ∙ w.client, known) refl;
         come = inr (inl record {
           client = met.side ∙ w.client;

@@ -1,14 +1,15 @@
 -- What a side's packets of a handshake say goes on to be so.
 use Rattle.std.proofs.Common.{◌≡◌, sym, ap, ◌∙◌, subst, ◌⊎◌, inl, inr, ℕ, true, [], ◌∷◌, ◌++◌, is_some}
+use Rattle.sctp_wire_types.specs.declared.chunk.Chunk.{Chunk}
 use Rattle.std.specs.List.{AllByRecursion}
 use Rattle.sctp_wire_types.specs.declared.chunk.Chunk.TheVariants as chunks
 use Rattle.sctp_wire_types.specs.declared.ids.Side.TheVariants as sides
-use Rattle.sctp_wire.specs.Packets.{packet_is_plain}
 use Rattle.sctp_model.proofs.Lists.{all_join, all_weaker}
 use Rattle.sctp_inbound.specs.declared.handshake.Handshake.{Handshake}
-use Rattle.sctp_assoc.specs.declared.control.ControlPacket.{ControlPacket}
-use Rattle.sctp_sides.specs.Meeting.{Greets, IsNoEarlier, IsTruthful, stage_of}
-use Rattle.sctp_assoc.specs.Gather.{single_chunk_packet}
+use Rattle.sctp_assoc.specs.declared.control.Control.{Control}
+use Rattle.sctp_assoc.specs.declared.control.Control.TheVariants as controls
+use Rattle.sctp_sides.specs.Meeting.{Greets, IsNoEarlier, IsTruthful, SaysWhatIsSo, Stage, WaitsTruthfully, stage_of}
+use Rattle.sctp_assoc.specs.Gather.{IsPlainControl}
 use Rattle.sctp_sides.specs.SideLaws.{GreetingsStayTrue}
 use Rattle.sctp_assoc.specs.Shown.{Shown}
 
@@ -31,6 +32,31 @@ greetings_stay_true own s t (chunks.Reconfig x) g n = absurd n
 greetings_stay_true own s t (chunks.ForwardTsn x) g n = absurd n
 greetings_stay_true own s t (chunks.IForwardTsn x) g n = absurd n
 greetings_stay_true own s t (chunks.Other kind flags value) g n = absurd n
+
+-- so does what waits to go out
+says_still : (own : ℕ) (s t : Stage) (chunk : Chunk) → IsNoEarlier s t → SaysWhatIsSo own s chunk
+    → SaysWhatIsSo own t chunk
+says_still own s t (chunks.Reconfig x) g said = tt
+says_still own s t (chunks.Data x) g said = greetings_stay_true own s t (chunks.Data x) g said
+says_still own s t (chunks.SelectiveAck x) g said = greetings_stay_true own s t (chunks.SelectiveAck x) g said
+says_still own s t (chunks.Init x) g said = greetings_stay_true own s t (chunks.Init x) g said
+says_still own s t (chunks.InitAck x) g said = greetings_stay_true own s t (chunks.InitAck x) g said
+says_still own s t (chunks.CookieEcho x) g said = greetings_stay_true own s t (chunks.CookieEcho x) g said
+says_still own s t chunks.CookieAck g said = greetings_stay_true own s t chunks.CookieAck g said
+says_still own s t (chunks.Heartbeat x) g said = greetings_stay_true own s t (chunks.Heartbeat x) g said
+says_still own s t (chunks.HeartbeatAck x) g said = greetings_stay_true own s t (chunks.HeartbeatAck x) g said
+says_still own s t (chunks.Abort x) g said = greetings_stay_true own s t (chunks.Abort x) g said
+says_still own s t (chunks.Shutdown x) g said = greetings_stay_true own s t (chunks.Shutdown x) g said
+says_still own s t chunks.ShutdownAck g said = greetings_stay_true own s t chunks.ShutdownAck g said
+says_still own s t (chunks.Error x) g said = greetings_stay_true own s t (chunks.Error x) g said
+says_still own s t chunks.ShutdownComplete g said = greetings_stay_true own s t chunks.ShutdownComplete g said
+says_still own s t (chunks.ForwardTsn x) g said = greetings_stay_true own s t (chunks.ForwardTsn x) g said
+says_still own s t (chunks.IForwardTsn x) g said = greetings_stay_true own s t (chunks.IForwardTsn x) g said
+says_still own s t (chunks.Other kind flags value) g said = greetings_stay_true own s t (chunks.Other kind flags value) g said
+
+waits_still : (own : ℕ) (s t : Stage) (c : Control) → IsNoEarlier s t → WaitsTruthfully own s c → WaitsTruthfully own t c
+waits_still own s t (controls.Packet c) g said = says_still own s t c.chunk g said
+waits_still own s t controls.OwnRequest g said = tt
 
 -- What b keeps of what a says.
 pub record KeepsSaying (a b : Shown) : Type 0 where
@@ -67,53 +93,50 @@ echoes_on own a b t k e = by_case (k.echoes e)
     by_case (inr new) = new
 
 says_on : (own : ℕ) (a b : Shown) → IsTruthful own a → KeepsSaying a b
-    → AllByRecursion (λ (c : ControlPacket). Greets own (stage_of b) c.chunk) a.control
+    → AllByRecursion (WaitsTruthfully own (stage_of b)) a.control
 says_on own a b t k =
-    all_weaker (λ (c : ControlPacket). Greets own (stage_of a) c.chunk)
-    (λ (c : ControlPacket). Greets own (stage_of b) c.chunk) a.control
-    (λ c said. greetings_stay_true own (stage_of a) (stage_of b) c.chunk k.goes said) t.says
+    all_weaker (WaitsTruthfully own (stage_of a)) (WaitsTruthfully own (stage_of b)) a.control
+    (λ c said. waits_still own (stage_of a) (stage_of b) c k.goes said) t.says
+
+-- what waits is truthful and plain
+pub truthful_by : (own : ℕ) (a b : Shown) → IsTruthful own a → KeepsSaying a b
+    → AllByRecursion (WaitsTruthfully own (stage_of b)) b.control → AllByRecursion IsPlainControl b.control
+    → IsTruthful own b
+truthful_by own a b t k says plain = record {
+  tsn = k.tsn ∙ t.tsn;
+  says = says;
+  plain = plain;
+  offers = λ e. k.goes.side ∙ t.offers (k.offers e);
+  echoes = λ e. echoes_on own a b t k e;
+}
 
 -- nothing more waits
 pub truthful_still : (own : ℕ) (a b : Shown) → IsTruthful own a → KeepsSaying a b → b.control ≡ a.control
     → IsTruthful own b
-truthful_still own a b t k same = record {
-  tsn = k.tsn ∙ t.tsn;
-  says =
-      subst (AllByRecursion (λ (c : ControlPacket). Greets own (stage_of b) c.chunk)) (sym same) (says_on own a b t k);
-  plain =
-      subst (AllByRecursion (λ (c : ControlPacket). packet_is_plain (single_chunk_packet c.header c.chunk) ≡ true))
-      (sym same) t.plain;
-  offers = λ e. k.goes.side ∙ t.offers (k.offers e);
-  echoes = λ e. echoes_on own a b t k e;
-}
+truthful_still own a b t k same =
+    truthful_by own a b t k
+    (subst (AllByRecursion (WaitsTruthfully own (stage_of b))) (sym same) (says_on own a b t k))
+    (subst (AllByRecursion IsPlainControl) (sym same) t.plain)
 
--- one packet more waits
-pub truthful_with : (own : ℕ) (a b : Shown) (c : ControlPacket) → IsTruthful own a → KeepsSaying a b
-    → b.control ≡ a.control ++ c ∷ [] → Greets own (stage_of b) c.chunk
-    → packet_is_plain (single_chunk_packet c.header c.chunk) ≡ true → IsTruthful own b
-truthful_with own a b c t k grown said plain = record {
-  tsn = k.tsn ∙ t.tsn;
-  says = subst (AllByRecursion (λ (x : ControlPacket). Greets own (stage_of b) x.chunk)) (sym grown)
-      (all_join (λ (x : ControlPacket). Greets own (stage_of b) x.chunk) a.control (c ∷ [])
-      (says_on own a b t k) (said, tt));
-  plain =
-      subst (AllByRecursion (λ (x : ControlPacket). packet_is_plain (single_chunk_packet x.header x.chunk) ≡ true))
-      (sym grown)
-      (all_join (λ (x : ControlPacket). packet_is_plain (single_chunk_packet x.header x.chunk) ≡ true) a.control
-      (c ∷ [])
-      t.plain (plain, tt));
-  offers = λ e. k.goes.side ∙ t.offers (k.offers e);
-  echoes = λ e. echoes_on own a b t k e;
-}
+-- some of what waits does no more
+pub truthful_still_by : (own : ℕ) (a b : Shown) → IsTruthful own a → KeepsSaying a b
+    → ((P : Control → Type 0) → AllByRecursion P a.control → AllByRecursion P b.control) → IsTruthful own b
+truthful_still_by own a b t k fewer =
+    truthful_by own a b t k (fewer (WaitsTruthfully own (stage_of b)) (says_on own a b t k))
+    (fewer IsPlainControl t.plain)
+
+-- something more waits
+pub truthful_with : (own : ℕ) (a b : Shown) (c : Control) → IsTruthful own a → KeepsSaying a b
+    → b.control ≡ a.control ++ c ∷ [] → WaitsTruthfully own (stage_of b) c → IsPlainControl c → IsTruthful own b
+truthful_with own a b c t k grown said plain =
+    truthful_by own a b t k
+    (subst (AllByRecursion (WaitsTruthfully own (stage_of b))) (sym grown)
+    (all_join (WaitsTruthfully own (stage_of b)) a.control (c ∷ []) (says_on own a b t k) (said, tt)))
+    (subst (AllByRecursion IsPlainControl) (sym grown)
+    (all_join IsPlainControl a.control (c ∷ []) t.plain (plain, tt)))
 
 -- nothing waits
 pub truthful_silent : (own : ℕ) (a b : Shown) → IsTruthful own a → KeepsSaying a b → b.control ≡ [] → IsTruthful own b
-truthful_silent own a b t k none = record {
-  tsn = k.tsn ∙ t.tsn;
-  says = subst (AllByRecursion (λ (c : ControlPacket). Greets own (stage_of b) c.chunk)) (sym none) tt;
-  plain =
-      subst (AllByRecursion (λ (c : ControlPacket). packet_is_plain (single_chunk_packet c.header c.chunk) ≡ true))
-      (sym none) tt;
-  offers = λ e. k.goes.side ∙ t.offers (k.offers e);
-  echoes = λ e. echoes_on own a b t k e;
-}
+truthful_silent own a b t k none =
+    truthful_by own a b t k (subst (AllByRecursion (WaitsTruthfully own (stage_of b))) (sym none) tt)
+    (subst (AllByRecursion IsPlainControl) (sym none) tt)

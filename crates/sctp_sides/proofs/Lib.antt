@@ -1,10 +1,12 @@
 mod ActsOfChunks
+mod BeginsNoReset
 mod BlocksWithin
 mod BundleLengths
 mod BundlesFilled
 mod ClosingCalls
 mod ClosingCauses
 mod ClosingPackets
+mod ClosingPolls
 mod DataIntake
 mod DueSacks
 mod ExhaustedBuffers
@@ -21,13 +23,18 @@ mod HandshakeTruth
 mod LateGivenUp
 mod LiveStreams
 mod LossToldOnce
+mod NothingElseTaken
 mod NothingLate
 mod PacketLaws
 mod PacketsByChunks
 mod PolledPackets
-mod PolledExchange
+mod QuietPackets
 mod PollsInTime
+mod PollsLeave
 pub mod Proved
+mod ResetLosses
+mod RequestsTimed
+mod ResetsBeside
 mod Retries
 mod RetriesInPolls
 mod SentCounts
@@ -41,4 +48,5 @@ mod TimesGiven
 mod WaitingGoesOut
 mod WaitingInTime
 mod WindowsHold
+mod WithoutResets
 mod WrittenIsHeld

@@ -15,6 +15,8 @@ use Rattle.sctp_sides.specs.SideLaws.{AcceptedWritesFit, WasWritable, FoundStrea
 use Rattle.sctp_sides.specs.SideLaws.{OpenedStreamsHoldNothing, OpenedStreamsWereNotLive, SettingsHoldNothing}
 use Rattle.sctp_sides.specs.SideLaws.{WhatHoldsNothingGivesNothing}
 use Rattle.sctp_assoc.specs.Shown.{Shown}
+use Rattle.sctp_resets.specs.Resets.{is_blocked}
+use Rattle.sctp_sides.proofs.WithoutResets.{nothing_is_drained}
 use Rattle.sctp_fit.proofs.StreamsThere.{at_made, at_with}
 use Rattle.sctp_assoc.specs.Calls.{after_read, read_from_stream}
 
@@ -30,35 +32,39 @@ found_if false (Some t) a id f there e = record { working = f; stream = t; there
 pub found_streams_are_live : FoundStreamsAreLive
 found_streams_are_live a id e = found_if a.failed (stream_at a.streams id) a id refl refl e
 
-free_if : (failed : Bool) (o : Option StreamView) (left : Bool)
+free_if : (failed : Bool) (o : Option StreamView) (blocked left : Bool)
     → (if failed then Some errors.ErrAssociationFailed else if is_some o then Some errors.ErrStreamAlreadyExist else
+    if blocked then Some errors.ErrStreamResetPending else
     if left then None else Some errors.ErrStreamCreateFailed) ≡ None
     → (failed ≡ false) × (o ≡ None)
-free_if true o left e = absurd (true≢false (ap is_some e))
-free_if false (Some t) left e = absurd (true≢false (ap is_some e))
-free_if false None left e = (refl, refl)
+free_if true o blocked left e = absurd (true≢false (ap is_some e))
+free_if false (Some t) blocked left e = absurd (true≢false (ap is_some e))
+free_if false None blocked left e = (refl, refl)
 
 pub opened_streams_were_not_live : OpenedStreamsWereNotLive
-opened_streams_were_not_live a id e = free_if a.failed (stream_at a.streams id) (generation_left a.streams) e
+opened_streams_were_not_live a id e =
+    free_if a.failed (stream_at a.streams id) (is_blocked a.resets id) (generation_left a.streams) e
 
-size_free : (shut established empty large : Bool)
-    → (if shut then Some errors.ErrStreamClosed else if established then (if empty then Some errors.ErrEmptyMessage else
-    if large then Some errors.ErrOutboundPacketTooLarge else None) else Some errors.ErrPayloadDataStateNotExist) ≡ None
+size_free : (opens established blocked empty large : Bool)
+    → (if opens then (if not established then Some errors.ErrPayloadDataStateNotExist else
+    if blocked then Some errors.ErrStreamResetPending else if empty then Some errors.ErrEmptyMessage else
+    if large then Some errors.ErrOutboundPacketTooLarge else None) else Some errors.ErrStreamClosed) ≡ None
     → (established ≡ true) × (empty ≡ false) × (large ≡ false)
-size_free true established empty large e = absurd (true≢false (ap is_some e))
-size_free false false empty large e = absurd (true≢false (ap is_some e))
-size_free false true true large e = absurd (true≢false (ap is_some e))
-size_free false true false true e = absurd (true≢false (ap is_some e))
-size_free false true false false e = (refl, refl, refl)
+size_free false established blocked empty large e = absurd (true≢false (ap is_some e))
+size_free true false blocked empty large e = absurd (true≢false (ap is_some e))
+size_free true true true empty large e = absurd (true≢false (ap is_some e))
+size_free true true false true large e = absurd (true≢false (ap is_some e))
+size_free true true false false true e = absurd (true≢false (ap is_some e))
+size_free true true false false false e = (refl, refl, refl)
 
 write_free : (failed : Bool) (x : Option StreamView) (a : Shown) (id size : ℕ) → a.failed ≡ failed
     → stream_at a.streams id ≡ x
-    → (if failed then Some errors.ErrAssociationFailed else write_refusal_at a x size) ≡ None → WasWritable a id size
+    → (if failed then Some errors.ErrAssociationFailed else write_refusal_at a x id size) ≡ None → WasWritable a id size
 write_free true x a id size working there e = absurd (true≢false (ap is_some e))
 write_free false None a id size working there e = absurd (true≢false (ap is_some e))
 write_free false (Some t) a id size working there e =
     let free =
-    size_free (not (is_write_half_open t.halves)) (is_established a.state) (eqb size 0)
+    size_free (is_write_half_open t.halves) (is_established a.state) (is_blocked a.resets id) (eqb size 0)
     (ltb a.max_send_message_size size) e in
     record {
       live = record { working = working; stream = t; there = there };
@@ -116,7 +122,7 @@ empty_read : (t : StreamView) → t.reassembly ≡ empty_reassembly
 empty_read t e = ap (λ r. read_with t (taken r)) e
 
 pub what_holds_nothing_gives_nothing : WhatHoldsNothingGivesNothing
-what_holds_nothing_gives_nothing a id live all =
+what_holds_nothing_gives_nothing a id none live all =
     let t : StreamView = live.stream in
     let u : StreamView = record t { reassembly = empty_reassembly } in
     let left : read_in a.streams id ≡ (with_stream a.streams id u, None) =
@@ -124,7 +130,8 @@ what_holds_nothing_gives_nothing a id live all =
     ∙ ap (λ (z : StreamView × Option ReceivedMessage). (with_stream a.streams id z.0, z.1))
     (empty_read t (all id t live.there)) in
     let whole : read_from_stream a id ≡ (record a { streams = with_stream a.streams id u }, None) =
-    ap (after_read a) left in (
+    ap (after_read a id) left
+    ∙ ap (λ (z : Shown). (z, None)) (nothing_is_drained a id (with_stream a.streams id u) none.kept) in (
       ap (λ (z : Shown × Option ReceivedMessage). z.1) whole,
       empty_beside a.streams (read_from_stream a id).0.streams id u refl
           (λ n. ap (λ (z : Shown × Option ReceivedMessage). stream_at z.0.streams n) whole

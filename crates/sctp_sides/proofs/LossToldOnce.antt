@@ -1,12 +1,16 @@
 -- Over every list of calls a side tells of at most one loss.
-use Rattle.std.proofs.Common.{◌≡◌, refl, sym, ap, ◌∙◌, subst, inl, inr, ℕ, ◌+◌, ◌≤◌, arith, Bool, true, false, ◌&&◌}
+use Rattle.std.proofs.Common.{◌≡◌, refl, sym, ap, ◌∙◌, subst, inl, inr, ℕ, zero, suc, ◌+◌, ◌≤◌, arith, Bool, true}
+use Rattle.std.proofs.Common.{false, ◌&&◌}
 use Rattle.std.proofs.Common.{◌||◌, not, if◌then◌else◌, List, [], ◌∷◌, Option, Some, None}
+use Rattle.std.specs.Prelude.{remove, slice_get}
 use Rattle.std.proofs.lemmas.Bool.{and_parts, false≢true, not-true, true≢false}
 use Rattle.std.proofs.lemmas.List.Sums.{sum_by-append, sum_by-cons}
 use Rattle.sctp_wire_types.specs.declared.error.Error.{Error}
 use Rattle.sctp_streams.specs.declared.event.AssociationError.TheVariants as reasons
 use Rattle.sctp_streams.specs.declared.event.Event.{Event}
-use Rattle.sctp_assoc.specs.Calls.{accepted_stream, event_from, fault_told, with_max_send_message_size}
+use Rattle.sctp_resets.specs.Resets.{ResetsView, event_told, event_told_at, with_event}
+use Rattle.sctp_resets.specs.Telling.{next_told}
+use Rattle.sctp_assoc.specs.Calls.{accepted_stream, event_from, event_polled, fault_told, with_max_send_message_size}
 use Rattle.sctp_assoc.specs.Calls.{written}
 use Rattle.sctp_assoc.specs.Closing.{closed_by, is_closed_state}
 use Rattle.sctp_assoc.specs.Chunks.{after_packet}
@@ -17,7 +21,7 @@ use Rattle.sctp_assoc.specs.Shown.{Shown}
 use Rattle.sctp_assoc.specs.Timeouts.{after_timeouts}
 use Rattle.sctp_sides.specs.Witnesses.{LossesAreToldOnce, loss_count}
 use Rattle.sctp_sides.proofs.ClosingPackets.{faults_alone_close}
-use Rattle.sctp_sides.proofs.DueSacks.{polls_do_not_close, timers_do_not_close}
+use Rattle.sctp_sides.proofs.ClosingPolls.{polls_do_not_close, timers_do_not_close}
 use Rattle.sctp_sides.proofs.ClosingCalls.{accepted_streams_do_not_close, closes_close, limits_do_not_close}
 use Rattle.sctp_sides.proofs.ClosingCalls.{writes_do_not_close}
 use Rattle.sctp_sides.proofs.TimersOverChunks.{IsSound}
@@ -50,15 +54,45 @@ fault_counts : (o : Option Error) → losses (told_by (fault_told o)) ≡ 0
 fault_counts None = refl
 fault_counts (Some fault) = refl
 
-poll_tells : (queued : List Event) (a : Shown) → a.events ≡ queued
-    → TellsLosses false a (with_told (event_from queued a))
-poll_tells [] a e =
+-- an event that is told was among those that waited
+removed_tells : (es : List Event) (index : ℕ)
+    → losses (remove es index) + losses (told_by (slice_get es index)) ≡ losses es
+removed_tells [] zero = refl
+removed_tells [] (suc index) = refl
+removed_tells (e ∷ es) zero =
+    let one : losses (e ∷ []) ≡ loss_of e + losses [] = sum_by-cons loss_of e [] in
+    let all : losses (e ∷ es) ≡ loss_of e + losses es = sum_by-cons loss_of e es in
+    omega (arith, one, all)
+removed_tells (e ∷ es) (suc index) =
+    let left : losses (e ∷ remove es index) ≡ loss_of e + losses (remove es index) =
+    sum_by-cons loss_of e (remove es index) in
+    let all : losses (e ∷ es) ≡ loss_of e + losses es = sum_by-cons loss_of e es in
+    let on : losses (remove es index) + losses (told_by (slice_get es index)) ≡ losses es = removed_tells es index in
+    omega (arith, left, all, on)
+
+poll_counts : (x : ResetsView × List Event × Option Event) (a : Shown)
+    → losses x.1 + losses (told_by x.2) ≡ losses a.events → TellsLosses false a (with_told (event_from x a))
+poll_counts (r, left, None) a e =
     let n : losses (told_by (fault_told a.handshake_fault)) ≡ 0 = fault_counts a.handshake_fault in
-    record { lost = refl; count = omega (arith, n); once = λ c. absurd (false≢true c) }
-poll_tells (event ∷ later) a e =
-    let one : losses (event ∷ []) ≡ loss_of event + losses [] = sum_by-cons loss_of event [] in
-    let all : losses a.events ≡ loss_of event + losses later = ap losses e ∙ sum_by-cons loss_of event later in
-    record { lost = refl; count = omega (arith, one, all); once = λ c. absurd (false≢true c) }
+    record { lost = refl; count = omega (arith, n, e); once = λ c. absurd (false≢true c) }
+poll_counts (r, left, Some event) a e =
+    record { lost = refl; count = omega (arith, e); once = λ c. absurd (false≢true c) }
+
+with_event_counts : (o : Option Event) (r : ResetsView) (rest : List Event)
+    → losses (with_event o r rest).1 + losses (told_by (with_event o r rest).2) ≡ losses rest + losses (told_by o)
+with_event_counts None r rest = refl
+with_event_counts (Some event) r rest = refl
+
+told_counts : (o : Option ℕ) (r : ResetsView) (queued : List Event)
+    → losses (event_told_at o r queued).1 + losses (told_by (event_told_at o r queued).2) ≡ losses queued
+told_counts None r queued = omega arith
+told_counts (Some index) r queued =
+    with_event_counts (slice_get queued index) r (remove queued index) ∙ removed_tells queued index
+
+poll_tells : (a : Shown) → TellsLosses false a (with_told (event_polled a))
+poll_tells a =
+    poll_counts (event_told a.resets a.events) a
+    (told_counts (next_told a.resets.generations a.resets.debts a.events) a.resets a.events)
 
 closes_once : (lost faulted : Bool) → (not lost && faulted) ≡ true → lost ≡ false
 closes_once lost faulted e = not-true lost (and_parts (not lost) faulted e).0
@@ -113,9 +147,9 @@ carried_tells Call.Close a ends =
 carried_tells (Call.Read id) a ends =
     closing_tells (read_closes a id) a (read_from_stream a id).0 (exhausting_reads_alone_close a id)
     (read_is_kept (read_exhausts a id) (is_closed_state a.state) a.lost ends)
-carried_tells Call.Poll a ends = poll_tells a.events a refl
+carried_tells Call.Poll a ends = poll_tells a
 carried_tells (Call.PollTransmit now) a ends = unclosed_tells a (polled a now).0 (polls_do_not_close a now)
-carried_tells (Call.HandleTimeout now) a ends = open_tells a (after_timeouts a now) (timers_do_not_close a now)
+carried_tells (Call.HandleTimeout now) a ends = unclosed_tells a (after_timeouts a now) (timers_do_not_close a now)
 carried_tells (Call.HandleEvent packet now) a ends =
     closing_tells (closes a packet now) a (after_packet a packet now) (faults_alone_close a packet now)
     (closes_once a.lost (is_faulted_packet a packet now))

@@ -26,6 +26,7 @@ use Rattle.sctp_sides.proofs.Status.{chunk_leaves, status_by}
 use Rattle.sctp_sides.proofs.HandshakeTruth.{keeps_saying, truthful_silent}
 use Rattle.sctp_assoc.specs.Closing.{exhausted, out_of_resource}
 use Rattle.sctp_assoc.specs.Control.{queued}
+use Rattle.sctp_assoc.specs.declared.control.Control.TheVariants as controls
 use Rattle.sctp_sides.specs.Meeting.{IsTruthful}
 use Rattle.sctp_sides.specs.SideLaws.{Exhausts, ExhaustionCloses}
 use Rattle.sctp_sides.proofs.HandshakeTruth.{truthful_with}
@@ -56,7 +57,7 @@ none_some t e = cc
 aborts_truthfully : (own : ℕ) (a : Shown) → IsTruthful own a → IsTruthful own (queued a out_of_resource)
 aborts_truthfully own a t =
     truthful_with own a (queued a out_of_resource)
-    (record { header = header_of a.handshake; chunk = out_of_resource }) t
+    (controls.Packet (record { header = header_of a.handshake; chunk = out_of_resource })) t
     (keeps_saying a (queued a out_of_resource) refl refl) refl tt refl
 
 closes_if : (c : Bool) (a : Shown) (reason : AssociationError) → is_closed_state a.state ≡ c

@@ -1,6 +1,7 @@
 -- The packets of a poll say what its acts give out.
 use Rattle.std.proofs.Common.{◌≡◌, refl, sym, ap, ◌∙◌, inl, inr, subst, ℕ, suc, Bool, true, false, if◌then◌else◌, List}
-use Rattle.std.proofs.Common.{[], ◌∷◌, ◌++◌, Some, None, Result, Ok, Err, is_ok}
+use Rattle.std.specs.Prelude.{⊤}
+use Rattle.std.proofs.Common.{[], ◌∷◌, ◌++◌, Option, Some, None, Result, Ok, Err, is_ok}
 use Rattle.std.specs.Prelude.{slice_get}
 use Rattle.std.specs.List.{AllByRecursion}
 use Rattle.std.proofs.lemmas.Bool.{cond-false, cond-true}
@@ -11,24 +12,30 @@ use Rattle.sctp_wire_types.specs.declared.chunk.ChunkPayloadData.{ChunkPayloadDa
 use Rattle.sctp_wire_types.specs.declared.error.Fault.{Fault}
 use Rattle.sctp_wire_types.specs.declared.packet.CommonHeader.{CommonHeader}
 use Rattle.sctp_wire.specs.DataPackets.{IsReadBack, all_of, data_fits, datagrams_of, data_packet}
-use Rattle.sctp_wire.specs.Packets.{checked, packet_at, packet_is_plain, spelling, written}
+use Rattle.sctp_wire_types.specs.declared.param.ParamOutgoingResetRequest.{ParamOutgoingResetRequest}
+use Rattle.sctp_wire.specs.Packets.{checked, packet_at, spelling, written}
 use Rattle.sctp_inbound.specs.Handshake.{header_of}
-use Rattle.sctp_model.proofs.Lists.{all_back, all_filter, all_front, all_join, all_map}
+use Rattle.sctp_model.proofs.Lists.{all_back, all_filter, all_front, all_get, all_join, all_map}
 use Rattle.sctp_model.proofs.Lists.{all_weaker}
-use Rattle.sctp_directions.specs.Acts.{all_data_given}
+use Rattle.sctp_directions.specs.Acts.{Act, History, all_data_given}
 use Rattle.sctp_assoc.specs.Leads.{parts}
 use Rattle.sctp_assoc.specs.Calls.{is_established}
-use Rattle.sctp_assoc.specs.Happened.{acks_given}
+use Rattle.sctp_assoc.specs.Happened.{acks_given, requests_given}
 use Rattle.sctp_assoc.specs.Inbound.{taken_packet}
-use Rattle.sctp_assoc.specs.declared.control.ControlPacket.{ControlPacket}
-use Rattle.sctp_assoc.specs.Gather.{AckIsReadAgain, AreControlReadAgain, AreReadAgain, IsReadAgain, ack_after}
-use Rattle.sctp_assoc.specs.Gather.{after_both, control_packets, data_polled, exchange_polled, forward_after}
-use Rattle.sctp_assoc.specs.Gather.{forward_chunk, is_due}
+use Rattle.sctp_assoc.specs.declared.control.Control.{Control}
+use Rattle.sctp_assoc.specs.declared.control.Control.TheVariants as controls
+use Rattle.sctp_assoc.specs.Gather.{AckIsReadAgain, AreControlReadAgain, AreReadAgain, ControlReadAgain}
+use Rattle.sctp_assoc.specs.Gather.{IsPlainControl, IsReadAgain, ack_after, after_both, control_polled, data_polled}
+use Rattle.sctp_assoc.specs.Gather.{exchange_after, exchange_polled, forward_after, forward_chunk, is_due}
+use Rattle.sctp_assoc.specs.Gather.{reconfig_run_after, requests_after}
+use Rattle.sctp_assoc.specs.Resets.{with_reconfig_run}
 use Rattle.sctp_assoc.specs.Gather.{packet_bytes, single_chunk_packet, sack_chunk, sack_packet, spelled}
 use Rattle.sctp_assoc.specs.Gather.{without_control}
-use Rattle.sctp_sides.specs.SideLaws.{IsGivenBy, IsWaitingToGo, OfEachChunk, PollsOutsideEstablishedGiveWhatWaits}
-use Rattle.sctp_sides.specs.SideLaws.{PollsSayTheirActs, WhatWaitsGoesOutAsItIs}
+use Rattle.sctp_sides.specs.NoReset.{HasNoReset, IsNoReconfig, IsOfNoReset, control_packets, packets_of_control}
+use Rattle.sctp_sides.specs.SideLaws.{IsExchanged, IsGivenBy, IsWaitingToGo, NoResetGoesOut, OfEachChunk}
+use Rattle.sctp_sides.specs.SideLaws.{PollsOutsideEstablishedGiveWhatWaits, PollsSayTheirActs, WhatWaitsGoesOutAsItIs}
 use Rattle.sctp_assoc.specs.Shown.{Shown}
+use Rattle.sctp_sides.proofs.WithoutResets.{no_request_is_timed, what_waits_goes_out}
 use Rattle.sctp_sides.proofs.DueSacks.{sacks_say_what_was_taken}
 
 -- each chunk that a datagram spells is so
@@ -103,25 +110,52 @@ each_there {X} (x ∷ xs) = (
       (λ y there. (suc there.0, there.1)) (each_there xs),
 )
 
-waiting_say : (Is : Chunk → Type 0) (cs : List ControlPacket) → AreControlReadAgain cs
-    → AllByRecursion (λ (c : ControlPacket). packet_is_plain (single_chunk_packet c.header c.chunk) ≡ true) cs
-    → AllByRecursion (λ (c : ControlPacket). Is c.chunk) cs → AreOf Is (control_packets cs)
+-- of what waits to go out each packet has such a chunk
+abbrev WaitsSo : (Chunk → Type 0) → Control → Type 0
+WaitsSo Is (controls.Packet c) = Is c.chunk
+WaitsSo Is controls.OwnRequest = ⊤
+
+control_says : (Is : Chunk → Type 0) (c : Control) → ControlReadAgain c → IsPlainControl c → WaitsSo Is c
+    → AreOf Is (packets_of_control c)
+control_says Is (controls.Packet c) again plain one = one_says Is c.header c.chunk (again plain) one
+control_says Is controls.OwnRequest again plain one = tt
+
+waiting_say : (Is : Chunk → Type 0) (cs : List Control) → AreControlReadAgain cs → AllByRecursion IsPlainControl cs
+    → AllByRecursion (WaitsSo Is) cs → AreOf Is (control_packets cs)
 waiting_say Is [] again plain all = tt
 waiting_say Is (c ∷ cs) (again, more) (plain, others) (one, rest) =
-    all_join (λ (bytes : List ℕ). OfEachChunk Is (taken_packet (packet_at bytes))) (packet_bytes c.header c.chunk)
-    (control_packets cs)
-    (one_says Is c.header c.chunk (again plain) one) (waiting_say Is cs more others rest)
+    all_join (λ (bytes : List ℕ). OfEachChunk Is (taken_packet (packet_at bytes))) (packets_of_control c)
+    (control_packets cs) (control_says Is c again plain one) (waiting_say Is cs more others rest)
+
+-- what waits is so where each chunk that waits is
+module _ (a : Shown) (Is : Chunk → Type 0) (so : (chunk : Chunk) → IsWaitingToGo a chunk → Is chunk) where
+  waits_so : (c : Control) → (k : ℕ) × (slice_get a.control k ≡ Some c) → WaitsSo Is c
+  waits_so (controls.Packet c) there = so c.chunk (there.0, c, there.1, refl)
+  waits_so controls.OwnRequest there = tt
+
+  all_wait_so : AllByRecursion (WaitsSo Is) a.control
+  all_wait_so =
+      all_weaker (λ (c : Control). (k : ℕ) × (slice_get a.control k ≡ Some c)) (WaitsSo Is) a.control
+      (λ c there. waits_so c there) (each_there a.control)
 
 pub polls_say_their_acts : PollsSayTheirActs
 polls_say_their_acts acts forwards a b h packets =
-    λ plain again established binds polls.
+    λ none plain again established binds polls.
     let Is : Chunk → Type 0 = IsGivenBy acts forwards a b h in
     let Of : List ℕ → Type 0 = λ (bytes : List ℕ). OfEachChunk Is (taken_packet (packet_at bytes)) in
-    let pieces = datagrams_of (header_of a.handshake) polls.bundles in
-    let forward : List (List ℕ) =
-    if forwards then packet_bytes (header_of a.handshake) (forward_chunk b) else [] in
-    let exchanged = cond-true (is_established a.state) (pieces ++ acks_given a ++ forward) [] established in
-    let said = polls.said ∙ ap (λ (z : List (List ℕ)). control_packets a.control ++ z) exchanged in
+    let header = header_of a.handshake in
+    let pieces = datagrams_of header polls.bundles in
+    let forward : List (List ℕ) = if forwards then packet_bytes header (forward_chunk b) else [] in
+    let quiet : polls.requests ≡ [] = polls.quiet (none.waiting, none.queued, none.active) in
+    let exchanged =
+    cond-true (is_established a.state) (pieces ++ requests_given header polls.requests ++ acks_given a ++ forward) []
+    established
+    ∙ ap (λ (rs : List ParamOutgoingResetRequest). pieces ++ requests_given header rs ++ acks_given a ++ forward) quiet
+    ∙ ap (λ (z : List (List ℕ)). z ++ acks_given a ++ forward) (append-nil pieces) in
+    let said : packets ≡ control_packets a.control ++ (pieces ++ acks_given a ++ forward) =
+    polls.said
+    ∙ ap (λ (z : List (List ℕ)). (control_polled a).1 ++ z) exchanged
+    ∙ ap (λ (x : Shown × List (List ℕ)). x.1 ++ (pieces ++ acks_given a ++ forward)) (what_waits_goes_out a none) in
     let IsData : ChunkPayloadData → Type 0 = λ (c : ChunkPayloadData). Is (chunks.Data c) in
     let given =
     all_weaker (λ (c : ChunkPayloadData). (k : ℕ) × (slice_get (all_data_given acts (parts a h)) k ≡ Some c)) IsData
@@ -131,31 +165,58 @@ polls_say_their_acts acts forwards a b h packets =
     (all_filter IsData data_fits (all_data_given acts (parts a h)) given) in
     subst (AreOf Is) (sym said)
     (all_join Of (control_packets a.control) (pieces ++ acks_given a ++ forward)
-    (waiting_say Is a.control again plain
-    (all_weaker (λ (c : ControlPacket). (k : ℕ) × (slice_get a.control k ≡ Some c))
-    (λ (c : ControlPacket). Is c.chunk) a.control
-    (λ c there. inl (there.0, c, there.1, refl)) (each_there a.control)))
+    (waiting_say Is a.control again plain (all_wait_so a Is (λ chunk there. inl there)))
     (all_join Of (pieces ++ acks_given a) forward
     (all_join Of pieces (acks_given a)
-    (data_says Is (header_of a.handshake) polls.bundles (polls.data_again established) carried)
+    (data_says Is header polls.bundles (polls.data_again established) carried)
     (ack_says (is_due a.receiver.ack_state) Is a refl (polls.ack_again established)
     (λ due. inr (due, sacks_say_what_was_taken a h binds))))
-    (forward_says forwards Is (header_of a.handshake) b polls.forward_again (λ due. inr (due, refl)))))
+    (forward_says forwards Is header b polls.forward_again (λ due. inr (due, refl)))))
 
 exchange_nothing : (a : Shown) (now : ℕ) → is_established a.state ≡ false → exchange_polled a now ≡ (a, [])
 unfolding exchange_polled
 exchange_nothing a now e =
-    cond-false (is_established a.state) (forward_after (ack_after (data_polled a now))) (a, []) e
+    cond-false (is_established a.state) (forward_after (ack_after (requests_after (data_polled a now)))) (a, []) e
 
 pub polls_outside_established_give_what_waits : PollsOutsideEstablishedGiveWhatWaits
-polls_outside_established_give_what_waits a now e =
-    ap (λ (x : Shown × List (List ℕ)). after_both (control_packets a.control) x)
-    (exchange_nothing (without_control a) now e)
-    ∙ ap (λ (z : List (List ℕ)). (without_control a, z)) (append-nil (control_packets a.control))
+polls_outside_established_give_what_waits a now none e =
+    let b : Shown = without_control a in
+    let waiting = control_packets a.control in
+    ap (λ (x : Shown × List (List ℕ)). reconfig_run_after (exchange_after x now) now) (what_waits_goes_out a none)
+    ∙ ap (λ (x : Shown × List (List ℕ)). reconfig_run_after (after_both waiting x) now) (exchange_nothing b now e)
+    ∙ ap (λ (z : List (List ℕ)). (with_reconfig_run b now, z)) (append-nil waiting)
+    ∙ ap (λ (z : Shown). (z, waiting)) (no_request_is_timed b now none.active)
 
 pub what_waits_goes_out_as_it_is : WhatWaitsGoesOutAsItIs
 what_waits_goes_out_as_it_is a plain again =
-    waiting_say (IsWaitingToGo a) a.control again plain
-    (all_weaker (λ (c : ControlPacket). (k : ℕ) × (slice_get a.control k ≡ Some c))
-    (λ (c : ControlPacket). IsWaitingToGo a c.chunk) a.control
-    (λ c there. (there.0, c, there.1, refl)) (each_there a.control))
+    waiting_say (IsWaitingToGo a) a.control again plain (all_wait_so a (IsWaitingToGo a) (λ chunk there. there))
+
+-- no reset goes out where none is under way
+
+waiting_no_reset : (a : Shown) (chunk : Chunk) → HasNoReset a → IsWaitingToGo a chunk → IsNoReconfig chunk
+waiting_no_reset a chunk none (k, c, there, same) =
+    subst IsNoReconfig same (all_get IsOfNoReset a.control k (controls.Packet c) there none.control)
+
+exchanged_no_reset : (acts : List Act) (forwards : Bool) (a b : Shown) (h : History) (chunk : Chunk)
+    → IsExchanged acts forwards a b h chunk → IsNoReconfig chunk
+exchanged_no_reset acts forwards a b h (chunks.Data x) g = tt
+exchanged_no_reset acts forwards a b h (chunks.SelectiveAck x) g = tt
+exchanged_no_reset acts forwards a b h (chunks.ForwardTsn x) g = tt
+exchanged_no_reset acts forwards a b h (chunks.Init x) g = tt
+exchanged_no_reset acts forwards a b h (chunks.InitAck x) g = tt
+exchanged_no_reset acts forwards a b h (chunks.Heartbeat x) g = tt
+exchanged_no_reset acts forwards a b h (chunks.HeartbeatAck x) g = tt
+exchanged_no_reset acts forwards a b h (chunks.Abort x) g = tt
+exchanged_no_reset acts forwards a b h (chunks.Shutdown x) g = tt
+exchanged_no_reset acts forwards a b h chunks.ShutdownAck g = tt
+exchanged_no_reset acts forwards a b h (chunks.Error x) g = tt
+exchanged_no_reset acts forwards a b h (chunks.CookieEcho x) g = tt
+exchanged_no_reset acts forwards a b h chunks.CookieAck g = tt
+exchanged_no_reset acts forwards a b h chunks.ShutdownComplete g = tt
+exchanged_no_reset acts forwards a b h (chunks.Reconfig x) g = absurd g
+exchanged_no_reset acts forwards a b h (chunks.IForwardTsn x) g = tt
+exchanged_no_reset acts forwards a b h (chunks.Other kind flags value) g = tt
+
+pub no_reset_goes_out : NoResetGoesOut
+no_reset_goes_out acts forwards a b h chunk none (inl waits) = waiting_no_reset a chunk none waits
+no_reset_goes_out acts forwards a b h chunk none (inr given) = exchanged_no_reset acts forwards a b h chunk given

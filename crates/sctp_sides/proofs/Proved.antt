@@ -3,7 +3,9 @@ pub use Rattle.sctp_assoc.proofs.ActsKeepOffsets.{acts_tied, done_append, given_
 pub use Rattle.sctp_sides.proofs.PacketLaws.{chunks_lead_on, established_is_not_closed, exhaustion_closes, faults_close}
 pub use Rattle.sctp_sides.proofs.PacketLaws.{lost_associations_take_nothing, no_packet_changes_nothing, packets_carry}
 pub use Rattle.sctp_sides.proofs.PacketLaws.{packets_end}
-pub use Rattle.sctp_assoc.proofs.CallsLeadOn.{open_leads_on, plain_read_leads, poll_leads_on, read_leads_on}
+pub use Rattle.sctp_assoc.proofs.CallsLeadOn.{open_leads_on, poll_leads_on}
+pub use Rattle.sctp_assoc.proofs.ReadsLeadOn.{plain_read_leads, read_leads_on}
+pub use Rattle.sctp_sides.proofs.QuietPackets.{quiet_packets_carry}
 pub use Rattle.sctp_assoc.proofs.CallsLeadOn.{timeouts_lead_on}
 pub use Rattle.sctp_assoc.proofs.CallsLeadOn.{close_leads_on, accept_leads_on, limit_leads_on, setting_leads_on}
 pub use Rattle.sctp_assoc.proofs.CallsLeadOn.{write_leads_on}
@@ -13,7 +15,8 @@ pub use Rattle.sctp_sides.proofs.LiveStreams.{what_holds_nothing_gives_nothing}
 pub use Rattle.sctp_sides.proofs.HandshakeChunks.{established_sides_talk, the_same_handshake_is_the_same_stage}
 pub use Rattle.sctp_assoc.proofs.PollsLeadOn.{forwardings_are_silent, reports_are_silent}
 pub use Rattle.sctp_sides.proofs.PolledPackets.{polls_outside_established_give_what_waits, polls_say_their_acts}
-pub use Rattle.sctp_sides.proofs.PolledPackets.{what_waits_goes_out_as_it_is}
+pub use Rattle.sctp_sides.proofs.PolledPackets.{no_reset_goes_out, what_waits_goes_out_as_it_is}
+pub use Rattle.sctp_sides.proofs.WithoutResets.{what_waits_goes_out}
 pub use Rattle.sctp_sides.proofs.ActsOfChunks.{data_opens_or_takes, greetings_make_the_peer_known}
 pub use Rattle.sctp_sides.proofs.ActsOfChunks.{forwards_pass_over, i_forwards_pass_over}
 pub use Rattle.sctp_sides.proofs.ActsOfChunks.{only_forwards_ahead_pass_over, other_chunks_do_nothing}
@@ -22,9 +25,16 @@ pub use Rattle.sctp_sides.proofs.ActsOfChunks.{other_sacks_do_nothing, polls_giv
 pub use Rattle.sctp_sides.proofs.ActsOfChunks.{taken_sacks_acknowledge, timeouts_mark_at_most}
 pub use Rattle.sctp_sides.proofs.Status.{opened_streams_keep_the_status, polls_keep_the_status, reads_keep_the_status}
 pub use Rattle.sctp_sides.proofs.Status.{accepted_streams_keep_the_status, limits_keep_the_status}
-pub use Rattle.sctp_sides.proofs.Status.{settings_keep_the_status}
+pub use Rattle.sctp_sides.proofs.Status.{reads_change_streams_alone, settings_keep_the_status}
 pub use Rattle.sctp_sides.proofs.Status.{timers_keep_the_status, told_events_keep_the_status, writes_keep_the_status}
 pub use Rattle.sctp_sides.proofs.ClosingCalls.{accepted_streams_do_not_close, closes_close, settings_do_not_close}
 pub use Rattle.sctp_sides.proofs.HandshakeTruth.{greetings_stay_true}
 pub use Rattle.sctp_sides.proofs.FirstBegunRuns.{created_sides_have_nothing_to_send, joined_sides_have_nothing_to_send}
 pub use Rattle.sctp_sides.proofs.PollsInTime.{nothing_late_goes_out}
+pub use Rattle.sctp_sides.proofs.BeginsNoReset.{accepted_streams_begin_no_reset, closes_begin_no_reset}
+pub use Rattle.sctp_sides.proofs.BeginsNoReset.{created_sides_reset_nothing, exhaustion_begins_no_reset}
+pub use Rattle.sctp_sides.proofs.BeginsNoReset.{joined_sides_reset_nothing, limits_begin_no_reset}
+pub use Rattle.sctp_sides.proofs.BeginsNoReset.{opened_streams_begin_no_reset, other_chunks_begin_no_reset}
+pub use Rattle.sctp_sides.proofs.BeginsNoReset.{packet_ends_begin_no_reset, polls_begin_no_reset, reads_begin_no_reset}
+pub use Rattle.sctp_sides.proofs.BeginsNoReset.{settings_begin_no_reset, timers_begin_no_reset}
+pub use Rattle.sctp_sides.proofs.BeginsNoReset.{told_events_begin_no_reset, writes_begin_no_reset}

@@ -1,14 +1,13 @@
 -- A piece of a message that may be sent again n times is given out at most n + 1 times, over every list of calls.
 use Rattle.std.proofs.Common.{◌≡◌, refl, sym, ap, ◌∙◌, subst, ◌⊎◌, ⊎_elim, inl, inr, ℕ, ◌+◌, ◌≤◌, Bool, true, false}
-use Rattle.std.proofs.Common.{◌<◌, ◌-◌, ◌^◌, if◌then◌else◌, List, [], ◌∷◌, ◌++◌, Option, Some, None}
+use Rattle.std.proofs.Common.{◌<◌, ◌-◌, ◌^◌, if◌then◌else◌, not, is_some, List, [], ◌∷◌, ◌++◌, Option, Some, None}
+use Rattle.std.proofs.Common.{Result, Ok, Err}
 use Rattle.std.proofs.lemmas.Bool.{false≢true}
 use Rattle.std.specs.Prelude.{⊤}
 use Rattle.std.specs.List.{AllByRecursion}
 use Rattle.sctp_wire_types.specs.declared.chunk.Chunk.{Chunk}
 use Rattle.sctp_wire_types.specs.declared.chunk.Chunk.TheVariants as chunks
-use Rattle.sctp_wire_types.specs.declared.chunk.ChunkInit.{ChunkInit}
 use Rattle.sctp_wire_types.specs.declared.chunk.ChunkPayloadData.{ChunkPayloadData}
-use Rattle.sctp_wire_types.specs.declared.chunk.ChunkSelectiveAck.{ChunkSelectiveAck}
 use Rattle.sctp_wire_types.specs.declared.chunk.SkippedStream.{SkippedStream}
 use Rattle.sctp_wire_types.specs.declared.packet.CommonHeader.{CommonHeader}
 use Rattle.sctp_wire_types.specs.Checks.{checked_chunk}
@@ -30,10 +29,32 @@ use Rattle.sctp_assoc.specs.Shown.{Shown, uses_forward_tsn}
 use Rattle.sctp_assoc.proofs.ActsKeepOffsets.{can_append}
 use Rattle.sctp_sides.specs.Lifetimes.{DoInOrder, GivesUnder, RetriesAreKept, acts_of_call, times_given}
 use Rattle.sctp_sides.specs.OneSide.{Call, FailsInside, IsCarriedOut, IsFresh, IsUnchanged, carried_out}
-use Rattle.sctp_sides.specs.SideLaws.{IsPassingOver, IsPeerKnown, IsTaking}
-use Rattle.sctp_sides.proofs.ActsOfChunks.{checked_sack, data_opens_or_takes, forwards_pass_over}
-use Rattle.sctp_sides.proofs.ActsOfChunks.{greetings_make_the_peer_known, i_forwards_pass_over, other_chunks_do_nothing}
+use Rattle.sctp_wire_types.specs.declared.chunk.GapAckBlock.{GapAckBlock}
+use Rattle.sctp_wire_types.specs.declared.error.Error.{Error}
+use Rattle.sctp_wire_types.specs.declared.param.Param.{Param}
+use Rattle.sctp_wire_types.specs.declared.param.Param.TheVariants as params
+use Rattle.sctp_streams.specs.Streams.{StreamMap, generation_left, read_in, refusal_in, stream_at}
+use Rattle.sctp_inbound.specs.Handshake.{comes_back}
+use Rattle.sctp_inbound.specs.Receiver.{admits, is_new_to}
+use Rattle.sctp_outbound.specs.declared.sender.SackOutcome.{SackOutcome}
+use Rattle.sctp_outbound.specs.declared.sender.SackOutcome.TheVariants as outcomes
+use Rattle.sctp_outbound.specs.Sender.{sack_outcome}
+use Rattle.sctp_generations.specs.Generations.{has_retiring, has_skips}
+use Rattle.sctp_resets.specs.Concerned.{in_reset, retiring_ids, skipped_ids}
+use Rattle.sctp_resets.specs.Resets.{is_hidden, is_retiring, refusal_of}
+use Rattle.sctp_assoc.specs.Calls.{drained_behind, is_beginning, is_cookie_wait}
+use Rattle.sctp_assoc.specs.Chunks.{counted_data, deferred_where_admitted, stream_found, taken_in, taken_where_admitted}
+use Rattle.sctp_assoc.specs.Happened.{acts_of_checked, acts_of_data, acts_of_deferring, acts_of_forward}
+use Rattle.sctp_assoc.specs.Happened.{acts_of_found, acts_of_hidden, acts_of_kind, acts_of_outcome}
+use Rattle.sctp_assoc.specs.Happened.{acts_of_skips_behind, acts_of_stream, acts_of_taking}
+use Rattle.sctp_assoc.specs.Happened.{acts_of_taking_where_admitted, acts_unless_faulty, acts_unless_refused}
+use Rattle.sctp_assoc.specs.ResetActs.{acts_of_draining, acts_of_keeping, acts_of_param, acts_of_second}
+use Rattle.sctp_assoc.specs.ResetActs.{acts_of_settling, spans_end_if}
+use Rattle.sctp_assoc.specs.Resets.{after_param, settled, settling_takes_memory, skips_applied_of}
+use Rattle.sctp_assoc.specs.Shown.{all_waiting}
+use Rattle.sctp_assoc.specs.Skipping.{skips_of, with_passed, with_skips}
 use Rattle.sctp_sides.proofs.ActsOfChunks.{timeouts_mark_at_most}
+use Rattle.sctp_sides.proofs.ForwardKinds.{acts_are_one_of}
 use Rattle.sctp_sides.proofs.ForwardTsnSettled.{IsSettled, carried_settles}
 use Rattle.sctp_sides.proofs.RetriesInPolls.{polls_spare, spare_join}
 use Rattle.sctp_sides.proofs.SentCounts.{none_stand, stand_as}
@@ -66,43 +87,131 @@ some_if false xs h = tt
 close_acts : (a : Shown) → GiveNoneAgain (acts_of_close a)
 close_acts a = none_if (is_closed_state a.state) (Act.Ended ∷ []) (tt, tt)
 
+either_if : (c : Bool) (xs ys : List Act) → GiveNoneAgain xs → GiveNoneAgain ys
+    → GiveNoneAgain (if c then xs else ys)
+either_if true xs ys h k = h
+either_if false xs ys h k = k
+
+-- both, one after the other
+join_acts : (xs ys : List Act) → GiveNoneAgain xs → GiveNoneAgain ys → GiveNoneAgain (xs ++ ys)
+join_acts xs ys h k = all_join GivesNoneAgain xs ys h k
+
+spans_acts : (c : Bool) (ids : List ℕ) (m : StreamMap) → GiveNoneAgain (spans_end_if c ids m)
+spans_acts true ids m = (tt, tt)
+spans_acts false ids m = tt
+
+settling_acts : (a : Shown) → GiveNoneAgain (acts_of_settling a)
+settling_acts a = spans_acts (settling_takes_memory a) (in_reset a.resets a.streams) (settled a).streams
+
 read_acts : (a : Shown) (id : ℕ) → GiveNoneAgain (acts_of_read a id)
-read_acts a id = (tt, some_if (read_exhausts a id) (acts_of_close a) (close_acts a))
+read_acts a id = (
+  tt,
+  join_acts (acts_of_draining a id (read_in a.streams id).0) (if read_exhausts a id then acts_of_close a else [])
+      (spans_acts (is_retiring a.resets id) (id ∷ []) (drained_behind a id (read_in a.streams id).0).streams)
+      (some_if (read_exhausts a id) (acts_of_close a) (close_acts a)),
+)
 
-taking_acts : (a : Shown) (piece : ChunkPayloadData) (xs : List Act) → IsTaking a piece xs → GiveNoneAgain xs
-taking_acts a piece xs (inl e) = rw e tt
-taking_acts a piece xs (inr (inl t)) = rw t.are (tt, tt)
-taking_acts a piece xs (inr (inr (inl t))) = rw t.are (tt, (tt, tt))
-taking_acts a piece xs (inr (inr (inr t))) = rw t.are (tt, tt)
+unrefused_acts : (o : Option Error) (act : Act) → GivesNoneAgain act → GiveNoneAgain (acts_unless_refused o act)
+unrefused_acts None act h = (h, tt)
+unrefused_acts (Some error) act h = tt
 
-known_acts : (init : ChunkInit) (xs : List Act) → IsPeerKnown init xs → GiveNoneAgain xs
-known_acts init xs (inl e) = rw e tt
-known_acts init xs (inr e) = rw e (tt, tt)
+skips_acts : (x : Shown × Option Error) (id : ℕ) → GiveNoneAgain (acts_of_skips_behind x id)
+skips_acts (b, None) id =
+    spans_acts (has_skips b.resets.generations) (skipped_ids b.resets.generations) (skips_applied_of id b).streams
+skips_acts (b, Some error) id = tt
 
-passing_acts : (tsn : ℕ) (skipped : List SkippedStream) (xs : List Act) → IsPassingOver tsn skipped xs
-    → GiveNoneAgain xs
-passing_acts tsn skipped xs (inl e) = rw e tt
-passing_acts tsn skipped xs (inr e) = rw e (tt, tt)
+unfaulty_acts : (x : Shown × Option Error) → GiveNoneAgain (acts_unless_faulty x)
+unfaulty_acts (b, None) = settling_acts b
+unfaulty_acts (b, Some error) = tt
 
-sack_acts : (a : Shown) (header : CommonHeader) (sack : ChunkSelectiveAck)
-    → GiveNoneAgain (acts_of_chunk a header (chunks.SelectiveAck sack))
-sack_acts a header sack =
-    ⊎_elim (λ e. rw e tt) (λ e. rw e (tt, tt))
-    (checked_sack (checked_chunk (chunks.SelectiveAck sack)) a header sack)
+taking_acts : (b : Shown) (piece : ChunkPayloadData) → GiveNoneAgain (acts_of_taking_where_admitted b piece)
+taking_acts b piece =
+    some_if (admits b.receiver piece.tsn (all_waiting b)) _
+    (join_acts (acts_of_taking b piece) (acts_of_skips_behind (taken_in b piece) piece.stream_identifier)
+    (unrefused_acts (refusal_in b.streams piece.stream_identifier piece b.receiver.max_receive_message_size)
+    (Act.Took piece) tt) (skips_acts (taken_in b piece) piece.stream_identifier))
+
+found_acts : (x : Shown × Bool) (piece : ChunkPayloadData) → GiveNoneAgain (acts_of_found x piece)
+found_acts (b, false) piece = tt
+found_acts (b, true) piece =
+    join_acts (acts_of_taking_where_admitted b piece) (acts_unless_faulty (taken_where_admitted b piece))
+    (taking_acts b piece) (unfaulty_acts (taken_where_admitted b piece))
+
+stream_acts : (a : Shown) (id : ℕ) → GiveNoneAgain (acts_of_stream a id)
+stream_acts a id =
+    none_if (is_some (stream_at a.streams id)) _ (some_if (generation_left a.streams) (Act.Opened id _ _ ∷ []) (tt, tt))
+
+hidden_acts : (b : Shown) (piece : ChunkPayloadData) → GiveNoneAgain (acts_of_hidden b piece)
+hidden_acts b piece =
+    join_acts (acts_of_deferring b piece) (acts_unless_faulty (deferred_where_admitted b piece))
+    (some_if (admits b.receiver piece.tsn (all_waiting b)) _
+    (unrefused_acts (refusal_of b.resets piece b.receiver.max_receive_message_size) (Act.Deferred piece) tt))
+    (unfaulty_acts (deferred_where_admitted b piece))
+
+data_acts : (a : Shown) (piece : ChunkPayloadData) → GiveNoneAgain (acts_of_data a piece)
+data_acts a piece =
+    let b : Shown = counted_data a in
+    let id = piece.stream_identifier in
+    either_if (not (is_new_to b.receiver piece.tsn)) (acts_of_settling b) _ (settling_acts b)
+    (either_if (is_hidden b.resets id piece.tsn) (acts_of_hidden b piece) _ (hidden_acts b piece)
+    (join_acts (acts_of_stream b id) (acts_of_found (stream_found b id) piece) (stream_acts b id)
+    (found_acts (stream_found b id) piece)))
+
+outcome_acts : (o : SackOutcome) (n missing : ℕ) (blocks : List GapAckBlock)
+    → GiveNoneAgain (acts_of_outcome o n blocks missing)
+outcome_acts outcomes.Older n missing blocks = tt
+outcome_acts outcomes.NotInFlight n missing blocks = tt
+outcome_acts outcomes.NamesTheUnsent n missing blocks = tt
+outcome_acts outcomes.Taken n missing blocks = (tt, tt)
+
+forward_acts : (a : Shown) (tsn : ℕ) (skips : List SkippedStream) → GiveNoneAgain (acts_of_forward a tsn skips)
+forward_acts a tsn skips =
+    acts_are_one_of tsn skips (λ b xs. GiveNoneAgain xs) (λ b e. tt) (λ b e f. tt)
+    (λ b e f. (
+      tt,
+      join_acts (acts_of_keeping tsn skips b) (acts_of_settling (with_passed (with_skips tsn skips b) tsn))
+          (spans_acts (has_retiring b.resets.generations) (retiring_ids b.resets.generations)
+          (with_passed (with_skips tsn skips b) tsn).streams)
+          (settling_acts (with_passed (with_skips tsn skips b) tsn)),
+    ))
+    a
+
+param_acts : (a : Shown) (param : Param) → GiveNoneAgain (acts_of_param a param)
+param_acts a (params.OutgoingResetRequest request) = (tt, tt)
+param_acts a (params.ReconfigResponse response) = (tt, tt)
+param_acts a param = tt
+
+second_acts : (x : Shown × Bool) (o : Option Param) → GiveNoneAgain (acts_of_second x o)
+second_acts (b, true) (Some param) = param_acts b param
+second_acts (b, true) None = tt
+second_acts (b, false) param = tt
+
+kind_acts : (a : Shown) (header : CommonHeader) (c : Chunk) → GiveNoneAgain (acts_of_kind a header c)
+kind_acts a header (chunks.Data piece) = data_acts a piece
+kind_acts a header (chunks.SelectiveAck sack) =
+    some_if (is_established a.state) _
+    (outcome_acts (sack_outcome a.sender sack.cumulative_tsn_ack sack.gap_ack_blocks) _ _ sack.gap_ack_blocks)
+kind_acts a header (chunks.Init init) =
+    some_if (is_beginning a.state) (Act.PeerKnown init.initial_tsn ∷ []) (tt, tt)
+kind_acts a header (chunks.InitAck init) =
+    some_if (is_cookie_wait a.state) _
+    (some_if (comes_back a.handshake header) (Act.PeerKnown init.initial_tsn ∷ []) (tt, tt))
+kind_acts a header (chunks.ForwardTsn forward) =
+    forward_acts a forward.new_cumulative_tsn forward.streams
+kind_acts a header (chunks.IForwardTsn forward) =
+    forward_acts a forward.new_cumulative_tsn (skips_of forward.entries)
+kind_acts a header (chunks.Reconfig reconfig) =
+    join_acts (acts_of_param a reconfig.first) (acts_of_second (after_param reconfig.first a) reconfig.second)
+    (param_acts a reconfig.first) (second_acts (after_param reconfig.first a) reconfig.second)
+kind_acts a header c = tt
+
+checked_acts : (r : Result (Unit {0}) Error) (a : Shown) (header : CommonHeader) (c : Chunk)
+    → GiveNoneAgain (acts_of_checked r a header c)
+checked_acts (Err fault) a header c = tt
+checked_acts (Ok done) a header c = kind_acts a header c
 
 chunk_acts : (a : Shown) (header : CommonHeader) (c : Chunk) → GiveNoneAgain (acts_of_chunk a header c)
-chunk_acts a header (chunks.Data piece) =
-    taking_acts a piece (acts_of_chunk a header (chunks.Data piece)) (data_opens_or_takes a header piece)
-chunk_acts a header (chunks.SelectiveAck sack) = sack_acts a header sack
-chunk_acts a header (chunks.Init init) =
-    known_acts init (acts_of_chunk a header (chunks.Init init)) (greetings_make_the_peer_known a header init).0
-chunk_acts a header (chunks.InitAck init) =
-    known_acts init (acts_of_chunk a header (chunks.InitAck init)) (greetings_make_the_peer_known a header init).1
-chunk_acts a header (chunks.ForwardTsn forward) =
-    passing_acts _ _ (acts_of_chunk a header (chunks.ForwardTsn forward)) (forwards_pass_over a header forward)
-chunk_acts a header (chunks.IForwardTsn forward) =
-    passing_acts _ _ (acts_of_chunk a header (chunks.IForwardTsn forward)) (i_forwards_pass_over a header forward)
-chunk_acts a header c = subst GiveNoneAgain (sym (other_chunks_do_nothing a header c tt)) tt
+chunk_acts a header c = checked_acts (checked_chunk c) a header c
 
 after_acts : (x : Shown × Flow) (more : Shown → AckTrigger → List Act)
     → ((b : Shown) (trigger : AckTrigger) → GiveNoneAgain (more b trigger)) → GiveNoneAgain (acts_after x more)

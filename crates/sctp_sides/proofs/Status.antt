@@ -2,7 +2,8 @@
 -- size.
 use Rattle.std.proofs.Common.{◌++◌, ◌≡◌, refl, sym, ap, ◌∙◌, ℕ, zero, suc, Bool, true, false, ◌&&◌, if◌then◌else◌, not}
 use Rattle.std.proofs.Common.{eqb}
-use Rattle.std.proofs.Common.{List, [], ◌∷◌, length, Option, Some, None, is_some, Result, Ok, Err}
+use Rattle.std.proofs.Common.{List, [], ◌∷◌, fold, length, take, Option, Some, None, is_some, Result, Ok, Err}
+use Rattle.std.specs.List.{AllByRecursion}
 use Rattle.sctp_wire_types.specs.declared.chunk.Chunk.{Chunk}
 use Rattle.sctp_wire_types.specs.declared.chunk.Chunk.TheVariants as chunks
 use Rattle.sctp_wire_types.specs.declared.chunk.ChunkPayloadData.{ChunkPayloadData}
@@ -12,12 +13,48 @@ use Rattle.sctp_wire_types.specs.declared.packet.CommonHeader.{CommonHeader}
 use Rattle.sctp_wire_types.specs.Checks.{checked_chunk}
 use Rattle.sctp_parts.specs.declared.state.AssociationState.TheVariants as states
 use Rattle.sctp_parts.specs.declared.timer.Timer.TheVariants as names
-use Rattle.sctp_parts.specs.Timers.{expiry_of}
+use Rattle.sctp_parts.specs.Timers.{expiry_of, started}
+use Rattle.sctp_wire_types.specs.declared.chunk.ChunkReconfig.{ChunkReconfig}
+use Rattle.sctp_wire_types.specs.declared.event.StreamResetError.TheVariants as failures
+use Rattle.sctp_wire_types.specs.declared.param.Param.{Param}
+use Rattle.sctp_wire_types.specs.declared.param.Param.TheVariants as params
+use Rattle.sctp_wire_types.specs.declared.param.ParamOutgoingResetRequest.{ParamOutgoingResetRequest}
+use Rattle.sctp_wire_types.specs.declared.param.ParamReconfigResponse.{ParamReconfigResponse}
+use Rattle.sctp_wire_types.specs.declared.param.ReconfigResult.{ReconfigResult}
+use Rattle.sctp_wire_types.specs.declared.param.ReconfigResult.TheVariants as results
+use Rattle.sctp_wire.specs.DataPackets.{datagrams_of}
+use Rattle.sctp_reset_requests.specs.declared.own_request.OwnRequest.{OwnRequest}
+use Rattle.sctp_reset_requests.specs.Debts.{DebtsView}
+use Rattle.sctp_reset_requests.specs.Own as own_requests
+use Rattle.sctp_reset_requests.specs.Own.{OwnView}
+use Rattle.sctp_resets.specs.declared.answers.TimerChange.{TimerChange}
+use Rattle.sctp_resets.specs.declared.performing.Handled.{Handled}
+use Rattle.sctp_resets.specs.declared.performing.Settled.{Settled}
+use Rattle.sctp_resets.specs.Answers.{Answering, answering, failed_each, with_told}
+use Rattle.sctp_resets.specs.Resets.{Beside, ResetsView, Resetting, event_told, given_up, given_up_where, is_hidden}
+use Rattle.sctp_resets.specs.Resets.{is_retiring, refusal_of, request_again, request_asked, request_sent, responded}
+use Rattle.sctp_resets.specs.Resets.{skips_done, skips_done_of}
+use Rattle.sctp_resets.specs.Resets as resets
+use Rattle.sctp_assoc.specs.declared.control.Control.{Control}
+use Rattle.sctp_assoc.specs.declared.control.Control.TheVariants as controls
+use Rattle.sctp_assoc.specs.declared.inbound.Flow.{Flow}
+use Rattle.sctp_assoc.specs.Calls.{drained_behind}
+use Rattle.sctp_assoc.specs.Chunks.{asks, asks_or_faults, deferred_unless, deferred_where_admitted, taken_unless}
+use Rattle.sctp_assoc.specs.Chunks.{taken_where_admitted, then_skips, with_message}
+use Rattle.sctp_assoc.specs.Gather.{IsPlainControl, ack_after, control_polled, exchange_after, first_request_behind}
+use Rattle.sctp_assoc.specs.Gather.{first_request_polled, forward_after, forward_polled, is_due, reconfig_run_after}
+use Rattle.sctp_assoc.specs.Gather.{repeat_polled, request_made, requests_after, requests_polled, with_control_given}
+use Rattle.sctp_assoc.specs.Gather.{with_request_again, with_request_asked, with_request_placed, with_request_sent}
+use Rattle.sctp_assoc.specs.Gather.{without_last}
+use Rattle.sctp_assoc.specs.Resets.{after_param, after_reconfig_timer, asking_if, asks_again, behind_first, behind_params}
+use Rattle.sctp_assoc.specs.Resets.{channels_of, gives_up, handled_with, on_reconfig, on_request, on_response}
+use Rattle.sctp_assoc.specs.Resets.{reconfig_expired, responded_with, responding, settled, settled_with, stopped_if}
+use Rattle.sctp_assoc.specs.Resets.{with_answer, with_beside, with_resetting}
 use Rattle.sctp_outbound_queue.specs.Waiting.{Waiting}
 use Rattle.sctp_outbound_queue.specs.Outbound.{pieces_waiting}
 use Rattle.sctp_streams.specs.declared.event.Event.{Event}
 use Rattle.sctp_streams.specs.Stream.{StreamView}
-use Rattle.sctp_streams.specs.Streams.{StreamMap, bytes_waiting, generation_left, is_readable_in, pushed_in, refusal_in}
+use Rattle.sctp_streams.specs.Streams.{StreamMap, generation_left, is_readable_in, pushed_in, refusal_in}
 use Rattle.sctp_streams.specs.Streams.{stream_at}
 use Rattle.sctp_inbound.specs.declared.receiver.AckTrigger.{AckTrigger}
 use Rattle.sctp_inbound.specs.declared.handshake.Offer.{Offer}
@@ -34,39 +71,38 @@ use Rattle.sctp_outbound.specs.Sender.{sack_outcome, sent_new, sent_one, sent_wi
 use Rattle.sctp_wire_types.specs.declared.ids.PayloadProtocolIdentifier.{PayloadProtocolIdentifier}
 use Rattle.sctp_assoc.specs.Calls.{accepted_from, after_ack_delay, after_t3, event_from, is_beginning, is_cookie_echoed}
 use Rattle.sctp_assoc.specs.Calls.{is_cookie_wait, is_established, retransmits, t3_expired, written_at}
-use Rattle.sctp_assoc.specs.Chunks.{checked_first, counted_data, dispatched, on_counted_data, counted_sack}
+use Rattle.sctp_assoc.specs.Chunks.{checked_first, counted_data, dispatched, counted_sack}
 use Rattle.sctp_assoc.specs.Chunks.{on_chunk, on_counted_sack, on_data, on_new_data, on_sack, stream_found, taken_in}
 use Rattle.sctp_assoc.specs.Chunks.{told}
 use Rattle.sctp_assoc.specs.Handshake.{after_t1_init, cookie_queued, echoed, information_returned, init_queued}
 use Rattle.sctp_assoc.specs.Handshake.{on_cookie_ack, on_cookie_echo, on_heartbeat, on_init, on_init_ack, sends_cookie}
 use Rattle.sctp_assoc.specs.Handshake.{sends_init, t1_cookie_expired, t1_init_expired}
-use Rattle.sctp_assoc.specs.Gather.{ack_polled, control_packets, data_polled, exchange_polled, single_chunk_packet}
+use Rattle.sctp_assoc.specs.Gather.{ack_polled, data_polled, exchange_polled, single_chunk_packet}
 use Rattle.sctp_assoc.specs.Gather.{without_control}
 use Rattle.sctp_assoc.specs.Skipping.{acknowledged_at_once as forward_acknowledged}
-use Rattle.sctp_assoc.specs.Skipping.{on_forward, skips_of, unrecognized_chunk, with_passed, with_skips}
+use Rattle.sctp_assoc.specs.Skipping.{asks_behind, on_forward, skips_of, unrecognized_chunk, with_passed, with_skip}
+use Rattle.sctp_assoc.specs.Skipping.{with_skips}
 use Rattle.sctp_wire_types.specs.declared.chunk.SkippedStream.{SkippedStream}
-use Rattle.sctp_directions.specs.Acts.{skipped_each}
 use Rattle.sctp_outbound.specs.Abandonment.{abandoned_of, first_dropped, tail_given_up}
-use Rattle.sctp_assoc.proofs.PassesOver.{asks_behind_keeps, skips_are}
 use Rattle.sctp_sides.proofs.ForwardKinds.{forward_is_one_of}
-use Rattle.sctp_sides.proofs.GivingUpKeeps.{KeptByPolls, after_data, after_is, data_poll_kept}
+use Rattle.sctp_sides.proofs.GivingUpKeeps.{KeptByPolls, data_poll_kept}
+use Rattle.sctp_sides.proofs.WithoutResets.{nothing_is_drained}
 use Rattle.sctp_assoc.specs.Timeouts.{after_handshake_timers}
 use Rattle.sctp_sides.specs.SideLaws.{IsSameStatus, KeepsWorking, Leaves, LimitsKeepTheStatus}
 use Rattle.sctp_sides.specs.SideLaws.{OpenedStreamsKeepTheStatus}
-use Rattle.sctp_sides.specs.SideLaws.{PollsKeepTheStatus}
+use Rattle.sctp_sides.specs.SideLaws.{PollsKeepTheStatus, ReadsChangeStreamsAlone}
 use Rattle.sctp_sides.specs.SideLaws.{ReadsKeepTheStatus, TimersKeepTheStatus, ToldEventsKeepTheStatus}
 use Rattle.sctp_sides.specs.SideLaws.{AcceptedStreamsKeepTheStatus, SettingsKeepTheStatus, WritesKeepTheStatus}
-use Rattle.sctp_sides.specs.Meeting.{Greets, IsTruthful, stage_of}
+use Rattle.sctp_sides.specs.Meeting.{IsTruthful, SaysWhatIsSo, WaitsTruthfully, stage_of}
 use Rattle.sctp_assoc.specs.Control.{queued}
 use Rattle.sctp_inbound.specs.Greeting.{first_cookie, information_of, init_of}
 use Rattle.sctp_wire_types.specs.declared.chunk.ChunkInit.{ChunkInit}
 use Rattle.sctp_wire_types.specs.declared.chunk.ChunkHeartbeat.{ChunkHeartbeat}
 use Rattle.sctp_wire.specs.Packets.{packet_is_plain}
-use Rattle.sctp_assoc.specs.Shown.{Shown, uses_forward_tsn}
-use Rattle.sctp_assoc.proofs.CallsLeadOn.{asks_same}
-use Rattle.sctp_assoc.proofs.PollsLeadOn.{both_first}
-use Rattle.sctp_sides.proofs.HandshakeTruth.{keeps_saying, truthful_silent, truthful_still, truthful_with}
-use Rattle.sctp_assoc.proofs.CallsLeadOn.{asks_keeps}
+use Rattle.sctp_assoc.specs.Shown.{Shown, all_waiting, uses_forward_tsn}
+use Rattle.sctp_assoc.proofs.PartsOfPolls.{both_first}
+use Rattle.sctp_sides.proofs.HandshakeTruth.{keeps_saying, truthful_silent, truthful_still, truthful_still_by}
+use Rattle.sctp_sides.proofs.HandshakeTruth.{truthful_with}
 use Rattle.sctp_assoc.proofs.StreamReads.{message_given}
 use Rattle.sctp_assoc.specs.Calls.{after_read}
 use Rattle.sctp_assoc.specs.Closing.{exhausted, is_exhausted}
@@ -111,6 +147,107 @@ status_on a b c x y = record {
   truthful = λ own t. y.truthful own (x.truthful own t);
 }
 
+-- Resets of streams
+
+-- more waits, and is truthful
+more_waits : (a : Shown) (c : Control) → ((own : ℕ) → IsTruthful own a → WaitsTruthfully own (stage_of a) c)
+    → IsPlainControl c → IsSameStatus a (record a { control = a.control ++ c ∷ [] })
+more_waits a c says plain = record {
+  failed = refl;
+  state = refl;
+  lost = refl;
+  size = refl;
+  side = refl;
+  handshake = refl;
+  truthful = λ own t.
+      truthful_with own a (record a { control = a.control ++ c ∷ [] }) c t
+      (keeps_saying a (record a { control = a.control ++ c ∷ [] }) refl refl) refl (says own t) plain;
+}
+
+beside_status : (a : Shown) (x : Beside) → IsSameStatus a (with_beside a x)
+beside_status a (r, m, events) = status_by a _ refl refl refl refl refl refl refl
+
+resetting_status : (a : Shown) (x : Resetting) → IsSameStatus a (with_resetting a x)
+resetting_status a (r, c) = status_by a _ refl refl refl refl refl refl refl
+
+asking_status : (made : Bool) (a : Shown) → IsSameStatus a (asking_if made a)
+asking_status true a = more_waits a controls.OwnRequest (λ own t. tt) tt
+asking_status false a = status_same a
+
+responding_status : (a : Shown) (number : ℕ) (result : ReconfigResult) → IsSameStatus a (responding a number result)
+responding_status a number result = more_waits a _ (λ own t. tt) refl
+
+answer_status : (q : Option Settled) (a : Shown) → IsSameStatus a (with_answer q a)
+answer_status None a = status_same a
+answer_status (Some q) a =
+    status_on a (asking_if q.asks a) _ (asking_status q.asks a)
+    (responding_status (asking_if q.asks a) q.number results.SuccessPerformed)
+
+settled_with_status : (a : Shown) (x : Resetting × Option Settled) → IsSameStatus a (settled_with a x)
+settled_with_status a (s, answer) =
+    status_on a (with_resetting a s) _ (resetting_status a s) (answer_status answer (with_resetting a s))
+
+settled_status : (a : Shown) → IsSameStatus a (settled a)
+unfolding settled
+settled_status a =
+    let x =
+    resets.settled a.receiver.peer_last_tsn a.sender.queue.next_message_id a.receiver.max_receive_message_size a.resets
+    (channels_of a) in
+    let b : Shown = settled_with a x in
+    status_on a b _ (settled_with_status a x) (beside_status b (skips_done b.resets b.streams b.events))
+
+stopped_status : (confirms : Bool) (a : Shown) → IsSameStatus a (stopped_if confirms a)
+stopped_status true a = status_by a _ refl refl refl refl refl refl refl
+stopped_status false a = status_same a
+
+handled_status : (a : Shown) (number : ℕ) (x : Resetting × Handled) → IsSameStatus a (handled_with a number x)
+handled_status a number (s, h) =
+    let b : Shown = with_resetting a s in
+    let c : Shown = stopped_if h.confirms b in
+    let d : Shown = asking_if h.asks c in
+    status_on a b _ (resetting_status a s)
+    (status_on b c _ (stopped_status h.confirms b)
+    (status_on c d _ (asking_status h.asks c) (responding_status d number h.answer)))
+
+request_status : (a : Shown) (param : ParamOutgoingResetRequest) → IsSameStatus a (on_request a param)
+unfolding on_request
+request_status a param = handled_status a param.reconfig_request_sequence_number _
+
+responded_status : (a : Shown) (x : Beside × TimerChange) → IsSameStatus a (responded_with a x)
+responded_status a (b, change) =
+    let c : Shown = with_beside a b in
+    status_on a c _ (beside_status a b) (status_by c _ refl refl refl refl refl refl refl)
+
+response_status : (a : Shown) (response : ParamReconfigResponse) → IsSameStatus a (on_response a response)
+unfolding on_response
+response_status a response = responded_status a (responded response a.resets a.streams a.events)
+
+param_status : (param : Param) (a : Shown) → IsSameStatus a (after_param param a).0
+param_status (params.OutgoingResetRequest request) a = request_status a request
+param_status (params.ReconfigResponse response) a = response_status a response
+param_status (params.HeartbeatInfo value) a = status_same a
+param_status (params.StateCookie value) a = status_same a
+param_status (params.SupportedExtensions value) a = status_same a
+param_status (params.Other kind value) a = status_same a
+
+behind_status : (x : Shown × Bool) (trigger : AckTrigger) → IsSameStatus x.0 (behind_params x trigger).0
+behind_status (a, true) trigger = status_same a
+behind_status (a, false) trigger = status_same a
+
+first_status : (x : Shown × Bool) (second : Option Param) (trigger : AckTrigger)
+    → IsSameStatus x.0 (behind_first x second trigger).0
+first_status (a, true) None trigger = status_same a
+first_status (a, true) (Some second) trigger =
+    status_on a (after_param second a).0 _ (param_status second a) (behind_status (after_param second a) trigger)
+first_status (a, false) second trigger = status_same a
+
+reconfig_status : (a : Shown) (reconfig : ChunkReconfig) (trigger : AckTrigger)
+    → IsSameStatus a (on_reconfig a reconfig trigger).0
+unfolding on_reconfig
+reconfig_status a reconfig trigger =
+    let x = after_param reconfig.first a in
+    status_on a x.0 _ (param_status reconfig.first a) (first_status x reconfig.second trigger)
+
 -- DATA
 
 found_status : (there left : Bool) (a : Shown) (id : ℕ) → is_some (stream_at a.streams id) ≡ there
@@ -126,48 +263,97 @@ told_if true true a id e = rw e (status_by a _ refl refl refl refl refl refl ref
 told_if false true a id e = rw e (status_by a _ refl refl refl refl refl refl refl)
 told_if readable false a id e = status_by a _ refl refl refl refl refl refl refl
 
-taken_status : (refusal : Option Error) (a : Shown) (piece : ChunkPayloadData)
-    → refusal_in a.streams piece.stream_identifier piece a.receiver.max_receive_message_size ≡ refusal
-    → IsSameStatus a (taken_in a piece).0
+taken_unless_status : (refusal : Option Error) (a : Shown) (piece : ChunkPayloadData)
+    → IsSameStatus a (taken_unless refusal a piece).0
+taken_unless_status (Some fault) a piece = status_same a
+taken_unless_status None a piece = message_status a piece (pushed_in a.streams piece.stream_identifier piece)
+  where
+    message_status : (b : Shown) (p : ChunkPayloadData) (x : StreamMap × Bool) → IsSameStatus b (with_message b p x)
+    message_status b p (streams, kept) =
+        let c : Shown = record b { streams = streams; receiver = taken_to b.receiver p.tsn } in
+        status_on b c _ (status_by b c refl refl refl refl refl refl refl)
+        (told_if (is_readable_in streams p.stream_identifier) kept c p.stream_identifier refl)
+
+taken_status : (a : Shown) (piece : ChunkPayloadData) → IsSameStatus a (taken_in a piece).0
 unfolding taken_in
-taken_status (Some fault) a piece e = rw e (status_same a)
-taken_status None a piece e =
-    let put = pushed_in a.streams piece.stream_identifier piece in
-    let b : Shown = record a { streams = put.0; receiver = taken_to a.receiver piece.tsn } in
-    rw e (status_on a b _ (status_by a b refl refl refl refl refl refl refl)
-    (told_if (is_readable_in b.streams piece.stream_identifier) put.1 b piece.stream_identifier refl))
+taken_status a piece =
+    taken_unless_status (refusal_in a.streams piece.stream_identifier piece a.receiver.max_receive_message_size) a piece
 
-next_data_status : (there credit : Bool) (a : Shown) (piece : ChunkPayloadData) (trigger : AckTrigger)
-    → admits a.receiver piece.tsn (bytes_waiting a.streams) ≡ credit
-    → IsSameStatus a (on_new_data (a, there) piece trigger).0
-next_data_status false credit a piece trigger e = status_same a
-next_data_status true true a piece trigger e =
-    rw (e, asks_same (taken_in a piece) piece trigger)
-    (taken_status (refusal_in a.streams piece.stream_identifier piece a.receiver.max_receive_message_size) a piece refl)
-next_data_status true false a piece trigger e =
-    rw e (subst (λ (z : Shown). IsSameStatus a z) (sym (asks_keeps a piece trigger)) (status_same a))
+then_skips_status : (x : Shown × Option Error) (id : ℕ) → IsSameStatus x.0 (then_skips x id).0
+then_skips_status (a, None) id = beside_status a (skips_done_of id a.resets a.streams a.events)
+then_skips_status (a, Some fault) id = status_same a
 
-found_next_status : (x : Shown × Bool) (a : Shown) (piece : ChunkPayloadData) (trigger : AckTrigger)
-    → IsSameStatus a x.0 → IsSameStatus a (on_new_data x piece trigger).0
-found_next_status (b, there) a piece trigger h =
-    status_on a b _ h (next_data_status there (admits b.receiver piece.tsn (bytes_waiting b.streams)) b piece
-    trigger refl)
+admitted_status : (credit : Bool) (a : Shown) (piece : ChunkPayloadData)
+    → IsSameStatus a (if credit then then_skips (taken_in a piece) piece.stream_identifier else (a, None)).0
+admitted_status true a piece =
+    status_on a (taken_in a piece).0 _ (taken_status a piece)
+    (then_skips_status (taken_in a piece) piece.stream_identifier)
+admitted_status false a piece = status_same a
 
-counted_data_status : (next : Bool) (a : Shown) (piece : ChunkPayloadData) (trigger : AckTrigger)
-    → is_new_to a.receiver piece.tsn ≡ next
-    → IsSameStatus a (on_counted_data a piece trigger).0
-counted_data_status true a piece trigger e =
-    rw e (found_next_status (stream_found a piece.stream_identifier) a piece trigger
+deferred_unless_status : (refusal : Option Error) (a : Shown) (piece : ChunkPayloadData)
+    → IsSameStatus a (deferred_unless refusal a piece).0
+deferred_unless_status (Some fault) a piece = status_same a
+deferred_unless_status None a piece = status_by a _ refl refl refl refl refl refl refl
+
+deferred_if_status : (credit : Bool) (refusal : Option Error) (a : Shown) (piece : ChunkPayloadData)
+    → IsSameStatus a (if credit then deferred_unless refusal a piece else (a, None)).0
+deferred_if_status true refusal a piece = deferred_unless_status refusal a piece
+deferred_if_status false refusal a piece = status_same a
+
+deferred_status : (a : Shown) (piece : ChunkPayloadData) → IsSameStatus a (deferred_where_admitted a piece).0
+unfolding deferred_where_admitted
+deferred_status a piece =
+    deferred_if_status (admits a.receiver piece.tsn (all_waiting a))
+    (refusal_of a.resets piece a.receiver.max_receive_message_size) a piece
+
+flow_same : (e : Bool) (a : Shown) (f g : Flow) → (if◌then◌else◌ {A = Shown × Flow} e (a, f) (a, g)).0 ≡ a
+flow_same true a f g = refl
+flow_same false a f g = refl
+
+asks_status : (a : Shown) (immediate : Bool) (trigger : AckTrigger) → IsSameStatus a (asks a immediate trigger).0
+asks_status a immediate trigger =
+    subst (IsSameStatus a) (sym (flow_same (is_exhausted a) a _ _)) (status_same a)
+
+settled_asks_status : (a : Shown) (immediate : Bool) (trigger : AckTrigger)
+    → IsSameStatus a (asks (settled a) immediate trigger).0
+settled_asks_status a immediate trigger =
+    status_on a (settled a) _ (settled_status a) (asks_status (settled a) immediate trigger)
+
+faults_status : (x : Shown × Option Error) (immediate : Bool) (trigger : AckTrigger)
+    → IsSameStatus x.0 (asks_or_faults x immediate trigger).0
+faults_status (a, None) immediate trigger = settled_asks_status a immediate trigger
+faults_status (a, Some fault) immediate trigger = status_same a
+
+new_data_status : (x : Shown × Bool) (piece : ChunkPayloadData) (trigger : AckTrigger)
+    → IsSameStatus x.0 (on_new_data x piece trigger).0
+new_data_status (a, false) piece trigger = status_same a
+new_data_status (a, true) piece trigger =
+    status_on a (taken_where_admitted a piece).0 _
+    (admitted_status (admits a.receiver piece.tsn (all_waiting a)) a piece)
+    (faults_status (taken_where_admitted a piece) piece.immediate_sack trigger)
+
+counted_data_status : (next hidden : Bool) (a : Shown) (piece : ChunkPayloadData) (trigger : AckTrigger)
+    → IsSameStatus a
+    (if not next then asks (settled a) piece.immediate_sack trigger else
+    if hidden then asks_or_faults (deferred_where_admitted a piece) piece.immediate_sack trigger else
+    on_new_data (stream_found a piece.stream_identifier) piece trigger).0
+counted_data_status false hidden a piece trigger = settled_asks_status a piece.immediate_sack trigger
+counted_data_status true true a piece trigger =
+    status_on a (deferred_where_admitted a piece).0 _ (deferred_status a piece)
+    (faults_status (deferred_where_admitted a piece) piece.immediate_sack trigger)
+counted_data_status true false a piece trigger =
+    status_on a (stream_found a piece.stream_identifier).0 _
     (found_status (is_some (stream_at a.streams piece.stream_identifier)) (generation_left a.streams) a
-    piece.stream_identifier refl refl))
-counted_data_status false a piece trigger e =
-    rw e (subst (λ (z : Shown). IsSameStatus a z) (sym (asks_keeps a piece trigger)) (status_same a))
+    piece.stream_identifier refl refl)
+    (new_data_status (stream_found a piece.stream_identifier) piece trigger)
 
 data_status : (a : Shown) (piece : ChunkPayloadData) (trigger : AckTrigger) → IsSameStatus a (on_data a piece trigger).0
 unfolding on_data
 data_status a piece trigger =
-    status_on a (counted_data a) _ (status_by a (counted_data a) refl refl refl refl refl refl refl)
-    (counted_data_status (is_new_to a.receiver piece.tsn) (counted_data a) piece trigger refl)
+    let b : Shown = counted_data a in
+    status_on a b _ (status_by a b refl refl refl refl refl refl refl)
+    (counted_data_status (is_new_to b.receiver piece.tsn) (is_hidden b.resets piece.stream_identifier piece.tsn) b piece
+    trigger)
 
 -- SACK
 
@@ -202,31 +388,34 @@ sack_status false a cumulative_tsn_ack blocks window trigger now e = rw e (statu
 
 -- one that isn't in use queues an ERROR, which says nothing of the handshake
 refused_status : (a : Shown) → IsSameStatus a (queued a unrecognized_chunk)
-refused_status a = record {
-  failed = refl;
-  state = refl;
-  lost = refl;
-  size = refl;
-  side = refl;
-  handshake = refl;
-  truthful = λ own t.
-      truthful_with own a (queued a unrecognized_chunk)
-      (record { header = header_of a.handshake; chunk = unrecognized_chunk }) t
-      (keeps_saying a (queued a unrecognized_chunk) refl refl) refl tt refl;
-}
+refused_status a = more_waits a _ (λ own t. tt) refl
 
-skips_status : (es : List SkippedStream) (a : Shown) → IsSameStatus a (with_skips es a)
-skips_status es a =
-    let are = skips_are es a in
-    subst (λ (z : Shown). IsSameStatus a z) (sym are)
-    (status_by a (record a { streams = skipped_each es a.streams; events = (with_skips es a).events })
-    refl refl refl refl refl refl refl)
+skip_status : (retires : Bool) (tsn id ssn : ℕ) (a : Shown) → is_retiring a.resets id ≡ retires
+    → IsSameStatus a (with_skip tsn id ssn a)
+unfolding with_skip
+skip_status true tsn id ssn a e = rw e (status_by a _ refl refl refl refl refl refl refl)
+skip_status false tsn id ssn a e = rw e (status_by a _ refl refl refl refl refl refl refl)
 
-passed_status : (a : Shown) (tsn : ℕ) (es : List SkippedStream) → IsSameStatus a (with_passed (with_skips es a) tsn)
+skips_status : (tsn : ℕ) (es : List SkippedStream) (a : Shown) → IsSameStatus a (with_skips tsn es a)
+skips_status tsn [] a = status_same a
+skips_status tsn (e ∷ es) a =
+    let b : Shown = with_skip tsn e.stream_identifier e.stream_sequence_number a in
+    status_on a b _
+    (skip_status (is_retiring a.resets e.stream_identifier) tsn e.stream_identifier e.stream_sequence_number a refl)
+    (skips_status tsn es b)
+
+passed_status : (a : Shown) (tsn : ℕ) (es : List SkippedStream) → IsSameStatus a (with_passed (with_skips tsn es a) tsn)
 passed_status a tsn es =
-    let b : Shown = with_skips es a in
-    status_on a b (with_passed b tsn) (skips_status es a)
+    let b : Shown = with_skips tsn es a in
+    status_on a b (with_passed b tsn) (skips_status tsn es a)
     (status_by b (with_passed b tsn) refl refl refl refl refl refl refl)
+
+ahead_status : (a : Shown) (tsn : ℕ) (es : List SkippedStream) (trigger : AckTrigger)
+    → IsSameStatus a (asks_behind (settled (with_passed (with_skips tsn es a) tsn)) trigger).0
+ahead_status a tsn es trigger =
+    let b : Shown = with_passed (with_skips tsn es a) tsn in
+    subst (IsSameStatus a) (sym (flow_same (is_exhausted (settled b)) (settled b) _ _))
+    (status_on a b (settled b) (passed_status a tsn es) (settled_status b))
 
 forward_status : (a : Shown) (tsn : ℕ) (es : List SkippedStream) (trigger : AckTrigger) (now : ℕ)
     → IsSameStatus a (on_forward a tsn es trigger now).0
@@ -234,8 +423,7 @@ forward_status a tsn es trigger now =
     forward_is_one_of tsn es (λ b x. IsSameStatus b x.0) trigger now
     (λ b e. refused_status b)
     (λ b e f. status_by b (forward_acknowledged b now) refl refl refl refl refl refl refl)
-    (λ b e f. subst (λ (z : Shown). IsSameStatus b z)
-    (sym (asks_behind_keeps (with_passed (with_skips es b) tsn) trigger)) (passed_status b tsn es))
+    (λ b e f. ahead_status b tsn es trigger)
     a
 
 -- Any chunk: whether it failed, whether it was lost, and its payload size stay
@@ -326,7 +514,8 @@ kind_leaves header (chunks.CookieEcho x) a trigger now =
     refl refl refl
 kind_leaves header chunks.CookieAck a trigger now = cookie_ack_works (is_cookie_echoed a.state) a trigger refl
 kind_leaves header chunks.ShutdownComplete a trigger now = works_same a
-kind_leaves header (chunks.Reconfig x) a trigger now = works_same a
+kind_leaves header (chunks.Reconfig x) a trigger now =
+    let same = reconfig_status a x trigger in works_by a _ same.failed same.lost same.size
 kind_leaves header (chunks.ForwardTsn x) a trigger now =
     forward_status a x.new_cumulative_tsn x.streams trigger now
 kind_leaves header (chunks.IForwardTsn x) a trigger now =
@@ -426,14 +615,86 @@ data_polled_status a now =
     status_by a _ refl refl refl
     (data_poll_kept (HasSize size) now a (polls_keep_the_size size (uses_forward_tsn a) now) refl) refl refl refl
 
+-- requests to reset streams, and what they leave waiting
+
+fewer_waits : (P : Control → Type 0) (n : ℕ) (cs : List Control) → AllByRecursion P cs → AllByRecursion P (take n cs)
+fewer_waits P zero cs all = tt
+fewer_waits P (suc n) [] all = tt
+fewer_waits P (suc n) (c ∷ cs) (one, rest) = (one, fewer_waits P n cs rest)
+
+again_status : (a : Shown) (x : ResetsView × Option ParamOutgoingResetRequest)
+    → IsSameStatus a (with_request_again a x).0
+again_status a (r, None) = status_by a _ refl refl refl refl refl refl refl
+again_status a (r, Some param) = status_by a _ refl refl refl refl refl refl refl
+
+made_status : (a : Shown) (x : ResetsView × Bool) → IsSameStatus a (with_request_asked a x)
+made_status a (r, made) =
+    status_on a (record a { resets = r }) _ (status_by a (record a { resets = r }) refl refl refl refl refl refl refl)
+    (asking_status made (record a { resets = r }))
+
+sent_status : (a : Shown) (x : ResetsView × Option ParamOutgoingResetRequest) → IsSameStatus a (with_request_sent a x).0
+sent_status a (r, None) = status_by a _ refl refl refl refl refl refl refl
+sent_status a (r, Some param) = record {
+  failed = refl;
+  state = refl;
+  lost = refl;
+  size = refl;
+  side = refl;
+  handshake = refl;
+  truthful = λ own t.
+      truthful_still_by own a (record a { resets = r; control = without_last a.control }) t
+      (keeps_saying a (record a { resets = r; control = without_last a.control }) refl refl)
+      (λ P all. fewer_waits P _ a.control all);
+}
+
+first_request_status : (none : Bool) (a : Shown)
+    → IsSameStatus a (if none then (a, []) else with_request_sent a (request_sent a.resets a.sender.queue)).0
+first_request_status true a = status_same a
+first_request_status false a = sent_status a (request_sent a.resets a.sender.queue)
+
+behind_first_status : (x : Shown × List (List ℕ)) → IsSameStatus x.0 (first_request_behind x).0
+behind_first_status (a, packets) =
+    let b : Shown = request_made a in
+    subst (IsSameStatus a) (sym (both_first packets (first_request_polled b)))
+    (status_on a b _ (made_status a (request_asked a.resets a.sender.queue))
+    (first_request_status (eqb (length b.control) 0) b))
+
+requests_status : (a : Shown) → IsSameStatus a (requests_polled a).0
+unfolding requests_polled
+requests_status a =
+    status_on a (repeat_polled a).0 _ (again_status a (request_again a.resets)) (behind_first_status (repeat_polled a))
+
+requests_after_status : (x : Shown × List (List ChunkPayloadData)) → IsSameStatus x.0 (requests_after x).0
+requests_after_status (a, bundles) =
+    subst (IsSameStatus a) (sym (both_first (datagrams_of (header_of a.handshake) bundles) (requests_polled a)))
+    (requests_status a)
+
+-- the acknowledgement and FORWARD TSN
+
+ack_status : (due : Bool) (a : Shown) → is_due a.receiver.ack_state ≡ due → IsSameStatus a (ack_polled a).0
+unfolding ack_polled
+ack_status true a e = rw e (status_by a _ refl refl refl refl refl refl refl)
+ack_status false a e = rw e (status_same a)
+
+ack_after_status : (x : Shown × List (List ℕ)) → IsSameStatus x.0 (ack_after x).0
+ack_after_status (a, packets) =
+    subst (IsSameStatus a) (sym (both_first packets (ack_polled a)))
+    (ack_status (is_due a.receiver.ack_state) a refl)
+
+forward_after_status : (x : Shown × List (List ℕ)) → IsSameStatus x.0 (forward_after x).0
+unfolding forward_polled
+forward_after_status (a, packets) = status_by a _ refl refl refl refl refl refl refl
+
 exchanged_if : (established : Bool) (a : Shown) (now : ℕ) → is_established a.state ≡ established
     → IsSameStatus a (exchange_polled a now).0
 unfolding exchange_polled
 exchanged_if true a now e =
-    let b : Shown = (data_polled a now).0 in
-    rw e (subst (λ (z : Shown). IsSameStatus a z) (sym (after_is (data_polled a now)))
-    (status_on a b (after_data b (ack_polled b).0.receiver) (data_polled_status a now)
-    (status_by b (after_data b (ack_polled b).0.receiver) refl refl refl refl refl refl refl)))
+    let x = data_polled a now in
+    let y = requests_after x in
+    let z = ack_after y in
+    rw e (status_on a x.0 _ (data_polled_status a now)
+    (status_on x.0 y.0 _ (requests_after_status x)
+    (status_on y.0 z.0 _ (ack_after_status y) (forward_after_status z))))
 exchanged_if false a now e = rw e (status_same a)
 
 without_status : (a : Shown) → IsSameStatus a (without_control a)
@@ -447,11 +708,49 @@ without_status a = record {
   truthful = λ own t. truthful_silent own a (without_control a) t (keeps_saying a (without_control a) refl refl) refl;
 }
 
+-- what waits, one after another
+
+placed_status : (x : Shown × List (List ℕ)) (y : ResetsView × Option ParamOutgoingResetRequest)
+    → IsSameStatus x.0 (with_request_placed x y).0
+placed_status (a, packets) (r, None) =
+    status_on a (record a { resets = r }) _ (status_by a (record a { resets = r }) refl refl refl refl refl refl refl)
+    (more_waits (record a { resets = r }) controls.OwnRequest (λ own t. tt) tt)
+placed_status (a, packets) (r, Some param) = status_by a _ refl refl refl refl refl refl refl
+
+given_status : (x : Shown × List (List ℕ)) (c : Control) → IsSameStatus x.0 (with_control_given x c).0
+given_status (a, packets) (controls.Packet c) = status_same a
+given_status (a, packets) controls.OwnRequest =
+    placed_status (a, packets) (request_sent a.resets a.sender.queue)
+
+all_given_status : (cs : List Control) (x : Shown × List (List ℕ)) → IsSameStatus x.0 (fold with_control_given x cs).0
+all_given_status [] x = status_same x.0
+all_given_status (c ∷ cs) x =
+    status_on x.0 (with_control_given x c).0 _ (given_status x c) (all_given_status cs (with_control_given x c))
+
+control_status : (a : Shown) → IsSameStatus a (control_polled a).0
+control_status a =
+    status_on a (without_control a) _ (without_status a) (all_given_status a.control (without_control a, []))
+
+exchange_after_status : (x : Shown × List (List ℕ)) (now : ℕ) → IsSameStatus x.0 (exchange_after x now).0
+exchange_after_status (a, packets) now =
+    subst (IsSameStatus a) (sym (both_first packets (exchange_polled a now)))
+    (exchanged_if (is_established a.state) a now refl)
+
+run_status : (runs : Bool) (a b : Shown) → IsSameStatus a b → IsSameStatus a (if runs then b else a)
+run_status true a b same = same
+run_status false a b same = status_same a
+
+run_after_status : (x : Shown × List (List ℕ)) (now : ℕ) → IsSameStatus x.0 (reconfig_run_after x now).0
+run_after_status (a, packets) now =
+    run_status _ a (record a { timers = started names.Reconfig now a.estimate.rto a.timers })
+    (status_by a _ refl refl refl refl refl refl refl)
+
 pub polls_keep_the_status : PollsKeepTheStatus
 polls_keep_the_status a now =
-    let b : Shown = without_control a in
-    rw (both_first (control_packets a.control) (exchange_polled b now))
-    (status_on a b _ (without_status a) (exchanged_if (is_established b.state) b now refl))
+    let x = control_polled a in
+    let y = exchange_after x now in
+    status_on a x.0 _ (control_status a)
+    (status_on x.0 y.0 _ (exchange_after_status x now) (run_after_status y now))
 
 -- The other calls
 
@@ -500,36 +799,39 @@ relieved_exhausted : (e : Bool) (b : Shown) → e ≡ true → (if e then exhaus
 relieved_exhausted true b f = refl
 relieved_exhausted false b f = absurd (false≢true f)
 
-read_plainly : (x : StreamMap × Option ReceivedMessage) (a : Shown)
-    → (is_some x.1 && is_exhausted (record a { streams = x.0 })) ≡ false
-    → (after_read a x).0 ≡ record a { streams = x.0 }
-read_plainly (streams, None) a e = refl
-read_plainly (streams, Some message) a e =
-    relieved_plainly (is_exhausted (record a { streams = streams })) (record a { streams = streams }) e
+read_plainly : (x : StreamMap × Option ReceivedMessage) (a : Shown) (id : ℕ)
+    → (is_some x.1 && is_exhausted (drained_behind a id x.0)) ≡ false
+    → (after_read a id x).0 ≡ drained_behind a id x.0
+read_plainly (streams, None) a id e = refl
+read_plainly (streams, Some message) a id e =
+    relieved_plainly (is_exhausted (drained_behind a id streams)) (drained_behind a id streams) e
 
-read_exhausting : (x : StreamMap × Option ReceivedMessage) (a : Shown)
-    → (is_some x.1 && is_exhausted (record a { streams = x.0 })) ≡ true
-    → (after_read a x).0 ≡ exhausted (record a { streams = x.0 })
-read_exhausting (streams, None) a e = absurd (false≢true e)
-read_exhausting (streams, Some message) a e =
-    relieved_exhausted (is_exhausted (record a { streams = streams })) (record a { streams = streams }) e
+read_exhausting : (x : StreamMap × Option ReceivedMessage) (a : Shown) (id : ℕ)
+    → (is_some x.1 && is_exhausted (drained_behind a id x.0)) ≡ true
+    → (after_read a id x).0 ≡ exhausted (drained_behind a id x.0)
+read_exhausting (streams, None) a id e = absurd (false≢true e)
+read_exhausting (streams, Some message) a id e =
+    relieved_exhausted (is_exhausted (drained_behind a id streams)) (drained_behind a id streams) e
 
 pub reads_keep_the_status : ReadsKeepTheStatus
 reads_keep_the_status a id = record {
-  same = status_by a (record a { streams = (read_in a.streams id).0 }) refl refl refl refl refl refl refl;
-  plainly = read_plainly (read_in a.streams id) a;
-  exhausts = read_exhausting (read_in a.streams id) a;
-  given = message_given a (read_in a.streams id);
+  same = resetting_status a _;
+  plainly = read_plainly (read_in a.streams id) a id;
+  exhausts = read_exhausting (read_in a.streams id) a id;
+  given = message_given a id (read_in a.streams id);
 }
 
-told_beside : (events : List Event) (a : Shown)
-    → IsSameStatus a (event_from events a).0 × ((event_from events a).0.streams ≡ a.streams)
-told_beside [] a = (status_by a _ refl refl refl refl refl refl refl, refl)
-told_beside (e ∷ es) a = (status_by a _ refl refl refl refl refl refl refl, refl)
+pub reads_change_streams_alone : ReadsChangeStreamsAlone
+reads_change_streams_alone a id n = nothing_is_drained a id (read_in a.streams id).0 n.kept
+
+told_beside : (x : ResetsView × List Event × Option Event) (a : Shown)
+    → IsSameStatus a (event_from x a).0 × ((event_from x a).0.streams ≡ a.streams)
+told_beside (r, left, None) a = (status_by a _ refl refl refl refl refl refl refl, refl)
+told_beside (r, left, Some e) a = (status_by a _ refl refl refl refl refl refl refl, refl)
 
 pub told_events_keep_the_status : ToldEventsKeepTheStatus
 told_events_keep_the_status a b event e =
-    rw (sym (ap (λ (x : Shown × Option Event). x.0) e)) (told_beside a.events a)
+    rw (sym (ap (λ (x : Shown × Option Event). x.0) e)) (told_beside (event_told a.resets a.events) a)
 
 -- what timeouts leave: the status and the streams
 abbrev IsSameBeside : Shown → Shown → Type 0
@@ -541,6 +843,39 @@ t3_beside false failure a now = (status_same a, refl)
 t3_beside true true a now = (status_by a _ refl refl refl refl refl refl refl, refl)
 t3_beside true false a now = (status_by a _ refl refl refl refl refl refl refl, refl)
 
+-- the timer of requests to reset streams
+
+failed_streams : (a : Answering) (x : DebtsView × List Event) → (with_told a x).streams ≡ a.streams
+failed_streams a (d, events) = refl
+
+given_up_streams : (x : OwnView × Option OwnRequest) (r : ResetsView) (m : StreamMap) (events : List Event)
+    → (given_up_where x r m events).1 ≡ m
+given_up_streams (own, None) r m events = refl
+given_up_streams (own, Some q) r m events =
+    failed_streams (answering r.debts m events) (failed_each failures.Failed q.ids (r.debts, events))
+
+beside_streams : (a : Shown) (x : Beside) → (with_beside a x).streams ≡ x.1
+beside_streams a (r, m, events) = refl
+
+gives_up_beside : (a : Shown) → IsSameBeside a (gives_up a)
+gives_up_beside a =
+    let x = given_up a.resets a.streams a.events in
+    let b : Shown = with_beside a x in (
+      status_on a b (gives_up a) (beside_status a x) (status_by b (gives_up a) refl refl refl refl refl refl refl),
+      beside_streams a x ∙ given_up_streams (own_requests.ended a.resets.own) a.resets a.streams a.events,
+    )
+
+reconfig_beside : (expired failure : Bool) (a : Shown) (now : ℕ)
+    → IsSameBeside a
+    (if expired then (if failure then gives_up (reconfig_expired a now) else asks_again (reconfig_expired a now) now)
+    else a)
+reconfig_beside false failure a now = (status_same a, refl)
+reconfig_beside true true a now =
+    let b : Shown = reconfig_expired a now in
+    let last = gives_up_beside b in
+    (status_on a b (gives_up b) (status_by a b refl refl refl refl refl refl refl) last.0, last.1)
+reconfig_beside true false a now = (status_by a _ refl refl refl refl refl refl refl, refl)
+
 ack_delay_beside : (expired : Bool) (a b : Shown) (now : ℕ) → (expiry_of names.Ack now b.timers).expired ≡ expired
     → IsSameBeside a b → IsSameBeside a (after_ack_delay b now)
 ack_delay_beside false a b now e h = rw e h
@@ -550,23 +885,10 @@ ack_delay_beside true a b now e (h, streams) =
 -- what the timers of the handshake send says what is so
 
 -- a packet of the handshake more waits, and says what is so
-with_queued : (a b : Shown) (c : Chunk) → IsSameBeside a b → ((own : ℕ) → IsTruthful own b → Greets own (stage_of b) c)
+with_queued : (a b : Shown) (c : Chunk) → IsSameBeside a b
+    → ((own : ℕ) → IsTruthful own b → SaysWhatIsSo own (stage_of b) c)
     → packet_is_plain (single_chunk_packet (header_of b.handshake) c) ≡ true → IsSameBeside a (queued b c)
-with_queued a b c (h, streams) says plain = (
-  record {
-    failed = h.failed;
-    state = h.state;
-    lost = h.lost;
-    size = h.size;
-    side = h.side;
-    handshake = h.handshake;
-    truthful = λ own t.
-        let truthful = h.truthful own t in
-        truthful_with own b (queued b c) (record { header = header_of b.handshake; chunk = c }) truthful
-        (keeps_saying b (queued b c) refl refl) refl (says own truthful) plain;
-  },
-  streams,
-)
+with_queued a b c (h, streams) says plain = (status_on a b (queued b c) h (more_waits b _ says plain), streams)
 
 init_queued_beside : (o : Option Offer) (a b : Shown) → IsSameBeside a b → b.handshake.offer ≡ o
     → IsSameBeside a (init_queued o b)
@@ -625,6 +947,7 @@ timers_keep_the_status a now =
     let b : Shown = after_t1_init a now in
     let c : Shown = after_handshake_timers a now in
     let d : Shown = after_t3 c now in
+    let e : Shown = after_reconfig_timer d now in
     let first : IsSameBeside a b =
     t1_init_beside (expiry_of names.T1Init now a.timers).expired (expiry_of names.T1Init now a.timers).failed a now in
     let second : IsSameBeside b c =
@@ -632,5 +955,8 @@ timers_keep_the_status a now =
     (expiry_of names.T1Cookie now b.timers).failed b now in
     let third : IsSameBeside c d =
     t3_beside (expiry_of names.T3RTX now c.timers).expired (expiry_of names.T3RTX now c.timers).failed c now in
-    ack_delay_beside (expiry_of names.Ack now d.timers).expired a d now refl
-    (beside_on a b d first (beside_on b c d second third))
+    let fourth : IsSameBeside d e =
+    reconfig_beside (expiry_of names.Reconfig now d.timers).expired (expiry_of names.Reconfig now d.timers).failed d now
+    in
+    ack_delay_beside (expiry_of names.Ack now e.timers).expired a e now refl
+    (beside_on a b e first (beside_on b c e second (beside_on c d e third fourth)))

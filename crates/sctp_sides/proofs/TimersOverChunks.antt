@@ -20,13 +20,13 @@ use Rattle.sctp_parts.specs.Estimate.{Estimate}
 use Rattle.sctp_outbound_queue.specs.declared.message.InFlight.{InFlight}
 use Rattle.sctp_streams.specs.declared.event.AssociationError.{AssociationError}
 use Rattle.sctp_streams.specs.declared.event.AssociationError.TheVariants as reasons
-use Rattle.sctp_streams.specs.Streams.{StreamMap, bytes_waiting, generation_left, is_readable_in, pushed_in, refusal_in}
+use Rattle.sctp_streams.specs.Streams.{StreamMap, generation_left, is_readable_in, pushed_in, refusal_in}
 use Rattle.sctp_streams.specs.Streams.{stream_at}
 use Rattle.sctp_inbound.specs.declared.receiver.AckTrigger.{AckTrigger}
 use Rattle.sctp_inbound.specs.declared.receiver.AckTrigger.TheVariants as triggers
 use Rattle.sctp_inbound.specs.Greeting.{first_cookie, information_of}
 use Rattle.sctp_inbound.specs.Handshake.{comes_back, has_issued}
-use Rattle.sctp_inbound.specs.Receiver.{admits, is_new_to, taken_to}
+use Rattle.sctp_inbound.specs.Receiver.{admits, asked, is_new_to, taken_to}
 use Rattle.sctp_outbound.specs.declared.sender.Sender.{Sender}
 use Rattle.sctp_outbound.specs.declared.sender.SackOutcome.{SackOutcome}
 use Rattle.sctp_outbound.specs.declared.sender.SackOutcome.TheVariants as outcomes
@@ -37,31 +37,33 @@ use Rattle.sctp_outbound.specs.declared.progress.Progress.{Progress}
 use Rattle.sctp_assoc.specs.declared.inbound.Flow.{Flow}
 use Rattle.sctp_assoc.specs.declared.inbound.Flow.TheVariants as flows
 use Rattle.sctp_assoc.specs.Calls.{is_beginning, is_cookie_echoed, is_cookie_wait}
-use Rattle.sctp_assoc.specs.Closing.{closed_open, is_closed_state}
+use Rattle.sctp_assoc.specs.Closing.{closed_open, is_closed_state, is_exhausted}
 use Rattle.sctp_assoc.specs.Calls.{is_established}
 use Rattle.sctp_assoc.specs.Handshake.{acknowledged_cookie, answered, connected, echoed, information_returned, learned}
 use Rattle.sctp_assoc.specs.Handshake.{on_cookie_ack, on_cookie_echo, on_heartbeat, on_init, on_init_ack, sends_cookie}
 use Rattle.sctp_assoc.specs.Chunks.{after_chunks, after_packet, after_packet_of, checked_first, counted_data}
 use Rattle.sctp_assoc.specs.Chunks.{counted_sack, dispatched, ended, goes_on, on_chunk, on_counted_data}
 use Rattle.sctp_assoc.specs.Chunks.{on_counted_sack, on_data, on_new_data, on_sack, stream_found, taken_in, told}
-use Rattle.sctp_assoc.specs.Chunks.{with_acknowledged}
+use Rattle.sctp_assoc.specs.Chunks.{asks, asks_or_faults, deferred, deferred_unless, deferred_where_admitted}
+use Rattle.sctp_assoc.specs.Chunks.{taken_where_admitted, then_skips, with_acknowledged}
 use Rattle.sctp_sides.specs.OneSide.{is_delayed}
-use Rattle.sctp_assoc.specs.Shown.{Shown}
-use Rattle.sctp_assoc.proofs.CallsLeadOn.{asks_same}
+use Rattle.sctp_assoc.specs.Shown.{Shown, all_waiting, uses_forward_tsn}
 use Rattle.sctp_sides.proofs.TimersRun.{AtRest, FitsTimers, IsSameTime, Ticks, ack_kept, established_begins_no_more}
 use Rattle.sctp_sides.proofs.TimersRun.{fits_restarted, none_armed, restarted, restarted_keeps_ack}
 use Rattle.sctp_sides.proofs.TimersRun.{same_time, ticks_by, time_by, time_on}
-use Rattle.sctp_assoc.proofs.CallsLeadOn.{asks_keeps}
 use Rattle.sctp_assoc.specs.Closing.{out_of_resource}
 use Rattle.sctp_assoc.specs.Control.{queued}
 use Rattle.sctp_sides.proofs.TimersRun.{rest_by}
-use Rattle.std.proofs.Common.{subst}
+use Rattle.std.proofs.Common.{not}
 use Rattle.sctp_wire_types.specs.declared.chunk.SkippedStream.{SkippedStream}
-use Rattle.sctp_directions.specs.Acts.{skipped_each}
 use Rattle.sctp_assoc.specs.Skipping.{acknowledged_at_once, on_forward, skips_of, unrecognized_chunk}
 use Rattle.sctp_assoc.specs.Skipping.{with_passed, with_skips}
-use Rattle.sctp_assoc.proofs.PassesOver.{asks_behind_keeps, skips_are}
-use Rattle.sctp_sides.proofs.ForwardKinds.{forward_is_one_of}
+use Rattle.sctp_assoc.specs.Skipping.{asks_behind, is_ahead, with_skip}
+use Rattle.sctp_assoc.specs.Resets.{on_reconfig, settled, skips_applied_of}
+use Rattle.sctp_resets.specs.Resets.{is_hidden, is_retiring, refusal_of}
+use Rattle.sctp_sides.proofs.NothingElseTaken.{with_use}
+use Rattle.sctp_sides.proofs.ResetsBeside.{reconfig_changes, settling_changes, skips_of_change}
+use Rattle.sctp_sides.proofs.TimersRun.{ticks_beside}
 
 -- DATA leaves all of it
 
@@ -89,36 +91,73 @@ taken_time None a piece e =
     rw e (time_on a b _ (time_by a b refl refl refl refl refl refl)
     (told_time (is_readable_in b.streams piece.stream_identifier) put.1 b piece.stream_identifier refl))
 
-next_data_time : (there credit : Bool) (a : Shown) (piece : ChunkPayloadData) (trigger : AckTrigger)
-    → admits a.receiver piece.tsn (bytes_waiting a.streams) ≡ credit
-    → IsSameTime a (on_new_data (a, there) piece trigger).0
-next_data_time false credit a piece trigger e = same_time a
-next_data_time true true a piece trigger e =
-    rw (e, asks_same (taken_in a piece) piece trigger)
-    (taken_time (refusal_in a.streams piece.stream_identifier piece a.receiver.max_receive_message_size) a piece refl)
-next_data_time true false a piece trigger e =
-    rw e (subst (λ (z : Shown). IsSameTime a z) (sym (asks_keeps a piece trigger)) (same_time a))
+ticks_if : {X : Type 0} (c : Bool) (x y : Shown × X) → Ticks x.0 → Ticks y.0 → Ticks (if c then x else y).0
+ticks_if true x y h k = h
+ticks_if false x y h k = k
 
-found_next_time : (x : Shown × Bool) (a : Shown) (piece : ChunkPayloadData) (trigger : AckTrigger) → IsSameTime a x.0
-    → IsSameTime a (on_new_data x piece trigger).0
-found_next_time (b, there) a piece trigger h = time_on a b _ h
-    (next_data_time there (admits b.receiver piece.tsn (bytes_waiting b.streams)) b piece trigger refl)
+asks_tick : (a : Shown) (immediate : Bool) (trigger : AckTrigger) → Ticks a → Ticks (asks a immediate trigger).0
+asks_tick a immediate trigger h =
+    ticks_if (is_exhausted a) (a, flows.Exhausted) (a, flows.Next (asked a.receiver trigger immediate)) h h
 
-counted_data_time : (next : Bool) (a : Shown) (piece : ChunkPayloadData) (trigger : AckTrigger)
-    → is_new_to a.receiver piece.tsn ≡ next
-    → IsSameTime a (on_counted_data a piece trigger).0
-counted_data_time true a piece trigger e =
-    rw e (found_next_time (stream_found a piece.stream_identifier) a piece trigger
+settled_ticks : (a : Shown) → Ticks a → Ticks (settled a)
+settled_ticks a h = ticks_beside a (settled a) (settling_changes a) h
+
+skips_behind_tick : (x : Shown × Option Error) (id : ℕ) → Ticks x.0 → Ticks (then_skips x id).0
+skips_behind_tick (a, None) id h = ticks_beside a (skips_applied_of id a) (skips_of_change id a) h
+skips_behind_tick (a, Some fault) id h = h
+
+behind_ticks : (x : Shown × Option Error) (immediate : Bool) (trigger : AckTrigger) → Ticks x.0
+    → Ticks (asks_or_faults x immediate trigger).0
+behind_ticks (a, None) immediate trigger h = asks_tick (settled a) immediate trigger (settled_ticks a h)
+behind_ticks (a, Some fault) immediate trigger h = h
+
+taken_ticks_in : (a : Shown) (piece : ChunkPayloadData) → Ticks a → Ticks (taken_in a piece).0
+taken_ticks_in a piece h =
+    ticks_by a (taken_in a piece).0
+    (taken_time (refusal_in a.streams piece.stream_identifier piece a.receiver.max_receive_message_size) a piece refl) h
+
+new_data_ticks : (x : Shown × Bool) (piece : ChunkPayloadData) (trigger : AckTrigger) → Ticks x.0
+    → Ticks (on_new_data x piece trigger).0
+new_data_ticks (a, false) piece trigger h = h
+new_data_ticks (a, true) piece trigger h =
+    behind_ticks (taken_where_admitted a piece) piece.immediate_sack trigger
+    (ticks_if (admits a.receiver piece.tsn (all_waiting a)) (then_skips (taken_in a piece) piece.stream_identifier)
+    (a, None) (skips_behind_tick (taken_in a piece) piece.stream_identifier (taken_ticks_in a piece h)) h)
+
+kept_ticks : (refusal : Option Error) (a : Shown) (piece : ChunkPayloadData) → Ticks a
+    → Ticks (deferred_unless refusal a piece).0
+kept_ticks (Some fault) a piece h = h
+kept_ticks None a piece h =
+    ticks_by a (deferred_unless None a piece).0 (time_by a _ refl refl refl refl refl refl) h
+
+deferred_ticks : (a : Shown) (piece : ChunkPayloadData) → Ticks a → Ticks (deferred_where_admitted a piece).0
+unfolding deferred_where_admitted
+deferred_ticks a piece h =
+    ticks_if (admits a.receiver piece.tsn (all_waiting a)) (deferred a piece) (a, None)
+    (kept_ticks (refusal_of a.resets piece a.receiver.max_receive_message_size) a piece h) h
+
+counted_data_ticks : (a : Shown) (piece : ChunkPayloadData) (trigger : AckTrigger) → Ticks a
+    → Ticks (on_counted_data a piece trigger).0
+counted_data_ticks a piece trigger h =
+    let known = asks (settled a) piece.immediate_sack trigger in
+    let later = asks_or_faults (deferred_where_admitted a piece) piece.immediate_sack trigger in
+    let now_read = on_new_data (stream_found a piece.stream_identifier) piece trigger in
+    let hidden = is_hidden a.resets piece.stream_identifier piece.tsn in
+    ticks_if (not (is_new_to a.receiver piece.tsn)) known (if hidden then later else now_read)
+    (asks_tick (settled a) piece.immediate_sack trigger (settled_ticks a h))
+    (ticks_if hidden later now_read
+    (behind_ticks (deferred_where_admitted a piece) piece.immediate_sack trigger (deferred_ticks a piece h))
+    (new_data_ticks (stream_found a piece.stream_identifier) piece trigger
+    (ticks_by a (stream_found a piece.stream_identifier).0
     (found_time (is_some (stream_at a.streams piece.stream_identifier)) (generation_left a.streams) a
-    piece.stream_identifier refl refl))
-counted_data_time false a piece trigger e =
-    rw e (subst (λ (z : Shown). IsSameTime a z) (sym (asks_keeps a piece trigger)) (same_time a))
+    piece.stream_identifier refl refl) h)))
 
-data_time : (a : Shown) (piece : ChunkPayloadData) (trigger : AckTrigger) → IsSameTime a (on_data a piece trigger).0
+data_ticks : (a : Shown) (piece : ChunkPayloadData) (trigger : AckTrigger) → Ticks a
+    → Ticks (on_data a piece trigger).0
 unfolding on_data
-data_time a piece trigger =
-    time_on a (counted_data a) _ (time_by a (counted_data a) refl refl refl refl refl refl)
-    (counted_data_time (is_new_to a.receiver piece.tsn) (counted_data a) piece trigger refl)
+data_ticks a piece trigger h =
+    counted_data_ticks (counted_data a) piece trigger
+    (ticks_by a (counted_data a) (time_by a (counted_data a) refl refl refl refl refl refl) h)
 
 -- SACK
 
@@ -309,11 +348,17 @@ information_ticks (Some information) a h = ticks_by a _ (time_by a _ refl refl r
 
 -- FORWARD TSN
 
-skips_tick : (es : List SkippedStream) (a : Shown) → Ticks a → Ticks (with_skips es a)
-skips_tick es a h =
-    ticks_by a (with_skips es a) (subst (λ (z : Shown). IsSameTime a z) (sym (skips_are es a))
-    (time_by a (record a { streams = skipped_each es a.streams; events = (with_skips es a).events })
-    refl refl refl refl refl refl)) h
+skip_ticks : (retires : Bool) (a : Shown) (tsn id ssn : ℕ) → is_retiring a.resets id ≡ retires → Ticks a
+    → Ticks (with_skip tsn id ssn a)
+unfolding with_skip
+skip_ticks true a tsn id ssn e h = rw e (ticks_by a _ (time_by a _ refl refl refl refl refl refl) h)
+skip_ticks false a tsn id ssn e h = rw e (ticks_by a _ (time_by a _ refl refl refl refl refl refl) h)
+
+skips_tick : (tsn : ℕ) (es : List SkippedStream) (a : Shown) → Ticks a → Ticks (with_skips tsn es a)
+skips_tick tsn [] a h = h
+skips_tick tsn (e ∷ es) a h =
+    skips_tick tsn es (with_skip tsn e.stream_identifier e.stream_sequence_number a)
+    (skip_ticks (is_retiring a.resets e.stream_identifier) a tsn e.stream_identifier e.stream_sequence_number refl h)
 
 at_once_ticks : (a : Shown) (now : ℕ) → Ticks a → Ticks (acknowledged_at_once a now)
 at_once_ticks a now h = record {
@@ -328,21 +373,35 @@ at_once_ticks a now h = record {
   acks = refl;
 }
 
-passed_ticks : (a : Shown) (tsn : ℕ) (es : List SkippedStream) → Ticks a → Ticks (with_passed (with_skips es a) tsn)
+passed_ticks : (a : Shown) (tsn : ℕ) (es : List SkippedStream) → Ticks a
+    → Ticks (with_passed (with_skips tsn es a) tsn)
 passed_ticks a tsn es h =
-    let b : Shown = with_skips es a in
-    ticks_by b (with_passed b tsn) (time_by b (with_passed b tsn) refl refl refl refl refl refl) (skips_tick es a h)
+    let b : Shown = with_skips tsn es a in
+    ticks_by b (with_passed b tsn) (time_by b (with_passed b tsn) refl refl refl refl refl refl)
+    (skips_tick tsn es a h)
+
+ahead_ticks : (a : Shown) (tsn : ℕ) (es : List SkippedStream) (trigger : AckTrigger) → Ticks a
+    → Ticks (asks_behind (settled (with_passed (with_skips tsn es a) tsn)) trigger).0
+ahead_ticks a tsn es trigger h =
+    let b : Shown = settled (with_passed (with_skips tsn es a) tsn) in
+    let k : Ticks b = settled_ticks (with_passed (with_skips tsn es a) tsn) (passed_ticks a tsn es h) in
+    ticks_if (is_exhausted b) (b, flows.Exhausted) (b, flows.Next (asked b.receiver trigger false)) k k
+
+forward_ticks_by : (uses ahead : Bool) (a : Shown) (tsn : ℕ) (es : List SkippedStream) (trigger : AckTrigger) (now : ℕ)
+    → is_ahead a tsn ≡ ahead → Ticks (with_use uses a)
+    → Ticks (on_forward (with_use uses a) tsn es trigger now).0
+unfolding on_forward
+forward_ticks_by false ahead a tsn es trigger now e h =
+    let b : Shown = with_use false a in
+    ticks_by b (queued b unrecognized_chunk)
+    (time_by b (queued b unrecognized_chunk) refl refl refl refl refl refl) h
+forward_ticks_by true false a tsn es trigger now e h = rw e (at_once_ticks (with_use true a) now h)
+forward_ticks_by true true a tsn es trigger now e h = rw e (ahead_ticks (with_use true a) tsn es trigger h)
 
 forward_ticks : (a : Shown) (tsn : ℕ) (es : List SkippedStream) (trigger : AckTrigger) (now : ℕ) → Ticks a
     → Ticks (on_forward a tsn es trigger now).0
-forward_ticks a tsn es trigger now =
-    forward_is_one_of tsn es (λ b x. Ticks b → Ticks x.0) trigger now
-    (λ b e h. ticks_by b (queued b unrecognized_chunk)
-    (time_by b (queued b unrecognized_chunk) refl refl refl refl refl refl) h)
-    (λ b e f h. at_once_ticks b now h)
-    (λ b e f h. subst (λ (z : Shown). Ticks z)
-    (sym (asks_behind_keeps (with_passed (with_skips es b) tsn) trigger)) (passed_ticks b tsn es h))
-    a
+forward_ticks a tsn es trigger now h =
+    forward_ticks_by (uses_forward_tsn a) (is_ahead a tsn) a tsn es trigger now refl h
 
 -- Each chunk keeps the timers where they should run, or is a fault.
 module _ (a : Shown) (trigger : AckTrigger) (h : Ticks a) where
@@ -397,8 +456,7 @@ module _ (a : Shown) (trigger : AckTrigger) (h : Ticks a) where
 
   -- any chunk
   kind_ticks : (header : CommonHeader) (c : Chunk) (now : ℕ) → TicksOn (dispatched a header c trigger now)
-  kind_ticks header (chunks.Data piece) now = ticks_on (on_data a piece trigger)
-      (ticks_by a (on_data a piece trigger).0 (data_time a piece trigger) h)
+  kind_ticks header (chunks.Data piece) now = ticks_on (on_data a piece trigger) (data_ticks a piece trigger h)
   kind_ticks header (chunks.SelectiveAck k) now =
       ticks_on (on_sack a k.cumulative_tsn_ack k.gap_ack_blocks k.advertised_receiver_window_credit trigger now)
       (sack_ticks (is_established a.state) k.cumulative_tsn_ack k.gap_ack_blocks k.advertised_receiver_window_credit
@@ -419,7 +477,8 @@ module _ (a : Shown) (trigger : AckTrigger) (h : Ticks a) where
   kind_ticks header chunks.CookieAck now = ticks_on (on_cookie_ack a trigger)
       (cookie_ack_ticks (is_cookie_echoed a.state) refl)
   kind_ticks header chunks.ShutdownComplete now = faulty a h
-  kind_ticks header (chunks.Reconfig x) now = faulty a h
+  kind_ticks header (chunks.Reconfig x) now = ticks_on (on_reconfig a x trigger)
+      (ticks_beside a (on_reconfig a x trigger).0 (reconfig_changes a x trigger) h)
   kind_ticks header (chunks.ForwardTsn x) now = ticks_on (on_forward a x.new_cumulative_tsn x.streams trigger now)
       (forward_ticks a x.new_cumulative_tsn x.streams trigger now h)
   kind_ticks header (chunks.IForwardTsn x) now =
@@ -443,7 +502,8 @@ abbrev pub IsSound : Shown → Type 0
 IsSound a = Ticks a ⊎ AtRest a
 
 pub closed_rests : (a : Shown) (reason : AssociationError) → AtRest (closed_open a reason)
-closed_rests a reason = record { over = inr refl; closed = λ _. refl; stopped = none_armed a.timers }
+closed_rests a reason =
+    record { over = inr refl; closed = λ _. refl; stopped = none_armed a.timers; quiet = λ _. (refl, refl) }
 
 fault_rests : (closed : Bool) (b : Shown) (reason : AssociationError) → is_closed_state b.state ≡ closed → IsFaulty b
     → IsSound (if closed then b else closed_open b reason)
@@ -455,7 +515,7 @@ pub exhausted_sound : (closed : Bool) (b : Shown) → Ticks b
 exhausted_sound true b h = inl (ticks_by b _ (time_by b _ refl refl refl refl refl refl) h)
 exhausted_sound false b h =
     let c : Shown = closed_open b reasons.ReceiveBufferExhausted in
-    inr (rest_by c _ refl refl refl refl (closed_rests b reasons.ReceiveBufferExhausted))
+    inr (rest_by c _ refl refl refl refl refl (closed_rests b reasons.ReceiveBufferExhausted))
 
 goes_on_soundly : (x : Shown × Flow) (more : Shown → AckTrigger → Shown) → TicksOn x
     → ((b : Shown) (trigger : AckTrigger) → Ticks b → IsSound (more b trigger)) → IsSound (goes_on x more)

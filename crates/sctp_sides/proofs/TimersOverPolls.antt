@@ -32,13 +32,16 @@ use Rattle.sctp_outbound.specs.Sender.{after_marked, after_missing, both_windows
 use Rattle.sctp_outbound.specs.Sender.{first_counted, resends_alone, resent_pieces, sent_new, sent_one}
 use Rattle.sctp_outbound.specs.Sender.{sent_within}
 use Rattle.sctp_assoc.specs.Calls.{is_beginning, is_established}
-use Rattle.sctp_assoc.specs.Gather.{ack_polled, after_fast, after_marks, both_of, control_packets, data_polled}
-use Rattle.sctp_assoc.specs.Gather.{exchange_polled, fell_in_poll, is_due, late_abandoned, late_dropped, polled}
-use Rattle.sctp_assoc.specs.Gather.{with_both}
-use Rattle.sctp_assoc.specs.Gather.{with_low_told, with_sent_data, with_t3, without_control}
+use Rattle.sctp_assoc.specs.Gather.{ack_polled, after_fast, after_marks, both_of, control_polled, data_polled}
+use Rattle.sctp_assoc.specs.Gather.{fell_in_poll, is_due, late_abandoned, late_dropped, polled, with_both}
+use Rattle.sctp_assoc.specs.Gather.{with_low_told, with_sent_data, with_t3}
+use Rattle.sctp_assoc.specs.Resets.{with_reconfig_run}
 use Rattle.sctp_assoc.specs.Shown.{Shown, uses_forward_tsn}
-use Rattle.sctp_assoc.proofs.PollsLeadOn.{both_first}
-use Rattle.sctp_sides.proofs.GivingUpKeeps.{KeptByGivingUp, ack_is, after_data, after_is, all_kept, late_kept}
+use Rattle.sctp_assoc.proofs.GivenApart.{ChangesControl, with_own_control}
+use Rattle.sctp_sides.proofs.PollsLeave.{acknowledged_is, after_requests, control_leaves, polled_from, silent_is}
+use Rattle.sctp_sides.proofs.ResetsBeside.{run_changes}
+use Rattle.sctp_sides.proofs.TimersRun.{ticks_beside}
+use Rattle.sctp_sides.proofs.GivingUpKeeps.{KeptByGivingUp, all_kept, late_kept}
 use Rattle.sctp_sides.proofs.GivingUpKeeps.{spent_kept}
 use Rattle.sctp_sides.proofs.TimersRun.{FitsTimers, Ticks, ack_kept, established_begins_no_more, fits_restarted}
 use Rattle.sctp_sides.proofs.TimersRun.{nothing_is_not_something, restarted, restarted_keeps_ack, ticks_by, time_by}
@@ -426,23 +429,30 @@ ack_ticks true a e h = rw e (record {
 })
 ack_ticks false a e h = rw e h
 
-after_ticks : (b : Shown) → Ticks b → Ticks (after_data b (ack_polled b).0.receiver)
+after_ticks : (b : Shown) → Ticks b → Ticks (after_requests b)
 after_ticks b h =
-    let r = (ack_polled b).0.receiver in
-    let c : Shown = record b { receiver = r } in
-    ticks_by c (after_data b r) (time_by c (after_data b r) refl refl refl refl refl refl)
-    (subst (λ (z : Shown). Ticks z) (ack_is b) (ack_ticks (is_due b.receiver.ack_state) b refl h))
+    let c : Shown = record b { receiver = (ack_polled b).0.receiver } in
+    ticks_by c (after_requests b) (time_by c (after_requests b) refl refl refl refl refl refl)
+    (subst (λ (z : Shown). Ticks z) (acknowledged_is b) (ack_ticks (is_due b.receiver.ack_state) b refl h))
 
-exchange_ticks : (established : Bool) (a : Shown) (now : ℕ) → is_established a.state ≡ established → Ticks a
-    → Ticks (exchange_polled a now).0
-unfolding exchange_polled
-exchange_ticks true a now e h =
-    rw e (subst (λ (z : Shown). Ticks z) (sym (after_is (data_polled a now)))
-    (after_ticks (data_polled a now).0 (data_ticks a now e h)))
-exchange_ticks false a now e h = rw e h
+-- requests of this side leave it
+control_ticks : (a b : Shown) → ChangesControl a b → Ticks a → Ticks b
+control_ticks a b e h =
+    let c : Shown = with_own_control a b.resets.own b.control in
+    subst (λ (z : Shown). Ticks z) (sym e) (ticks_by a c (time_by a c refl refl refl refl refl refl) h)
+
+polls_tick_if : (established : Bool) (a : Shown) (now : ℕ) → is_established a.state ≡ established → Ticks a
+    → Ticks (polled a now).0
+polls_tick_if true a now e h =
+    let p = polled_from a now e in
+    let b = after_requests p.asked in
+    subst (λ (z : Shown). Ticks z) (sym p.there)
+    (ticks_beside b (with_reconfig_run b now) (run_changes b now)
+    (after_ticks p.asked (control_ticks (data_polled a now).0 p.asked p.requests (data_ticks a now e h))))
+polls_tick_if false a now e h =
+    let b = (control_polled a).0 in
+    subst (λ (z : Shown). Ticks z) (sym (silent_is a now e))
+    (ticks_beside b (with_reconfig_run b now) (run_changes b now) (control_ticks a b (control_leaves a) h))
 
 pub polls_tick : (a : Shown) (now : ℕ) → Ticks a → Ticks (polled a now).0
-polls_tick a now h =
-    let b : Shown = without_control a in
-    rw (both_first (control_packets a.control) (exchange_polled b now))
-    (exchange_ticks (is_established b.state) b now refl (ticks_by a b (time_by a b refl refl refl refl refl refl) h))
+polls_tick a now h = polls_tick_if (is_established a.state) a now refl h

@@ -17,7 +17,7 @@ use Rattle.sctp_assoc.specs.Calls.{accepted_from, written_at}
 use Rattle.sctp_assoc.specs.Handshake.{sends_init}
 use Rattle.sctp_sides.specs.OneSide.{Call, Calls, FailsFrom, IsFresh, IsRun, call_refusal, carried_out, is_armed}
 use Rattle.sctp_sides.specs.OneSide.{is_delayed, with_told}
-use Rattle.sctp_assoc.specs.Gather.{without_control}
+use Rattle.sctp_assoc.specs.Gather.{control_polled, polled, with_control_given, with_request_placed, without_control}
 use Rattle.sctp_assoc.specs.Shown.{Shown, all_stopped}
 use Rattle.sctp_sides.specs.Witnesses.{CookiesAreTimedInCookieEchoedAlone, CreatedSidesAreFresh, DelayedSacksAreTimed}
 use Rattle.sctp_sides.specs.Witnesses.{EchoedCookiesAreTimed, FailedSidesWaitForNothing, FailuresStopTheTimers}
@@ -25,9 +25,9 @@ use Rattle.sctp_sides.specs.Witnesses.{InitsAreTimedInCookieWaitAlone, IsHandsha
 use Rattle.sctp_sides.specs.Witnesses.{LossesStopTheTimers, LostSidesWaitForNothing}
 use Rattle.sctp_sides.specs.Witnesses.{NoHandshakeTimerRunsOnceEstablished, NothingInFlightIsNotTimed}
 use Rattle.sctp_sides.specs.Witnesses.{OutstandingDataIsTimed, SentInitsAreTimed, WaitsForNothing}
-use Rattle.sctp_sides.proofs.PacketLaws.{lost_associations_take_nothing}
-use Rattle.sctp_sides.proofs.PolledPackets.{polls_outside_established_give_what_waits}
-use Rattle.sctp_sides.proofs.TimersRun.{AtRest, IsSameTime, Ticks, closed_waits_for_nothing}
+use Rattle.sctp_sides.proofs.PollsLeave.{control_leaves, silent_is}
+use Rattle.sctp_sides.proofs.ResetsBeside.{draining_changes}
+use Rattle.sctp_sides.proofs.TimersRun.{AtRest, IsQuiet, IsSameTime, Ticks, closed_waits_for_nothing, ticks_beside}
 use Rattle.sctp_sides.proofs.TimersRun.{established_shakes_no_hands}
 use Rattle.sctp_sides.proofs.TimersRun.{none_armed, nothing_is_not_something, rest_by, same_time, ticks_by}
 use Rattle.sctp_sides.proofs.TimersRun.{time_by, unarmed}
@@ -35,7 +35,26 @@ use Rattle.sctp_sides.proofs.TimersOverChunks.{IsSound, closed_rests, packets_so
 use Rattle.sctp_sides.proofs.TimersOverPolls.{polls_tick}
 use Rattle.sctp_sides.proofs.TimersOverTimeouts.{timeouts_tick, unarmed_timeouts_do_nothing}
 use Rattle.sctp_sides.proofs.TimersOverChunks.{exhausted_sound}
-use Rattle.sctp_assoc.specs.Calls.{after_read}
+use Rattle.sctp_assoc.specs.Calls.{after_read, drained_behind}
+use Rattle.sctp_assoc.specs.Chunks.{after_packet_of}
+use Rattle.sctp_assoc.specs.Resets.{with_resetting}
+use Rattle.sctp_assoc.specs.declared.control.Control.{Control}
+use Rattle.sctp_assoc.specs.declared.control.Control.TheVariants as controls
+use Rattle.sctp_assoc.proofs.GivenApart.{with_own_control}
+use Rattle.sctp_wire_types.specs.declared.param.ParamOutgoingResetRequest.{ParamOutgoingResetRequest}
+use Rattle.sctp_outbound_queue.specs.Outbound.{Outbound}
+use Rattle.sctp_reset_requests.specs.declared.own_request.OwnRequest.{OwnRequest}
+use Rattle.sctp_reset_requests.specs.declared.own_request.SentRequest.{SentRequest}
+use Rattle.sctp_reset_requests.specs.Own.{OwnView, sent_first, sent_from}
+use Rattle.sctp_reset_requests.specs.Peer.{boundary_of}
+use Rattle.sctp_resets.specs.Channels.{channels}
+use Rattle.sctp_resets.specs.Draining.{Reading, drained_out}
+use Rattle.sctp_resets.specs.Resets.{Resetting, ResetsView, event_told, event_told_at, read_out, with_event, with_own}
+use Rattle.sctp_resets.specs.Resets.{with_read}
+use Rattle.sctp_resets.specs.Telling.{next_told}
+use Rattle.std.specs.Prelude.{remove}
+use Rattle.std.proofs.Common.{◌&&◌, fold, slice_get}
+use Rattle.std.proofs.lemmas.Bool.{cond-true}
 use Rattle.sctp_assoc.specs.Closing.{exhausted, is_exhausted, out_of_resource}
 use Rattle.sctp_assoc.specs.Control.{queued}
 use Rattle.sctp_receive_queues.specs.Messages.{ReceivedMessage}
@@ -98,7 +117,7 @@ write_ticks (Some s) a id named bytes h = ticks_by a _ (time_by a _ refl refl re
 write_rests : (o : Option StreamView) (a : Shown) (id : ℕ) (named : Option PayloadProtocolIdentifier) (bytes : List ℕ)
     → AtRest a → AtRest (written_at o a id named bytes)
 write_rests None a id named bytes h = h
-write_rests (Some s) a id named bytes h = rest_by a _ refl refl refl refl h
+write_rests (Some s) a id named bytes h = rest_by a _ refl refl refl refl refl h
 
 -- a limit is set
 limit_ticks : (failed : Bool) (a : Shown) (size : ℕ) → Ticks a
@@ -109,7 +128,7 @@ limit_ticks false a size h = ticks_by a _ (time_by a _ refl refl refl refl refl 
 limit_rests : (failed : Bool) (a : Shown) (size : ℕ) → AtRest a
     → AtRest (if failed then a else record a { max_send_message_size = size })
 limit_rests true a size h = h
-limit_rests false a size h = rest_by a _ refl refl refl refl h
+limit_rests false a size h = rest_by a _ refl refl refl refl refl h
 
 -- a stream is accepted
 accepted_time : (ids : List ℕ) (a : Shown) → IsSameTime a (accepted_from ids a).0
@@ -125,11 +144,14 @@ accept_ticks : (failed : Bool) (a : Shown) → Ticks a
     → Ticks (if failed then (a, None) else accepted_from a.to_accept a).0
 accept_ticks failed a h = ticks_by a _ (accept_time failed a) h
 
+accepted_rests : (ids : List ℕ) (a : Shown) → AtRest a → AtRest (accepted_from ids a).0
+accepted_rests [] a h = h
+accepted_rests (id ∷ ids) a h = rest_by a _ refl refl refl refl refl h
+
 accept_rests : (failed : Bool) (a : Shown) → AtRest a
     → AtRest (if failed then (a, None) else accepted_from a.to_accept a).0
-accept_rests failed a h =
-    let same = accept_time failed a in
-    rest_by a _ same.failed same.lost same.state same.timers h
+accept_rests true a h = h
+accept_rests false a h = accepted_rests a.to_accept a h
 
 -- the association is closed
 close_sound : (closed : Bool) (a : Shown) (reason : AssociationError) → Ticks a
@@ -142,41 +164,120 @@ close_rests : (closed : Bool) (a : Shown) (reason : AssociationError) → AtRest
 close_rests true a reason h = h
 close_rests false a reason h = closed_rests a reason
 
-poll_ticks : (queued : List Event) (a : Shown) → Ticks a → Ticks (with_told (event_from queued a)).0
-poll_ticks [] a h = ticks_by a _ (time_by a _ refl refl refl refl refl refl) h
-poll_ticks (e ∷ es) a h = ticks_by a _ (time_by a _ refl refl refl refl refl refl) h
+-- an event is told
+poll_ticks : (x : ResetsView × List Event × Option Event) (a : Shown) → Ticks a → Ticks (with_told (event_from x a)).0
+poll_ticks (r, left, None) a h = ticks_by a _ (time_by a _ refl refl refl refl refl refl) h
+poll_ticks (r, left, Some e) a h = ticks_by a _ (time_by a _ refl refl refl refl refl refl) h
 
-poll_rests : (queued : List Event) (a : Shown) → AtRest a → AtRest (with_told (event_from queued a)).0
-poll_rests [] a h = rest_by a _ refl refl refl refl h
-poll_rests (e ∷ es) a h = rest_by a _ refl refl refl refl h
+poll_rests : (x : ResetsView × List Event × Option Event) (a : Shown) → x.0.own ≡ a.resets.own → AtRest a
+    → AtRest (with_told (event_from x a)).0
+poll_rests (r, left, None) a own h = rest_by a _ refl refl refl refl own h
+poll_rests (r, left, Some e) a own h = rest_by a _ refl refl refl refl own h
+
+event_keeps_requests : (o : Option Event) (r : ResetsView) (left : List Event) → (with_event o r left).0.own ≡ r.own
+event_keeps_requests None r left = refl
+event_keeps_requests (Some e) r left = refl
+
+told_keeps_requests : (o : Option ℕ) (r : ResetsView) (told : List Event) → (event_told_at o r told).0.own ≡ r.own
+told_keeps_requests None r told = refl
+told_keeps_requests (Some index) r told = event_keeps_requests (slice_get told index) r (remove told index)
 
 -- a read, which may leave the receive buffer exhausted
 relieved_sound : (e : Bool) (b : Shown) → Ticks b → IsSound (if e then exhausted b else b)
 relieved_sound true b h = exhausted_sound (is_closed_state b.state) b h
 relieved_sound false b h = inl h
 
-read_sound : (x : StreamMap × Option ReceivedMessage) (a : Shown) → Ticks a → IsSound (after_read a x).0
-read_sound (streams, None) a h = inl (ticks_by a _ (time_by a _ refl refl refl refl refl refl) h)
-read_sound (streams, Some message) a h =
-    let b : Shown = record a { streams = streams } in
-    relieved_sound (is_exhausted b) b (ticks_by a b (time_by a b refl refl refl refl refl refl) h)
+read_sound : (x : StreamMap × Option ReceivedMessage) (a : Shown) (id : ℕ) → Ticks a → IsSound (after_read a id x).0
+read_sound (streams, None) a id h = inl (ticks_beside a _ (draining_changes a id streams) h)
+read_sound (streams, Some message) a id h =
+    let b : Shown = drained_behind a id streams in
+    relieved_sound (is_exhausted b) b (ticks_beside a b (draining_changes a id streams) h)
 
 exhausted_rests : (closed : Bool) (b : Shown) → AtRest b
     → AtRest (queued (if closed then b else closed_open b reasons.ReceiveBufferExhausted) out_of_resource)
-exhausted_rests true b h = rest_by b _ refl refl refl refl h
+exhausted_rests true b h = rest_by b _ refl refl refl refl refl h
 exhausted_rests false b h =
-    rest_by (closed_open b reasons.ReceiveBufferExhausted) _ refl refl refl refl
+    rest_by (closed_open b reasons.ReceiveBufferExhausted) _ refl refl refl refl refl
     (closed_rests b reasons.ReceiveBufferExhausted)
 
 relieved_rests : (e : Bool) (b : Shown) → AtRest b → AtRest (if e then exhausted b else b)
 relieved_rests true b h = exhausted_rests (is_closed_state b.state) b h
 relieved_rests false b h = h
 
-read_rests : (x : StreamMap × Option ReceivedMessage) (a : Shown) → AtRest a → AtRest (after_read a x).0
-read_rests (streams, None) a h = rest_by a _ refl refl refl refl h
-read_rests (streams, Some message) a h =
-    let b : Shown = record a { streams = streams } in
-    relieved_rests (is_exhausted b) b (rest_by a b refl refl refl refl h)
+read_keeps_requests : (r : ResetsView) (x : Reading) → (with_read r x).0.own ≡ r.own
+read_keeps_requests r (g, c) = refl
+
+resetting_rests : (a : Shown) (x : Resetting) → x.0.own ≡ a.resets.own → AtRest a → AtRest (with_resetting a x)
+resetting_rests a (r, c) own h = rest_by a _ refl refl refl refl own h
+
+drained_rests : (a : Shown) (id : ℕ) (streams : StreamMap) → AtRest a → AtRest (drained_behind a id streams)
+drained_rests a id streams h =
+    let first = a.sender.queue.next_message_id in
+    let limit = a.receiver.max_receive_message_size in
+    let all = channels streams a.events a.to_accept in
+    resetting_rests a (read_out first limit id a.resets all)
+    (read_keeps_requests a.resets
+    (drained_out first limit id (boundary_of a.resets.peer id) (a.resets.generations, all))) h
+
+read_rests : (x : StreamMap × Option ReceivedMessage) (a : Shown) (id : ℕ) → AtRest a → AtRest (after_read a id x).0
+read_rests (streams, None) a id h = drained_rests a id streams h
+read_rests (streams, Some message) a id h =
+    let b : Shown = drained_behind a id streams in relieved_rests (is_exhausted b) b (drained_rests a id streams h)
+
+-- a poll of one that is closed, which asks for no reset
+
+none_sent : (active : Option SentRequest) (queued : List OwnRequest) (o : OwnView) (q : Outbound) → active ≡ None
+    → queued ≡ []
+    → (if is_some active then (o, None) else sent_from queued o q) ≡ (o, None)
+none_sent None [] o q e f = refl
+none_sent None (x ∷ xs) o q e f = absurd cc
+none_sent (Some s) queued o q e f = absurd (true≢false (ap (λ (z : Option SentRequest). is_some z) e))
+
+placed_requests : (b : Shown) (packets : List (List ℕ)) (x : OwnView × Option ParamOutgoingResetRequest)
+    → x ≡ (b.resets.own, None) → (with_request_placed (b, packets) (with_own b.resets x)).0.resets.own ≡ b.resets.own
+placed_requests b packets x e =
+    ap (λ (z : OwnView × Option ParamOutgoingResetRequest).
+    (with_request_placed (b, packets) (with_own b.resets z)).0.resets.own) e
+
+given_requests : (o : OwnView) (x : Shown × List (List ℕ)) (c : Control) → IsQuiet o → x.0.resets.own ≡ o
+    → (with_control_given x c).0.resets.own ≡ o
+given_requests o (b, packets) (controls.Packet c) quiet e = e
+given_requests o (b, packets) controls.OwnRequest quiet e =
+    let q = b.sender.queue in
+    placed_requests b packets (sent_first b.resets.own q)
+    (none_sent b.resets.own.active b.resets.own.queued b.resets.own q
+    (ap (λ (z : OwnView). z.active) e ∙ quiet.0) (ap (λ (z : OwnView). z.queued) e ∙ quiet.1)) ∙ e
+
+all_given_requests : (o : OwnView) (cs : List Control) (x : Shown × List (List ℕ)) → IsQuiet o → x.0.resets.own ≡ o
+    → (fold with_control_given x cs).0.resets.own ≡ o
+all_given_requests o [] x quiet e = e
+all_given_requests o (c ∷ cs) x quiet e =
+    all_given_requests o cs (with_control_given x c) quiet (given_requests o x c quiet e)
+
+control_rests : (a : Shown) → a.failed ≡ false → AtRest a
+    → AtRest (control_polled a).0 × ((control_polled a).0.resets.own.active ≡ None)
+control_rests a works h =
+    let b = (control_polled a).0 in
+    let c : Shown = with_own_control a b.resets.own b.control in
+    let quiet = h.quiet works in
+    let own : b.resets.own ≡ a.resets.own =
+    all_given_requests a.resets.own a.control (without_control a, []) quiet refl in (
+      subst AtRest (sym (control_leaves a)) (rest_by a c refl refl refl refl own h),
+      ap (λ (z : OwnView). z.active) own ∙ quiet.0,
+    )
+
+no_run_if : (active runs : Bool) (b c : Shown) → active ≡ false → (if active && runs then c else b) ≡ b
+no_run_if true runs b c e = absurd (true≢false e)
+no_run_if false runs b c e = refl
+
+poll_transmit_rests : (a : Shown) (now : ℕ) → a.failed ≡ false → a.lost ≡ true → AtRest a → AtRest (polled a now).0
+poll_transmit_rests a now works lost h =
+    let b = (control_polled a).0 in
+    let there = control_rests a works h in
+    subst AtRest
+    (sym (silent_is a now (closed_waits_for_nothing a.state (h.closed lost)).0
+    ∙ no_run_if (is_some b.resets.own.active) _ b _ (ap (λ (z : Option SentRequest). is_some z) there.1)))
+    there.0
 
 ticks_carried : (call : Call) (a : Shown) → Ticks a → IsSound (carried_out call a).0
 ticks_carried (Call.OpenStream id kind) a h = inl (ticks_by a _ (time_by a _ refl refl refl refl refl refl) h)
@@ -185,27 +286,29 @@ ticks_carried (Call.Set id setting) a h = inl (ticks_by a _ (time_by a _ refl re
 ticks_carried Call.AcceptStream a h = inl (accept_ticks a.failed a h)
 ticks_carried (Call.SetMaxSendMessageSize size) a h = inl (limit_ticks a.failed a size h)
 ticks_carried Call.Close a h = close_sound (is_closed_state a.state) a reasons.AssociationClosed h
-ticks_carried (Call.Read id) a h = read_sound (read_in a.streams id) a h
-ticks_carried Call.Poll a h = inl (poll_ticks a.events a h)
+ticks_carried (Call.Read id) a h = read_sound (read_in a.streams id) a id h
+ticks_carried Call.Poll a h = inl (poll_ticks (event_told a.resets a.events) a h)
 ticks_carried (Call.PollTransmit now) a h = inl (polls_tick a now h)
 ticks_carried (Call.HandleTimeout now) a h = inl (timeouts_tick a now h)
 ticks_carried (Call.HandleEvent packet now) a h = packets_sound packet a now h
 
-rest_carried : (call : Call) (a : Shown) → a.lost ≡ true → AtRest a → AtRest (carried_out call a).0
-rest_carried (Call.OpenStream id kind) a lost h = rest_by a _ refl refl refl refl h
-rest_carried (Call.Write id named bytes) a lost h = write_rests (stream_at a.streams id) a id named bytes h
-rest_carried (Call.Set id setting) a lost h = rest_by a _ refl refl refl refl h
-rest_carried Call.AcceptStream a lost h = accept_rests a.failed a h
-rest_carried (Call.SetMaxSendMessageSize size) a lost h = limit_rests a.failed a size h
-rest_carried Call.Close a lost h = close_rests (is_closed_state a.state) a reasons.AssociationClosed h
-rest_carried (Call.Read id) a lost h = read_rests (read_in a.streams id) a h
-rest_carried Call.Poll a lost h = poll_rests a.events a h
-rest_carried (Call.PollTransmit now) a lost h =
-    let quiet = polls_outside_established_give_what_waits a now (closed_waits_for_nothing a.state (h.closed lost)).0 in
-    subst (λ (x : Shown × List (List ℕ)). AtRest x.0) (sym quiet) (rest_by a (without_control a) refl refl refl refl h)
-rest_carried (Call.HandleTimeout now) a lost h = subst AtRest (sym (unarmed_timeouts_do_nothing a now h.stopped)) h
-rest_carried (Call.HandleEvent packet now) a lost h = subst AtRest
-    (sym (lost_associations_take_nothing a packet now lost)) h
+rest_carried : (call : Call) (a : Shown) → a.failed ≡ false → a.lost ≡ true → AtRest a
+    → AtRest (carried_out call a).0
+rest_carried (Call.OpenStream id kind) a works lost h = rest_by a _ refl refl refl refl refl h
+rest_carried (Call.Write id named bytes) a works lost h = write_rests (stream_at a.streams id) a id named bytes h
+rest_carried (Call.Set id setting) a works lost h = rest_by a _ refl refl refl refl refl h
+rest_carried Call.AcceptStream a works lost h = accept_rests a.failed a h
+rest_carried (Call.SetMaxSendMessageSize size) a works lost h = limit_rests a.failed a size h
+rest_carried Call.Close a works lost h = close_rests (is_closed_state a.state) a reasons.AssociationClosed h
+rest_carried (Call.Read id) a works lost h = read_rests (read_in a.streams id) a id h
+rest_carried Call.Poll a works lost h =
+    poll_rests (event_told a.resets a.events) a
+    (told_keeps_requests (next_told a.resets.generations a.resets.debts a.events) a.resets a.events) h
+rest_carried (Call.PollTransmit now) a works lost h = poll_transmit_rests a now works lost h
+rest_carried (Call.HandleTimeout now) a works lost h =
+    subst AtRest (sym (unarmed_timeouts_do_nothing a now h.stopped)) h
+rest_carried (Call.HandleEvent packet now) a works lost h =
+    subst AtRest (sym (cond-true a.lost a (after_packet_of a packet now) lost)) h
 
 is_lost : (a : Shown) → a.failed ≡ false → AtRest a → a.lost ≡ true
 is_lost a e h = ⊎_elim (λ (f : a.failed ≡ true). absurd (false≢true (sym e ∙ f))) (λ (l : a.lost ≡ true). l) h.over
@@ -216,7 +319,7 @@ sound_closed a (inr h) e = h.closed e
 
 works_sound : (call : Call) (a : Shown) → a.failed ≡ false → IsSound a → IsSound (carried_out call a).0
 works_sound call a works (inl h) = ticks_carried call a h
-works_sound call a works (inr h) = inr (rest_carried call a (is_lost a works h) h)
+works_sound call a works (inr h) = inr (rest_carried call a works (is_lost a works h) h)
 
 carried_sound : (call : Call) (a : Shown) → Works call a → IsSound a → IsSound (carried_out call a).0
 carried_sound call a (inl works) h = works_sound call a works h
@@ -227,6 +330,7 @@ fell_sound a b h f = inr (record {
   over = inl f.failed;
   closed = λ e. ap is_closed_state f.state ∙ sound_closed a h (sym f.lost ∙ e);
   stopped = fell_stopped a b f;
+  quiet = λ e. absurd (false≢true (sym e ∙ f.failed));
 })
 
 pub call_sound : (call : Call) (told : List Event) (a b : Shown) → IsSound a → Calls call told a b → IsSound b

@@ -15,12 +15,14 @@ use Rattle.sctp_assoc.specs.Calls.{after_ack_delay, after_t3, is_beginning, is_c
 use Rattle.sctp_assoc.specs.Calls.{is_established, retransmits, t3_expired}
 use Rattle.sctp_assoc.specs.Handshake.{after_t1_cookie, after_t1_init, sends_cookie, sends_init, t1_cookie_expired}
 use Rattle.sctp_assoc.specs.Handshake.{t1_init_expired}
+use Rattle.sctp_assoc.specs.Resets.{after_reconfig_timer}
 use Rattle.sctp_assoc.specs.Timeouts.{after_handshake_timers, after_timeouts}
 use Rattle.sctp_assoc.specs.Shown.{Shown}
 use Rattle.sctp_sides.proofs.TimersRun.{FitsTimers, Flies, IsSameTime, Ticks, Waits, ack_kept, ticks_by, time_by}
-use Rattle.sctp_sides.proofs.TimersRun.{unarmed_is_not_due}
+use Rattle.sctp_sides.proofs.TimersRun.{ticks_beside, unarmed_is_not_due}
+use Rattle.sctp_sides.proofs.ResetsBeside.{reconfig_timer_changes}
 
-kept_if : {A : Type 0} (c : Bool) (x y : Timers) (part : Timers → A) → part x ≡ part y
+pub kept_if : {A : Type 0} (c : Bool) (x y : Timers) (part : Timers → A) → part x ≡ part y
     → part (if c then x else y) ≡ part y
 kept_if true x y part e = e
 kept_if false x y part e = refl
@@ -291,7 +293,8 @@ timeouts_tick a now h =
     let hd : Ticks d =
     t3_ticks (expiry_of names.T3RTX now c.timers).expired (expiry_of names.T3RTX now c.timers).failed c now
     refl refl hc in
-    delay_ticks d now hd
+    let e : Shown = after_reconfig_timer d now in
+    delay_ticks e now (ticks_beside d e (reconfig_timer_changes d now) hd)
 
 -- Where no timer runs nothing happens
 
@@ -304,10 +307,12 @@ undue o now e = unarmed_is_not_due o now (ap (λ (z : Option ℕ). is_some z) e)
 
 pub unarmed_timeouts_do_nothing : (a : Shown) (now : ℕ) → IsNoneArmed a.timers → after_timeouts a now ≡ a
 unarmed_timeouts_do_nothing a now h =
-    ap (λ (z : Shown). after_ack_delay (after_t3 (after_t1_cookie z now) now) now)
+    ap (λ (z : Shown). after_ack_delay (after_reconfig_timer (after_t3 (after_t1_cookie z now) now) now) now)
     (quiet (expiry_of names.T1Init now a.timers).expired _ a (undue a.timers.t1_init.moment now (h names.T1Init)))
-    ∙ ap (λ (z : Shown). after_ack_delay (after_t3 z now) now)
+    ∙ ap (λ (z : Shown). after_ack_delay (after_reconfig_timer (after_t3 z now) now) now)
     (quiet (expiry_of names.T1Cookie now a.timers).expired _ a (undue a.timers.t1_cookie.moment now (h names.T1Cookie)))
-    ∙ ap (λ (z : Shown). after_ack_delay z now) (quiet (expiry_of names.T3RTX now a.timers).expired _ a
-    (undue a.timers.t3_rtx.moment now (h names.T3RTX)))
+    ∙ ap (λ (z : Shown). after_ack_delay (after_reconfig_timer z now) now)
+    (quiet (expiry_of names.T3RTX now a.timers).expired _ a (undue a.timers.t3_rtx.moment now (h names.T3RTX)))
+    ∙ ap (λ (z : Shown). after_ack_delay z now) (quiet (expiry_of names.Reconfig now a.timers).expired _ a
+    (undue a.timers.reconfig.moment now (h names.Reconfig)))
     ∙ quiet (expiry_of names.Ack now a.timers).expired _ a (undue a.timers.ack.moment now (h names.Ack))

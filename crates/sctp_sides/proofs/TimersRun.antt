@@ -11,10 +11,12 @@ use Rattle.sctp_parts.specs.declared.timer.Timer.TheVariants as names
 use Rattle.sctp_parts.specs.Timers.{IsNoneArmed, TimerState, Timers, is_ahead, is_due, moment_of, passes}
 use Rattle.sctp_parts.specs.Timers.{restarted_if_stale, started}
 use Rattle.sctp_outbound_queue.specs.declared.message.InFlight.{InFlight}
+use Rattle.sctp_reset_requests.specs.Own.{OwnView}
 use Rattle.sctp_assoc.specs.Calls.{is_beginning, is_cookie_echoed, is_cookie_wait, is_established}
 use Rattle.sctp_assoc.specs.Closing.{is_closed_state}
 use Rattle.sctp_sides.specs.OneSide.{is_armed, is_delayed}
 use Rattle.sctp_assoc.specs.Shown.{Shown, all_stopped}
+use Rattle.sctp_sides.proofs.ResetsBeside.{ChangesResets, with_resets_of}
 
 -- T3-rtx runs where DATA is in flight in Established, or is past its limit; with nothing in flight it does not run.
 pub record Flies (established : Bool) (flown : List InFlight) (t3 : TimerState) (limit : Option ℕ) : Type 0 where
@@ -45,11 +47,16 @@ pub record Ticks (a : Shown) : Type 0 where
   pub fits : FitsTimers a.state a.sender.queue.in_flight a.timers
   pub acks : is_some a.timers.ack.moment ≡ is_delayed a.receiver.ack_state
 
--- An association that failed or was lost.
+-- No request of this side to reset streams was sent and is not answered, and none was made.
+abbrev pub IsQuiet : OwnView → Type 0
+IsQuiet o = (o.active ≡ None) × (o.queued ≡ [])
+
+-- An association that failed or was lost. One that was lost asks for no reset.
 pub record AtRest (a : Shown) : Type 0 where
   pub over : (a.failed ≡ true) ⊎ (a.lost ≡ true)
   pub closed : a.lost ≡ true → is_closed_state a.state ≡ true
   pub stopped : IsNoneArmed a.timers
+  pub quiet : a.failed ≡ false → IsQuiet a.resets.own
 
 -- What none of this looks at may change.
 pub record IsSameTime (a b : Shown) : Type 0 where
@@ -99,12 +106,28 @@ time_on a b c x y = record {
   acks = y.acks ∙ x.acks;
 }
 
+-- what resets change leaves the timers that this looks at
+pub ticks_beside : (a b : Shown) → ChangesResets a b → Ticks a → Ticks b
+ticks_beside a b e h =
+    subst Ticks (sym e)
+    (record { working = h.working; not_lost = h.not_lost; fits = fits_beside a b h; acks = h.acks })
+  where
+    fits_beside : (a b : Shown) → Ticks a
+        → FitsTimers a.state a.sender.queue.in_flight (with_resets_of a b).timers
+    fits_beside a b h = record {
+      flies = h.fits.flies;
+      inits = h.fits.inits;
+      cookies = h.fits.cookies;
+      unsent = h.fits.unsent;
+    }
+
 pub rest_by : (a b : Shown) → b.failed ≡ a.failed → b.lost ≡ a.lost → b.state ≡ a.state → b.timers ≡ a.timers
-    → AtRest a → AtRest b
-rest_by a b failed lost state timers h = record {
+    → b.resets.own ≡ a.resets.own → AtRest a → AtRest b
+rest_by a b failed lost state timers own h = record {
   over = ⊎_elim (λ (e : a.failed ≡ true). inl (failed ∙ e)) (λ (e : a.lost ≡ true). inr (lost ∙ e)) h.over;
   closed = λ e. ap is_closed_state state ∙ h.closed (sym lost ∙ e);
   stopped = subst IsNoneArmed (sym timers) h.stopped;
+  quiet = λ e. subst IsQuiet (sym own) (h.quiet (sym failed ∙ e));
 }
 
 -- States

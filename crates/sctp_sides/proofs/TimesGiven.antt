@@ -193,7 +193,7 @@ module _ (under : Bool) (n o t : ℕ) (small : n < 2 ^ 32 - 1) where
       same_stands p (done (Act.Opened id first kind) p) refl refl h
   act_stands (Act.Wrote id named bytes) p can spares h = written_stands (stream_at p.streams id) p id named bytes h
   act_stands (Act.Adjusted id setting) p can spares h = same_stands p (done (Act.Adjusted id setting) p) refl refl h
-  act_stands (Act.SpanEnded id m) p can spares h = same_stands p (done (Act.SpanEnded id m) p) refl refl h
+  act_stands (Act.SpansEnded ids m) p can spares h = same_stands p (done (Act.SpansEnded ids m) p) refl refl h
   act_stands (Act.Sent now) p can spares h = sent_stands p.queue.pending now p can h
   act_stands (Act.SentAgain by index) p can spares h =
       again_stands (slice_get p.queue.in_flight index) by index p refl spares h

@@ -37,16 +37,15 @@ use Rattle.sctp_assoc.specs.Happened.{acts_of_ack, acts_of_data_poll, acts_of_fo
 use Rattle.sctp_assoc.specs.Calls.{is_established}
 use Rattle.sctp_sides.specs.Laws.{IsNextWithNothingInFlight, IsNotLate, PollsBeginWithWhatWaits, WhatWaitsIsGiven}
 use Rattle.sctp_sides.specs.Laws.{WhatWaitsIsPolled}
-use Rattle.sctp_assoc.specs.Gather.{both_of, control_packets, data_polled, exchange_polled, fast_polled, fast_sent}
+use Rattle.sctp_assoc.specs.Gather.{both_of, control_polled, data_polled, exchange_polled, fast_polled, fast_sent}
 use Rattle.sctp_assoc.specs.Gather.{late_abandoned, late_dropped, marks_polled, marks_sent, new_sent, spent_abandoned}
-use Rattle.sctp_assoc.specs.Gather.{without_control}
 use Rattle.sctp_assoc.specs.Shown.{Shown, uses_forward_tsn}
 use Rattle.sctp_assoc.proofs.ActsKeepOffsets.{given_append}
 use Rattle.sctp_assoc.proofs.PolledSteps.{data_of_poll, data_poll_carries, data_poll_gives}
 use Rattle.sctp_sides.proofs.BundlesFilled.{IsFilled, polled_bundles_are_filled}
 use Rattle.sctp_sides.proofs.GivingUpKeeps.{as_both}
-use Rattle.sctp_sides.proofs.PolledExchange.{exchange_gives_these}
-use Rattle.sctp_assoc.proofs.PollsLeadOn.{both_second}
+use Rattle.sctp_sides.proofs.PollsLeave.{control_leaves, exchange_said, polled_gives_behind}
+use Rattle.sctp_assoc.proofs.GivenApart.{with_own_control}
 
 -- lists that begin with something go on beginning with it
 first_before : {X : Type 0} (xs ys : List X) (x : X) → slice_get xs 0 ≡ Some x → slice_get (xs ++ ys) 0 ≡ Some x
@@ -361,8 +360,8 @@ exchange_begins a now m established next kept short =
     first_bundle (header_of a.handshake) (data_polled a now).1 (next_chunk_of m (next_tsn_of a.sender.queue))
     (polled_bundles_are_filled a now) (what_waits_is_polled a now m next kept short) in (
       first.0,
-      ap (λ (z : List (List ℕ)). slice_get z 0) (exchange_gives_these a now established)
-          ∙ first_before _ _ _ (first_before _ _ _ first.1),
+      ap (λ (z : List (List ℕ)). slice_get z 0) (exchange_said a now established)
+          ∙ first_before _ _ _ (first_before _ _ _ (first_before _ _ _ first.1)),
     )
 
 behind : {X : Type 0} (xs ys : List X) → slice_get (xs ++ ys) (length xs) ≡ slice_get ys 0
@@ -371,12 +370,13 @@ behind (x ∷ xs) ys = behind xs ys
 
 pub polls_begin_with_what_waits : PollsBeginWithWhatWaits
 polls_begin_with_what_waits a now m established next kept short =
-    let b : Shown = without_control a in
-    let waits : IsNextWithNothingInFlight b
+    let b = (control_polled a).0 in
+    let c : Shown = with_own_control a b.resets.own b.control in
+    let waits : IsNextWithNothingInFlight c
     m = record { others = next.others; waits = next.waits; flown = next.flown } in
-    let first = exchange_begins b now m established waits kept short in (
+    let first = exchange_begins c now m established waits kept short in (
       first.0,
-      ap (λ (z : List (List ℕ)). slice_get z (length (control_packets a.control)))
-          (both_second (control_packets a.control) (exchange_polled b now))
-          ∙ behind (control_packets a.control) (exchange_polled b now).1 ∙ first.1,
+      ap (λ (z : List (List ℕ)). slice_get z (length (control_polled a).1)) (polled_gives_behind a now)
+          ∙ behind (control_polled a).1 (exchange_polled b now).1
+          ∙ ap (λ (z : Shown). slice_get (exchange_polled z now).1 0) (control_leaves a) ∙ first.1,
     )

@@ -21,17 +21,15 @@ use Rattle.sctp_outbound.specs.Forward.{forward_given}
 use Rattle.sctp_outbound.specs.Sender.{can_send_next, fits_windows, sent_new, sent_one, sent_within}
 use Rattle.sctp_directions.specs.Acts.{Act}
 use Rattle.sctp_assoc.specs.Calls.{is_established}
-use Rattle.sctp_assoc.specs.Gather.{control_packets, data_polled, exchange_polled, fast_polled, is_due, late_dropped}
-use Rattle.sctp_assoc.specs.Gather.{polled}
-use Rattle.sctp_assoc.specs.Gather.{without_control}
+use Rattle.sctp_assoc.specs.Gather.{data_polled, fast_polled, is_due, late_dropped, polled}
 use Rattle.sctp_assoc.specs.Happened.{acts_of_ack, acts_of_data_poll, acts_of_forwarding, acts_of_new}
 use Rattle.sctp_assoc.specs.Happened.{acts_of_sending, first_sent, forwards_of_poll}
 use Rattle.sctp_assoc.specs.Shown.{Shown, uses_forward_tsn}
-use Rattle.sctp_assoc.proofs.PollsLeadOn.{both_first}
 use Rattle.sctp_sides.specs.Laws.{NewDataStaysInTheCongestionWindow}
 use Rattle.sctp_sides.specs.SideLaws.{GivesUpOrAgain}
 use Rattle.sctp_sides.proofs.ActsOfChunks.{data_poll_acts, new_acts, old_acts, old_acts_are_old}
-use Rattle.sctp_sides.proofs.GivingUpKeeps.{KeptByPolls, drops_poll_kept, exchange_is}
+use Rattle.sctp_sides.proofs.GivingUpKeeps.{KeptByPolls, drops_poll_kept}
+use Rattle.sctp_sides.proofs.PollsLeave.{polled_sender as sender_left}
 
 -- Of a sender.
 
@@ -277,11 +275,7 @@ data_sender a now = refl
 polled_sender : (a : Shown) (now : ℕ) → is_established a.state ≡ true
     → (polled a now).0.sender
     ≡ forward_given (sent_new (late_dropped (fast_polled a now) now).sender now).0
-polled_sender a now e =
-    let b : Shown = without_control a in
-    ap (λ (z : Shown). z.sender)
-    (both_first (control_packets a.control) (exchange_polled b now) ∙ exchange_is b now e)
-    ∙ ap (λ (z : Sender). forward_given z) (data_sender b now)
+polled_sender a now e = sender_left a now e ∙ ap (λ (z : Sender). forward_given z) (data_sender a now)
 
 window_in : (established : Bool) (a : Shown) (now index at : ℕ) → is_established a.state ≡ established
     → a.sender.congestion.cwnd < 2 ^ 32

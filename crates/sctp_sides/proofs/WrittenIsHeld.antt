@@ -34,12 +34,11 @@ use Rattle.sctp_streams.specs.Streams.{StreamMap, stream_at}
 use Rattle.sctp_directions.specs.Acts.{message_of, type_on}
 use Rattle.sctp_assoc.specs.Calls.{is_established, written_at}
 use Rattle.sctp_sides.specs.Laws.{IsDroppedAt, PollsKeepWhatIsHeld, WritesAreHeld, is_held}
-use Rattle.sctp_assoc.specs.Gather.{both_of, control_packets, data_polled, exchange_polled, fast_polled, late_dropped}
-use Rattle.sctp_assoc.specs.Gather.{without_control}
+use Rattle.sctp_assoc.specs.Gather.{both_of, data_polled, fast_polled, late_dropped, polled}
 use Rattle.sctp_assoc.specs.Shown.{Shown, uses_forward_tsn}
 use Rattle.sctp_assoc.proofs.PolledData.{one_queue}
-use Rattle.sctp_assoc.proofs.PollsLeadOn.{both_first}
-use Rattle.sctp_sides.proofs.GivingUpKeeps.{KeptByGivingUp, drops_poll_before, exchange_is}
+use Rattle.sctp_sides.proofs.GivingUpKeeps.{KeptByGivingUp, drops_poll_before}
+use Rattle.sctp_sides.proofs.PollsLeave.{polled_sender, silent_sender}
 
 abbrev waits : ℕ → List Waiting → Bool
 waits number ms = list_any (λ (m : Waiting). m.message.message_id == number) ms
@@ -593,27 +592,12 @@ data_held a now number held =
 
 polls_held_if : (c : Bool) (a : Shown) (now number : ℕ) → is_established a.state ≡ c
     → is_held a.sender.queue number ≡ true
-    → (is_held (exchange_polled a now).0.sender.queue number ≡ true) ⊎ IsDroppedAt a now number
-unfolding exchange_polled
+    → (is_held (polled a now).0.sender.queue number ≡ true) ⊎ IsDroppedAt a now number
 polls_held_if true a now number e held =
-    subst (λ (z : Shown). (is_held z.sender.queue number ≡ true) ⊎ IsDroppedAt a now number)
-    (sym (exchange_is a now e)) (data_held a now number held)
-polls_held_if false a now number e held = rw e (inl held)
+    subst (λ (s : Sender). (is_held s.queue number ≡ true) ⊎ IsDroppedAt a now number)
+    (sym (polled_sender a now e)) (data_held a now number held)
+polls_held_if false a now number e held =
+    inl (ap (λ (s : Sender). is_held s.queue number) (silent_sender a now e) ∙ held)
 
 pub polls_keep_what_is_held : PollsKeepWhatIsHeld
-polls_keep_what_is_held a now number held =
-    let b : Shown = without_control a in
-    ⊎_elim
-    (λ (e : is_held (exchange_polled b now).0.sender.queue number ≡ true).
-    inl (ap (λ (z : Shown). is_held z.sender.queue number)
-    (both_first (control_packets a.control) (exchange_polled b now)) ∙ e))
-    (λ (r : IsDroppedAt b now number). inr (record {
-      used = r.used;
-      index = r.index;
-      message = r.message;
-      there = r.there;
-      named = r.named;
-      unsent = r.unsent;
-      late = r.late;
-    }))
-    (polls_held_if (is_established b.state) b now number refl held)
+polls_keep_what_is_held a now number held = polls_held_if (is_established a.state) a now number refl held

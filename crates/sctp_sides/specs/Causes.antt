@@ -1,17 +1,20 @@
 -- What closes an association: the chunks that are faults, by what stands in them and in the state (RFC 4960
 -- sections 3.3, 5 and 6.2.1).
 use Rattle.std.specs.Prelude.{◌≡◌, ◌≢◌, ◌⊎◌, ◌↔◌, ◌≤◌, ◌<◌, ℕ, zero, suc, ◌+◌, ◌%◌, ◌^◌, true, false, List, [], ◌∷◌}
-use Rattle.std.specs.Prelude.{length}
-use Rattle.std.specs.Prelude.{slice_get, Some, None, Err, ⊤}
+use Rattle.std.specs.Prelude.{length, ◌-◌, min, Bool}
+use Rattle.std.specs.Prelude.{slice_get, Option, Some, None, Err, ⊤}
 use Rattle.sctp_wire_types.specs.Checks.{checked_chunk}
 use Rattle.sctp_serial.specs.Serial.{tsn_gt, tsn}
 use Rattle.sctp_wire_types.specs.declared.chunk.Chunk.{Chunk}
 use Rattle.sctp_wire_types.specs.declared.chunk.Chunk.TheVariants as chunks
 use Rattle.sctp_wire_types.specs.declared.chunk.ChunkInit.{ChunkInit}
 use Rattle.sctp_wire_types.specs.declared.chunk.ChunkPayloadData.{ChunkPayloadData}
+use Rattle.sctp_wire_types.specs.declared.chunk.ChunkReconfig.{ChunkReconfig}
 use Rattle.sctp_wire_types.specs.declared.chunk.ChunkSelectiveAck.{ChunkSelectiveAck}
 use Rattle.sctp_wire_types.specs.declared.error.Error.{Error}
 use Rattle.sctp_wire_types.specs.declared.packet.CommonHeader.{CommonHeader}
+use Rattle.sctp_wire_types.specs.declared.param.Param.{Param}
+use Rattle.sctp_wire_types.specs.declared.param.Param.TheVariants as params
 use Rattle.sctp_wire.specs.declared.packet.Packet.{Packet}
 use Rattle.sctp_parts.specs.declared.state.AssociationState.{AssociationState}
 use Rattle.sctp_parts.specs.declared.state.AssociationState.TheVariants as states
@@ -23,7 +26,8 @@ use Rattle.sctp_assoc.specs.declared.inbound.Flow.{Flow}
 use Rattle.sctp_assoc.specs.declared.inbound.Flow.TheVariants as flows
 use Rattle.sctp_streams.specs.Stream.{StreamView, is_read_half_open}
 use Rattle.std.specs.List.{AllByRecursion}
-use Rattle.sctp_streams.specs.Streams.{bytes_waiting, live_streams}
+use Rattle.sctp_streams.specs.Streams.{StreamMap, bytes_waiting, live_streams}
+use Rattle.sctp_receive_queues.specs.Pieces.{bytes_of}
 use Rattle.sctp_receive_queues.specs.Reassembly.{ready}
 use Rattle.sctp_model.specs.Packets.{mem}
 use Rattle.sctp_assoc.specs.Happened.{acts_of_chunk}
@@ -31,7 +35,7 @@ use Rattle.sctp_assoc.specs.Leads.{Binds, parts}
 use Rattle.sctp_directions.specs.Acts.{History, IsNewTsn, Parts, done_all, reach_in}
 use Rattle.sctp_fit.specs.Incoming.{tsn_before}
 use Rattle.sctp_assoc.specs.Chunks.{on_chunk}
-use Rattle.sctp_sides.specs.Intake.{HasStreamFor, MayTakeIn, refusal_of}
+use Rattle.sctp_sides.specs.Intake.{HasStreamFor, MayKeepApart, MayTakeIn, is_for_later, later_refusal_of, refusal_of}
 use Rattle.sctp_sides.specs.Laws.{closes}
 use Rattle.sctp_sides.specs.SideLaws.{CouldPassOver}
 use Rattle.sctp_assoc.specs.Shown.{Shown}
@@ -48,31 +52,55 @@ pub record FitsNoMessage (a : Shown) (h : History) (piece : ChunkPayloadData) : 
   pub error : Error
   pub refused : refusal_of a piece ≡ Some error
 
+-- DATA of a generation of its stream that is not read yet may be kept, and does not fit to what waits of that
+-- generation (RFC 6525 section 5.2.2).
+pub record FitsNoLaterMessage (a : Shown) (h : History) (piece : ChunkPayloadData) : Type 0 where
+  pub may : MayKeepApart a h piece
+  pub error : Error
+  pub refused : later_refusal_of a piece ≡ Some error
+
 -- its read half is closed, or no message is ready on it
 abbrev pub IsUnreadable : StreamView → Type 0
 IsUnreadable t = is_read_half_open t.halves ≡ true → ready t.reassembly ≡ []
 
--- Of a receive buffer of this size: as many bytes wait, none of them is past a gap, and no stream whose read half is
--- open has a message that is ready. Nothing more can come in order, and nothing can be read.
-pub record IsFullForGood (size : ℕ) (p : Parts) : Type 0 where
-  pub full : size ≤ bytes_waiting p.streams
-  pub some : 0 < bytes_waiting p.streams
+-- the bytes of DATA that are kept apart: of generations of streams that are not read yet
+abbrev pub kept_apart : Shown → ℕ
+kept_apart a = bytes_of a.resets.generations.deferred
+
+-- what is kept apart behind a chunk, before a fault closes the association; what asked to be acknowledged before, and
+-- when the chunk comes, has no part in it
+abbrev pub kept_behind : Shown → CommonHeader → Chunk → ℕ
+kept_behind a header chunk = kept_apart (on_chunk a header chunk triggers.None 0).0
+
+-- the bytes that wait on live streams, and so many that are kept apart, at most the greatest number of 64 bits
+abbrev pub waiting_with : ℕ → StreamMap → ℕ
+waiting_with kept m = min (bytes_waiting m + kept) (2 ^ 64 - 1)
+
+-- Of a receive buffer of this size, where so many bytes are kept apart: as many bytes wait in all, none of them is past
+-- a gap, and no stream whose read half is open has a message that is ready. Nothing more can come in order, and nothing
+-- can be read.
+pub record IsFullForGood (size kept : ℕ) (p : Parts) : Type 0 where
+  pub full : size ≤ waiting_with kept p.streams
+  pub some : 0 < waiting_with kept p.streams
   pub no_gap : (offset : ℕ) → mem offset p.history.taken ≡ true → offset < reach_in p.history
   pub unreadable : AllByRecursion IsUnreadable (live_streams p.streams)
 
--- DATA, whether or not it is taken in, leaves the receive buffer so. (DATA that its stream refuses is a fault by that,
--- and DATA for whose stream no generation is left is dropped.)
+-- DATA, whether or not it is taken in or kept, leaves the receive buffer so. (DATA that is refused, by its stream or by
+-- what waits of its generation, is a fault by that, and DATA for whose stream no generation is left is dropped.)
 pub record LeavesNothingToRead (a : Shown) (h : History) (header : CommonHeader) (piece : ChunkPayloadData)
     : Type 0 where
-  pub stream : IsNewTsn h piece.tsn → HasStreamFor a piece.stream_identifier
+  pub stream : IsNewTsn h piece.tsn → is_for_later a piece ≡ false → HasStreamFor a piece.stream_identifier
   pub fits : MayTakeIn a h piece → refusal_of a piece ≡ None
-  pub full : IsFullForGood a.receiver.buffer_size (done_all (acts_of_chunk a header (chunks.Data piece)) (parts a h))
+  pub later_fits : MayKeepApart a h piece → later_refusal_of a piece ≡ None
+  pub full : IsFullForGood a.receiver.buffer_size (kept_behind a header (chunks.Data piece))
+      (done_all (acts_of_chunk a header (chunks.Data piece)) (parts a h))
 
 -- A FORWARD TSN, which is in use, passes over what lies ahead and leaves the receive buffer so.
 pub record PassesToNothingToRead (a : Shown) (h : History) (header : CommonHeader) (chunk : Chunk) (tsn : ℕ)
     : Type 0 where
   pub could : CouldPassOver a h tsn
-  pub full : IsFullForGood a.receiver.buffer_size (done_all (acts_of_chunk a header chunk) (parts a h))
+  pub full : IsFullForGood a.receiver.buffer_size (kept_behind a header chunk)
+      (done_all (acts_of_chunk a header chunk) (parts a h))
 
 -- A cumulative TSN ack that is neither the acknowledged one nor the TSN of a piece in flight. The number that the SACK
 -- names counts modulo 2^32, as TSNs do.
@@ -112,10 +140,26 @@ pub record BringsNoCookie (a : Shown) (header : CommonHeader) (init : ChunkInit)
   pub destination : header.destination_port ≡ a.handshake.source_port
   pub no_cookie : first_cookie init.params ≡ None
 
+-- a parameter is a request to reset outgoing streams or a response (RFC 6525 section 3.1)
+abbrev pub is_of_reset : Param → Bool
+is_of_reset (params.OutgoingResetRequest request) = true
+is_of_reset (params.ReconfigResponse response) = true
+is_of_reset param = false
+
+abbrev pub is_second_of_reset : Option Param → Bool
+is_second_of_reset None = true
+is_second_of_reset (Some param) = is_of_reset param
+
+-- One of the parameters of RE-CONFIG, which has one or two, is neither. (They are taken in order: what stands in front
+-- of it is done.)
+abbrev pub HasOtherParameter : ChunkReconfig → Type 0
+HasOtherParameter reconfig = (is_of_reset reconfig.first ≡ false) ⊎ (is_second_of_reset reconfig.second ≡ false)
+
 -- what a chunk of each kind is a fault by; an ABORT or an ERROR always is one, and so is a chunk of a kind that is
 -- not processed
 abbrev pub IsCauseOfItsKind : Shown → History → CommonHeader → Chunk → Type 0
-IsCauseOfItsKind a h header (chunks.Data piece) = FitsNoMessage a h piece ⊎ LeavesNothingToRead a h header piece
+IsCauseOfItsKind a h header (chunks.Data piece) =
+    FitsNoMessage a h piece ⊎ (FitsNoLaterMessage a h piece ⊎ LeavesNothingToRead a h header piece)
 IsCauseOfItsKind a h header (chunks.SelectiveAck sack) = AcknowledgesTheUnsent a h sack
 IsCauseOfItsKind a h header (chunks.Init init) = IsPastTheHandshake a.state
 IsCauseOfItsKind a h header (chunks.InitAck init) = BringsNoCookie a header init
@@ -126,6 +170,7 @@ IsCauseOfItsKind a h header (chunks.ForwardTsn forward) =
     PassesToNothingToRead a h header (chunks.ForwardTsn forward) forward.new_cumulative_tsn
 IsCauseOfItsKind a h header (chunks.IForwardTsn forward) =
     PassesToNothingToRead a h header (chunks.IForwardTsn forward) forward.new_cumulative_tsn
+IsCauseOfItsKind a h header (chunks.Reconfig reconfig) = HasOtherParameter reconfig
 IsCauseOfItsKind a h header (chunks.Abort abort) = ⊤
 IsCauseOfItsKind a h header (chunks.Error error) = ⊤
 IsCauseOfItsKind a h header chunk = ⊤

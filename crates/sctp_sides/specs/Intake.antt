@@ -1,5 +1,7 @@
 -- Which DATA a side takes in, by what came before and by the room that it has (RFC 4960 section 6.2).
-use Rattle.std.specs.Prelude.{◌≡◌, ◌⊎◌, ◌<◌, ℕ, true, is_some, List, slice_get, Option, Some, None}
+use Rattle.std.specs.Prelude.{◌≡◌, ◌⊎◌, ◌<◌, ℕ, Bool, true, false, is_some, List, ◌∷◌, ◌++◌, slice_get, Option, Some}
+use Rattle.std.specs.Prelude.{None, ⊤}
+use Rattle.std.specs.List.{AllByRecursion}
 use Rattle.sctp_wire_types.specs.declared.chunk.Chunk.{Chunk}
 use Rattle.sctp_wire_types.specs.declared.chunk.Chunk.TheVariants as chunks
 use Rattle.sctp_wire_types.specs.declared.chunk.ChunkPayloadData.{ChunkPayloadData}
@@ -7,16 +9,17 @@ use Rattle.sctp_wire_types.specs.declared.error.Error.{Error}
 use Rattle.sctp_wire_types.specs.declared.packet.CommonHeader.{CommonHeader}
 use Rattle.sctp_receive_queues.specs.Reassembly.{Reassembly, empty_reassembly, refusal}
 use Rattle.sctp_streams.specs.Stream.{StreamView}
-use Rattle.sctp_streams.specs.Streams.{bytes_waiting, generation_left, stream_at}
+use Rattle.sctp_streams.specs.Streams.{generation_left, stream_at}
 use Rattle.sctp_inbound.specs.declared.receiver.AckTrigger.{AckTrigger}
 use Rattle.sctp_model.specs.Packets.{mem}
+use Rattle.sctp_resets.specs.Resets as resets
 use Rattle.sctp_assoc.specs.declared.inbound.Flow.TheVariants as flows
 use Rattle.sctp_directions.specs.Acts.{Act, History, IsNewTsn, offset_in}
 use Rattle.sctp_assoc.specs.Leads.{Binds}
 use Rattle.sctp_assoc.specs.Chunks.{on_chunk}
 use Rattle.sctp_assoc.specs.Happened.{acts_of_chunk}
 use Rattle.sctp_sides.specs.SideLaws.{OpensAndTakes, TakesOnly}
-use Rattle.sctp_assoc.specs.Shown.{Shown}
+use Rattle.sctp_assoc.specs.Shown.{Shown, all_waiting}
 
 -- the most bytes that a message may have, once it is put together
 abbrev pub receive_limit : Shown → ℕ
@@ -32,14 +35,27 @@ pub record FillsAGap (h : History) (t : ℕ) : Type 0 where
   pub came : mem offset h.taken ≡ true
   pub past : offset_in h t < offset
 
--- fewer bytes wait to be read than the receive buffer has, or DATA with this TSN fills a gap
+-- fewer bytes of all generations of streams wait to be read than the receive buffer has, or DATA with this TSN fills a
+-- gap
 abbrev pub HasRoomFor : Shown → History → ℕ → Type 0
-HasRoomFor a h t = (bytes_waiting a.streams < a.receiver.buffer_size) ⊎ FillsAGap h t
+HasRoomFor a h t = (all_waiting a < a.receiver.buffer_size) ⊎ FillsAGap h t
 
--- DATA may be taken in: it is new, its stream is live or can be made, and there is room for it.
+-- DATA is of a generation of its stream that is not read yet (RFC 6525 section 5.2.2)
+abbrev pub is_for_later : Shown → ChunkPayloadData → Bool
+is_for_later a piece = resets.is_hidden a.resets piece.stream_identifier piece.tsn
+
+-- DATA may be taken in: it is new, of the generation of its stream that is read, its stream is live or can be made, and
+-- there is room for it.
 pub record MayTakeIn (a : Shown) (h : History) (piece : ChunkPayloadData) : Type 0 where
   pub new : IsNewTsn h piece.tsn
+  pub read_now : is_for_later a piece ≡ false
   pub stream : HasStreamFor a piece.stream_identifier
+  pub room : HasRoomFor a h piece.tsn
+
+-- DATA may be kept apart: it is new, of a generation of its stream that is not read yet, and there is room for it.
+pub record MayKeepApart (a : Shown) (h : History) (piece : ChunkPayloadData) : Type 0 where
+  pub new : IsNewTsn h piece.tsn
+  pub read_later : is_for_later a piece ≡ true
   pub room : HasRoomFor a h piece.tsn
 
 -- what a stream holds; nothing where it is yet to be made
@@ -51,14 +67,40 @@ held_by (Some stream) = stream.reassembly
 abbrev pub refusal_of : Shown → ChunkPayloadData → Option Error
 refusal_of a piece = refusal (held_by (stream_at a.streams piece.stream_identifier)) piece (receive_limit a)
 
--- it was taken in, by its live stream or by one that it made
-abbrev pub IsTakenIn : Shown → ChunkPayloadData → List Act → Type 0
-IsTakenIn a piece acts = OpensAndTakes a piece acts ⊎ TakesOnly a piece acts
+-- why DATA of a generation that is not read yet does not fit to what waits of that generation, if so
+abbrev pub later_refusal_of : Shown → ChunkPayloadData → Option Error
+later_refusal_of a piece = resets.refusal_of a.resets piece (receive_limit a)
+
+-- spans of streams end
+abbrev pub IsEndOfSpans : Act → Type 0
+IsEndOfSpans (Act.SpansEnded ids m) = ⊤
+IsEndOfSpans act = ⊥
+
+-- It was taken in, by its live stream or by one that it made. Behind it spans of streams may end, where resets waited
+-- for it.
+pub record IsTakenIn (a : Shown) (piece : ChunkPayloadData) (acts : List Act) : Type 0 where
+  pub first : List Act
+  pub taking : OpensAndTakes a piece first ⊎ TakesOnly a piece first
+  pub others : List Act
+  pub ends : AllByRecursion IsEndOfSpans others
+  pub are : acts ≡ first ++ others
+
+-- It was kept apart, and behind it spans of streams may end likewise.
+pub record IsKeptApart (piece : ChunkPayloadData) (acts : List Act) : Type 0 where
+  pub others : List Act
+  pub ends : AllByRecursion IsEndOfSpans others
+  pub are : acts ≡ Act.Deferred piece ∷ others
 
 -- DATA that its stream does not refuse is taken in; DATA that it refuses is a fault.
 pub record IsTakenUnlessRefused (a : Shown) (header : CommonHeader) (piece : ChunkPayloadData) : Type 0 where
   pub taken : refusal_of a piece ≡ None → IsTakenIn a piece (acts_of_chunk a header (chunks.Data piece))
   pub refused : (trigger : AckTrigger) (now : ℕ) (error : Error) → refusal_of a piece ≡ Some error
+      → (on_chunk a header (chunks.Data piece) trigger now).1 ≡ flows.Fault error
+
+-- DATA that what waits of its generation does not refuse is kept apart; DATA that it refuses is a fault.
+pub record IsKeptUnlessRefused (a : Shown) (header : CommonHeader) (piece : ChunkPayloadData) : Type 0 where
+  pub kept : later_refusal_of a piece ≡ None → IsKeptApart piece (acts_of_chunk a header (chunks.Data piece))
+  pub refused : (trigger : AckTrigger) (now : ℕ) (error : Error) → later_refusal_of a piece ≡ Some error
       → (on_chunk a header (chunks.Data piece) trigger now).1 ≡ flows.Fault error
 
 -- Of a chunk that is reached: what may be taken in is taken in unless its stream refuses it, whatever state the
@@ -67,14 +109,33 @@ abbrev pub DataIsTakenIn : Type 0
 DataIsTakenIn = (a : Shown) (h : History) (header : CommonHeader) (piece : ChunkPayloadData) → Binds a h
     → MayTakeIn a h piece → IsTakenUnlessRefused a header piece
 
+-- And what may be kept apart for a generation that is not read yet is kept apart, unless what waits of that generation
+-- refuses it.
+abbrev pub LaterDataIsKeptApart : Type 0
+LaterDataIsKeptApart = (a : Shown) (h : History) (header : CommonHeader) (piece : ChunkPayloadData) → Binds a h
+    → MayKeepApart a h piece → IsKeptUnlessRefused a header piece
+
 -- A chunk of which this DATA was taken in is that DATA; it could be taken in, and its stream did not refuse it.
 pub record WasToBeTakenIn (a : Shown) (h : History) (chunk : Chunk) (piece : ChunkPayloadData) : Type 0 where
   pub data_itself : chunk ≡ chunks.Data piece
   pub may : MayTakeIn a h piece
   pub unrefused : refusal_of a piece ≡ None
 
+-- A chunk of which this DATA was kept apart is that DATA; it could be, and what waits of its generation did not refuse
+-- it.
+pub record WasToBeKeptApart (a : Shown) (h : History) (chunk : Chunk) (piece : ChunkPayloadData) : Type 0 where
+  pub data_itself : chunk ≡ chunks.Data piece
+  pub may : MayKeepApart a h piece
+  pub unrefused : later_refusal_of a piece ≡ None
+
 -- Nothing else is taken in, of DATA or of any other chunk.
 abbrev pub NothingElseIsTakenIn : Type 0
 NothingElseIsTakenIn = (a : Shown) (h : History) (header : CommonHeader) (chunk : Chunk) (index : ℕ)
     → (piece : ChunkPayloadData) → Binds a h
     → slice_get (acts_of_chunk a header chunk) index ≡ Some (Act.Took piece) → WasToBeTakenIn a h chunk piece
+
+-- Nothing else is kept apart.
+abbrev pub NothingElseIsKeptApart : Type 0
+NothingElseIsKeptApart = (a : Shown) (h : History) (header : CommonHeader) (chunk : Chunk) (index : ℕ)
+    → (piece : ChunkPayloadData) → Binds a h
+    → slice_get (acts_of_chunk a header chunk) index ≡ Some (Act.Deferred piece) → WasToBeKeptApart a h chunk piece

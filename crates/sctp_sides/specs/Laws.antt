@@ -17,7 +17,8 @@ use Rattle.sctp_streams.specs.declared.event.AssociationError.{AssociationError}
 use Rattle.sctp_streams.specs.declared.event.Event.{Event}
 use Rattle.sctp_streams.specs.declared.setting.Setting.{Setting}
 use Rattle.sctp_streams.specs.declared.event.Event.TheVariants as events
-use Rattle.sctp_streams.specs.Streams.{bytes_waiting, stream_at}
+use Rattle.sctp_streams.specs.Stream.{is_read_half_open}
+use Rattle.sctp_streams.specs.Streams.{stream_at}
 use Rattle.sctp_outbound_queue.specs.Waiting.{Waiting}
 use Rattle.sctp_outbound_queue.specs.Message.{is_expired, is_of, started}
 use Rattle.sctp_outbound_queue.specs.Outbound.{Outbound, next_tsn_of, outstanding_of}
@@ -34,15 +35,15 @@ use Rattle.sctp_assoc.specs.Leads.{Binds, parts}
 use Rattle.sctp_directions.specs.Acts.{Act, History, all_data_given, reach_in}
 use Rattle.sctp_fit.specs.Incoming.{tsn_before}
 use Rattle.sctp_assoc.specs.Calls.{accepted_stream, adjusted, is_established, opened, read_exhausts, read_from_stream}
-use Rattle.sctp_assoc.specs.Calls.{with_max_send_message_size, written}
-use Rattle.sctp_assoc.specs.Closing.{closed_by, is_closed_state}
+use Rattle.sctp_assoc.specs.Calls.{holds_of, stopped, stopped_open, with_max_send_message_size, written}
+use Rattle.sctp_assoc.specs.Closing.{closed_by, is_closed_state, is_exhausted}
 use Rattle.sctp_assoc.specs.Chunks.{after_packet, on_chunk}
 use Rattle.sctp_assoc.specs.Happened.{acts_of_poll, forwards_of_poll}
-use Rattle.sctp_assoc.specs.Gather.{control_packets, data_polled, is_due, packet_bytes, single_chunk_packet, polled}
+use Rattle.sctp_assoc.specs.Gather.{control_polled, data_polled, is_due, packet_bytes, single_chunk_packet, polled}
 use Rattle.sctp_assoc.specs.Gather.{forward_packet, sack_chunk}
 use Rattle.sctp_assoc.specs.Gather.{sack_packet}
 use Rattle.sctp_directions.specs.Reports.{SaysWhatWasTaken}
-use Rattle.sctp_assoc.specs.Shown.{Shown, uses_forward_tsn}
+use Rattle.sctp_assoc.specs.Shown.{Shown, all_waiting, uses_forward_tsn}
 use Rattle.sctp_assoc.specs.Timeouts.{after_timeouts}
 
 -- Sending
@@ -72,13 +73,14 @@ WhatWaitsIsGiven = (a : Shown) (h : History) (now : ℕ) (m : Waiting) → is_es
     → slice_get (all_data_given (acts_of_poll a now) (parts a h)) 0 ≡ Some (next_chunk_of m (tsn h.own h.base))
 
 -- A piece that one DATA chunk has room for is the first chunk of the first packet that goes out behind those that wait
--- already; other DATA may be bundled with it (RFC 4960 section 6.10), of which the acts of the poll say what it is.
+-- already, requests to reset streams among them; other DATA may be bundled with it (RFC 4960 section 6.10), of which
+-- the acts of the poll say what it is.
 abbrev pub PollsBeginWithWhatWaits : Type 0
 PollsBeginWithWhatWaits = (a : Shown) (now : ℕ) (m : Waiting) → is_established a.state ≡ true
     → IsNextWithNothingInFlight a m → IsNotLate a now m
     → length m.user_data ≤ 65519
     → (bundled : List ChunkPayloadData)
-    × (slice_get (polled a now).1 (length (control_packets a.control)) ≡ Some
+    × (slice_get (polled a now).1 (length (control_polled a).1) ≡ Some
     (spelling (data_packet (header_of a.handshake) (next_chunk_of m (next_tsn_of a.sender.queue) ∷ bundled))))
 
 -- A packet of this DATA has one chunk, or at most so many bytes.
@@ -157,8 +159,8 @@ pub record TellsNothing (a b : Shown) : Type 0 where
   pub lost : b.lost ≡ a.lost
   pub events : b.events ≡ a.events
 
--- No write, setting, limit, opened or accepted stream, poll for packets or timer closes an association. A write and a
--- poll may be told as events, but as no loss.
+-- No write, setting, limit, opened or accepted stream, poll for packets or timer closes an association. A write, a poll
+-- and a request to reset streams that is given up may be told as events, but as no loss.
 abbrev pub WritesDoNotClose : Type 0
 WritesDoNotClose = (a : Shown) (id : ℕ) (named : Option PayloadProtocolIdentifier) (bytes : List ℕ)
     → DoesNotClose a (written a id named bytes)
@@ -179,7 +181,7 @@ abbrev pub PollsDoNotClose : Type 0
 PollsDoNotClose = (a : Shown) (now : ℕ) → DoesNotClose a (polled a now).0
 
 abbrev pub TimersDoNotClose : Type 0
-TimersDoNotClose = (a : Shown) (now : ℕ) → TellsNothing a (after_timeouts a now)
+TimersDoNotClose = (a : Shown) (now : ℕ) → DoesNotClose a (after_timeouts a now)
 
 abbrev pub faults_or : Shown × Flow → (Shown → AckTrigger → Bool) → Bool
 faults_or (a, flows.Next trigger) more = more a trigger
@@ -223,6 +225,16 @@ read_closes a id = read_exhausts a id && not (is_closed_state a.state)
 abbrev pub ExhaustingReadsAloneClose : Type 0
 ExhaustingReadsAloneClose = (a : Shown) (id : ℕ) → IsClosedIf (read_closes a id) a (read_from_stream a id).0
 
+-- the application's stop of a stream closes an open association: it leaves the receive buffer exhausted
+abbrev pub stop_closes : Shown → ℕ → Bool
+stop_closes a id =
+    (holds_of (λ s. is_read_half_open s.halves) a id && is_exhausted (stopped_open a id))
+    && not (is_closed_state a.state)
+
+-- A stop closes exactly there, and the loss is told once.
+abbrev pub ExhaustingStopsAloneClose : Type 0
+ExhaustingStopsAloneClose = (a : Shown) (id : ℕ) → IsClosedIf (stop_closes a id) a (stopped a id)
+
 -- A close closes an open association once, by whatever reason.
 abbrev pub ClosesClose : Type 0
 ClosesClose =
@@ -241,29 +253,29 @@ pub record IsFirstMissing (o : ℕ) (h : History) : Type 0 where
 abbrev pub SacksNameTheLastTsn : Type 0
 SacksNameTheLastTsn = (a : Shown) (h : History) → Binds a h
     → IsFirstMissing (reach_in h) h
-    × ((sack_of a.receiver (bytes_waiting a.streams)).cumulative_tsn_ack ≡ tsn_before (tsn h.peer (reach_in h)))
+    × ((sack_of a.receiver (all_waiting a)).cumulative_tsn_ack ≡ tsn_before (tsn h.peer (reach_in h)))
 
 -- It says what was taken in: the last TSN in order, and past it exactly the offsets that were.
 abbrev pub SacksSayWhatWasTaken : Type 0
 SacksSayWhatWasTaken =
     (a : Shown) (h : History) → Binds a h
-    → SaysWhatWasTaken h.peer (reach_in h) h.taken (sack_of a.receiver (bytes_waiting a.streams))
+    → SaysWhatWasTaken h.peer (reach_in h) h.taken (sack_of a.receiver (all_waiting a))
 
 -- The packet of an acknowledgement is that of a SACK which offers the room that is left in the receive buffer (RFC 4960
--- section 6.2).
+-- section 6.2), behind the bytes of all generations of streams that came and were not read.
 abbrev pub SacksOfferTheBuffer : Type 0
 SacksOfferTheBuffer = (a : Shown)
     → (sack : ChunkSelectiveAck) × (sack_packet a ≡ packet_bytes (header_of a.handshake) (chunks.SelectiveAck sack))
-    × (sack.advertised_receiver_window_credit ≡ a.receiver.buffer_size - bytes_waiting a.streams)
+    × (sack.advertised_receiver_window_credit ≡ a.receiver.buffer_size - all_waiting a)
 
 -- It is one datagram where its gap ack blocks are at most 16,379, which is what the length of a chunk has room for;
 -- with more of them it isn't sent.
 abbrev pub SacksAreSpelled : Type 0
-SacksAreSpelled = (a : Shown) → length (sack_of a.receiver (bytes_waiting a.streams)).gap_ack_blocks ≤ 16379
+SacksAreSpelled = (a : Shown) → length (sack_of a.receiver (all_waiting a)).gap_ack_blocks ≤ 16379
     → sack_packet a ≡ spelling (single_chunk_packet (header_of a.handshake) (sack_chunk a)) ∷ []
 
 -- A SACK that is due goes out with the next poll in Established, as its last packet, or with FORWARD TSN alone behind
--- it.
+-- it; requests to reset streams go out in front of it.
 abbrev pub DueSacksGoOut : Type 0
 DueSacksGoOut = (a : Shown) (now : ℕ) → is_established a.state ≡ true → is_due a.receiver.ack_state ≡ true
     → (packets : List (List ℕ))

@@ -3,6 +3,7 @@ pub mod Intake
 pub mod Laws
 pub mod Lifetimes
 pub mod Meeting
+pub mod NoReset
 pub mod OneSide
 pub mod SideLaws
 pub mod Witnesses

@@ -8,7 +8,8 @@ use Rattle.sctp_wire_types.specs.declared.ids.Side.TheVariants as sides
 use Rattle.sctp_wire_types.specs.declared.packet.CommonHeader.{CommonHeader}
 use Rattle.sctp_parts.specs.declared.state.AssociationState.TheVariants as states
 use Rattle.sctp_inbound.specs.Greeting.{first_cookie}
-use Rattle.sctp_assoc.specs.declared.control.ControlPacket.{ControlPacket}
+use Rattle.sctp_assoc.specs.declared.control.Control.{Control}
+use Rattle.sctp_assoc.specs.declared.control.Control.TheVariants as controls
 use Rattle.sctp_directions.specs.Acts.{Act}
 use Rattle.sctp_assoc.specs.Happened.{acts_of_chunk}
 use Rattle.sctp_assoc.specs.Gather.{WaitPlainly}
@@ -42,12 +43,22 @@ Greets own s (chunks.Abort abort) = ⊤
 Greets own s (chunks.Error error) = ⊤
 Greets own s chunk = ⊥
 
+-- A chunk that waits to go out says what is so; a RE-CONFIG says nothing of the handshake.
+abbrev pub SaysWhatIsSo : ℕ → Stage → Chunk → Type 0
+SaysWhatIsSo own s (chunks.Reconfig reconfig) = ⊤
+SaysWhatIsSo own s chunk = Greets own s chunk
+
+-- so does each packet that waits; the place of a request to reset streams says nothing of the handshake
+abbrev pub WaitsTruthfully : ℕ → Stage → Control → Type 0
+WaitsTruthfully own s (controls.Packet c) = SaysWhatIsSo own s c.chunk
+WaitsTruthfully own s controls.OwnRequest = ⊤
+
 -- Its initial TSN is own. Each packet that waits to go out says what is so, and keeps nothing under `Other` whose type
 -- has a variant of its own; an INIT is kept for its timer by a client alone, and a COOKIE ECHO by a client that knows
 -- the peer's initial TSN.
 pub record IsTruthful (own : ℕ) (a : Shown) : Type 0 where
   pub tsn : a.handshake.my_initial_tsn ≡ own
-  pub says : AllByRecursion (λ (c : ControlPacket). Greets own (stage_of a) c.chunk) a.control
+  pub says : AllByRecursion (WaitsTruthfully own (stage_of a)) a.control
   pub plain : WaitPlainly a
   pub offers : is_some a.handshake.offer ≡ true → a.side ≡ sides.Client
   pub echoes : is_some a.handshake.echo ≡ true → (a.side ≡ sides.Client) × (is_some a.handshake.peer_initial_tsn ≡ true)

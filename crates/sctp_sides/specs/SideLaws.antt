@@ -29,7 +29,8 @@ use Rattle.sctp_assoc.specs.Leads.{Binds, LeadsOn, parts}
 use Rattle.sctp_fit.specs.Incoming.{tsn_before}
 use Rattle.sctp_assoc.specs.Calls.{event_polled, is_established, open_refusal, opened}
 use Rattle.sctp_assoc.specs.Closing.{closed_by, exhausted, is_closed_state}
-use Rattle.sctp_assoc.specs.Calls.{accepted_stream, adjusted, read_exhausts, read_from_stream, stream_refusal}
+use Rattle.sctp_assoc.specs.Calls.{accepted_stream, adjusted, drained_behind, read_exhausts, read_from_stream}
+use Rattle.sctp_assoc.specs.Calls.{stream_refusal}
 use Rattle.sctp_assoc.specs.Calls.{with_max_send_message_size}
 use Rattle.sctp_assoc.specs.Calls.{write_refusal, written}
 use Rattle.sctp_assoc.specs.Chunks.{after_packet, ended, on_chunk}
@@ -37,12 +38,14 @@ use Rattle.sctp_outbound.specs.Sacks.{reports_of}
 use Rattle.sctp_assoc.specs.Happened.{Polls, acts_of_chunk, acts_of_poll, acts_of_timeouts, forwards_of_poll}
 use Rattle.sctp_assoc.specs.Inbound.{taken_packet}
 use Rattle.sctp_sides.specs.Meeting.{Greets, GreetsOn, HasCome, IsEstablished, IsNoEarlier, IsTruthful, Stage, stage_of}
-use Rattle.sctp_assoc.specs.Gather.{AreControlReadAgain, WaitPlainly, control_packets, is_due, polled, without_control}
+use Rattle.sctp_assoc.specs.Gather.{AreControlReadAgain, WaitPlainly, is_due, polled, without_control}
 use Rattle.sctp_directions.specs.Reports.{SaysWhatWasTaken}
 use Rattle.sctp_assoc.specs.Shown.{Shown, uses_forward_tsn}
 use Rattle.sctp_assoc.specs.Skipping.{skips_of}
 use Rattle.sctp_assoc.specs.Timeouts.{after_timeouts}
+use Rattle.sctp_assoc.specs.declared.control.Control.TheVariants as controls
 use Rattle.sctp_assoc.specs.declared.control.ControlPacket.{ControlPacket}
+use Rattle.sctp_sides.specs.NoReset.{HasNoReset, IsNoReconfig, control_packets}
 
 -- Status
 
@@ -91,12 +94,12 @@ abbrev pub AcceptedStreamsKeepTheStatus : Type 0
 AcceptedStreamsKeepTheStatus =
     (a : Shown) → IsSameStatus a (accepted_stream a).0 × ((accepted_stream a).0.streams ≡ a.streams)
 
--- the association as a read leaves it, before it is seen whether the receive buffer is exhausted
+-- the association as a read leaves it, before it is seen whether the receive buffer is exhausted: generations of the
+-- stream that ended and are read to their end are over
 abbrev pub with_read : Shown → ℕ → Shown
-with_read a id = record a { streams = (read_in a.streams id).0 }
+with_read a id = drained_behind a id (read_in a.streams id).0
 
--- A read leaves the status and whatever else but streams, unless it leaves the receive buffer exhausted, and then that
--- is what closes.
+-- A read leaves the status, unless it leaves the receive buffer exhausted, and then that is what closes.
 pub record ReadsOn (a : Shown) (id : ℕ) : Type 0 where
   pub same : IsSameStatus a (with_read a id)
   pub plainly : read_exhausts a id ≡ false → (read_from_stream a id).0 ≡ with_read a id
@@ -105,6 +108,11 @@ pub record ReadsOn (a : Shown) (id : ℕ) : Type 0 where
 
 abbrev pub ReadsKeepTheStatus : Type 0
 ReadsKeepTheStatus = (a : Shown) (id : ℕ) → ReadsOn a id
+
+-- Where no reset is under way, it leaves whatever else but streams, too.
+abbrev pub ReadsChangeStreamsAlone : Type 0
+ReadsChangeStreamsAlone =
+    (a : Shown) (id : ℕ) → HasNoReset a → with_read a id ≡ record a { streams = (read_in a.streams id).0 }
 
 abbrev pub ToldEventsKeepTheStatus : Type 0
 ToldEventsKeepTheStatus =
@@ -163,9 +171,9 @@ OpenedStreamsHoldNothing =
 abbrev pub SettingsHoldNothing : Type 0
 SettingsHoldNothing = (a : Shown) (id : ℕ) (setting : Setting) → HoldsNothing a → HoldsNothing (adjusted a id setting)
 
--- A read where no stream holds anything gives nothing, and leaves it so.
+-- A read where no stream holds anything gives nothing, and leaves it so where no reset is under way.
 abbrev pub WhatHoldsNothingGivesNothing : Type 0
-WhatHoldsNothingGivesNothing = (a : Shown) (id : ℕ) → IsLive a id → HoldsNothing a
+WhatHoldsNothingGivesNothing = (a : Shown) (id : ℕ) → HasNoReset a → IsLive a id → HoldsNothing a
     → ((read_from_stream a id).1 ≡ None) × HoldsNothing (read_from_stream a id).0
 
 -- The chunks of a packet
@@ -290,10 +298,10 @@ pub record TakesOnly (a : Shown) (piece : ChunkPayloadData) (acts : List Act) : 
 abbrev pub IsTaking : Shown → ChunkPayloadData → List Act → Type 0
 IsTaking a piece acts = (acts ≡ []) ⊎ (OpensOnly a piece acts ⊎ (OpensAndTakes a piece acts ⊎ TakesOnly a piece acts))
 
--- DATA may make its stream first, and may be taken in; nothing else (RFC 4960 section 6.2).
+-- Where no reset is under way, DATA may make its stream first, and may be taken in; nothing else (RFC 4960 section 6.2).
 abbrev pub DataOpensOrTakes : Type 0
 DataOpensOrTakes =
-    (a : Shown) (header : CommonHeader) (piece : ChunkPayloadData)
+    (a : Shown) (header : CommonHeader) (piece : ChunkPayloadData) → HasNoReset a
     → IsTaking a piece (acts_of_chunk a header (chunks.Data piece))
 
 -- The first pieces in flight are acknowledged, so many that the cumulative TSN ack is the TSN before that of the next
@@ -351,14 +359,14 @@ GreetingsMakeThePeerKnown = (a : Shown) (header : CommonHeader) (init : ChunkIni
 abbrev pub IsPassingOver : ℕ → List SkippedStream → List Act → Type 0
 IsPassingOver tsn skipped acts = (acts ≡ []) ⊎ (acts ≡ Act.PassedOver tsn skipped ∷ [])
 
--- A FORWARD TSN passes over what it says, or does nothing to the directions (RFC 3758 section 3.6); so does an
--- I-FORWARD-TSN, of which the entries of ordered messages count (RFC 8260 section 2.3.1).
+-- Where no reset is under way, a FORWARD TSN passes over what it says, or does nothing to the directions (RFC 3758
+-- section 3.6); so does an I-FORWARD-TSN, of which the entries of ordered messages count (RFC 8260 section 2.3.1).
 abbrev pub ForwardsPassOver : Type 0
-ForwardsPassOver = (a : Shown) (header : CommonHeader) (forward : ChunkForwardTsn)
+ForwardsPassOver = (a : Shown) (header : CommonHeader) (forward : ChunkForwardTsn) → HasNoReset a
     → IsPassingOver forward.new_cumulative_tsn forward.streams (acts_of_chunk a header (chunks.ForwardTsn forward))
 
 abbrev pub IForwardsPassOver : Type 0
-IForwardsPassOver = (a : Shown) (header : CommonHeader) (forward : ChunkIForwardTsn)
+IForwardsPassOver = (a : Shown) (header : CommonHeader) (forward : ChunkIForwardTsn) → HasNoReset a
     → IsPassingOver forward.new_cumulative_tsn (skips_of forward.entries)
     (acts_of_chunk a header (chunks.IForwardTsn forward))
 
@@ -378,7 +386,7 @@ OnlyForwardsAheadPassOver = (a : Shown) (h : History) (header : CommonHeader) (f
     ≡ Act.PassedOver forward.new_cumulative_tsn forward.streams ∷ []
     → CouldPassOver a h forward.new_cumulative_tsn
 
--- none of DATA, SACK and FORWARD TSN, nor one that tells an initial TSN
+-- none of DATA, SACK, FORWARD TSN and RE-CONFIG, nor one that tells an initial TSN
 abbrev pub IsOther : Chunk → Type 0
 IsOther (chunks.Data piece) = ⊥
 IsOther (chunks.SelectiveAck sack) = ⊥
@@ -386,6 +394,7 @@ IsOther (chunks.Init init) = ⊥
 IsOther (chunks.InitAck init) = ⊥
 IsOther (chunks.ForwardTsn forward) = ⊥
 IsOther (chunks.IForwardTsn forward) = ⊥
+IsOther (chunks.Reconfig reconfig) = ⊥
 IsOther chunk = ⊤
 
 -- Any other chunk does nothing to the directions, unless it is a fault and closes.
@@ -430,10 +439,10 @@ abbrev pub PollsGiveAndReport : Type 0
 PollsGiveAndReport = (a : Shown) (now : ℕ) → is_established a.state ≡ true
     → IsPolling a (forwards_of_poll a now) (acts_of_poll a now)
 
--- In any other state a poll gives what waits to go out, and nothing else.
+-- In any other state a poll gives what waits to go out, and nothing else, where no reset is under way.
 abbrev pub PollsOutsideEstablishedGiveWhatWaits : Type 0
 PollsOutsideEstablishedGiveWhatWaits =
-    (a : Shown) (now : ℕ) → is_established a.state ≡ false
+    (a : Shown) (now : ℕ) → HasNoReset a → is_established a.state ≡ false
     → polled a now ≡ (without_control a, control_packets a.control)
 
 -- of what a datagram spells, if it spells a packet, each chunk is so
@@ -443,7 +452,8 @@ OfEachChunk Is (Some packet) = AllByRecursion Is packet.chunks
 
 -- a chunk that waited to go out in a packet of its own
 abbrev pub IsWaitingToGo : Shown → Chunk → Type 0
-IsWaitingToGo a chunk = (k : ℕ) × (c : ControlPacket) × (slice_get a.control k ≡ Some c) × (c.chunk ≡ chunk)
+IsWaitingToGo a chunk =
+    (k : ℕ) × (c : ControlPacket) × (slice_get a.control k ≡ Some (controls.Packet c)) × (c.chunk ≡ chunk)
 
 -- a chunk that these acts of a poll, which left b, give out: their DATA; where a report is due, a SACK that says what
 -- came; and where FORWARD TSN is given, that of what is in flight then
@@ -458,13 +468,18 @@ IsExchanged acts forwards a b h chunk = ⊥
 abbrev pub IsGivenBy : List Act → Bool → Shown → Shown → History → Chunk → Type 0
 IsGivenBy acts forwards a b h chunk = IsWaitingToGo a chunk ⊎ IsExchanged acts forwards a b h chunk
 
--- The packets of a poll are of such chunks alone.
+-- Where no reset is under way, the packets of a poll are of such chunks alone.
 abbrev pub PollsSayTheirActs : Type 0
 PollsSayTheirActs = (acts : List Act) (forwards : Bool) (a b : Shown) (h : History) (packets : List (List ℕ))
-    → WaitPlainly a → AreControlReadAgain a.control → is_established a.state ≡ true → Binds a h
+    → HasNoReset a → WaitPlainly a → AreControlReadAgain a.control → is_established a.state ≡ true → Binds a h
     → Polls acts forwards a h b packets
     → AllByRecursion (λ (bytes : List ℕ). OfEachChunk (IsGivenBy acts forwards a b h) (taken_packet (packet_at bytes)))
     packets
+
+-- None of these chunks is RE-CONFIG then.
+abbrev pub NoResetGoesOut : Type 0
+NoResetGoesOut = (acts : List Act) (forwards : Bool) (a b : Shown) (h : History) (chunk : Chunk) → HasNoReset a
+    → IsGivenBy acts forwards a b h chunk → IsNoReconfig chunk
 
 -- What waits goes out in packets of those chunks alone.
 abbrev pub WhatWaitsGoesOutAsItIs : Type 0

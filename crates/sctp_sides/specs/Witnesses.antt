@@ -1,6 +1,6 @@
 -- What holds of one side after every list of calls: a loss is told once, and timers run where they should.
 use Rattle.std.specs.Prelude.{◌≡◌, ◌⊎◌, ◌<◌, ℕ, ◌+◌, ◌≤◌, Bool, true, false, List, [], if◌then◌else◌, length, Option}
-use Rattle.std.specs.Prelude.{None}
+use Rattle.std.specs.Prelude.{None, is_some}
 use Rattle.std.specs.declared.net.ip_addr.IpAddr.{IpAddr}
 use Rattle.std.specs.declared.net.socket_addr.SocketAddr.{SocketAddr}
 use Rattle.sctp_wire_types.specs.declared.chunk.ChunkInit.{ChunkInit}
@@ -14,6 +14,8 @@ use Rattle.sctp_wire_types.specs.declared.config.ServerConfig.{ServerConfig}
 use Rattle.sctp_assoc.specs.Calls.{is_cookie_echoed, is_cookie_wait, is_established}
 use Rattle.sctp_assoc.specs.Closing.{closed_by, is_closed_state}
 use Rattle.sctp_assoc.specs.Created.{created, joined}
+use Rattle.sctp_assoc.specs.Gather.{polled}
+use Rattle.sctp_assoc.specs.Timeouts.{after_timeouts}
 use Rattle.sctp_sides.specs.Laws.{losses}
 use Rattle.sctp_sides.specs.OneSide.{Call, FailsFrom, IsFresh, IsRun, is_armed, is_delayed}
 use Rattle.sctp_assoc.specs.Shown.{Shown}
@@ -108,6 +110,18 @@ NoHandshakeTimerRunsOnceEstablished = OfEachSide (λ b. is_established b.state �
 abbrev pub DelayedSacksAreTimed : Type 0
 DelayedSacksAreTimed = OfEachSide (λ b. b.failed ≡ false → b.lost ≡ false
     → is_armed names.Ack b.timers ≡ is_delayed b.receiver.ack_state)
+
+-- A request to reset streams that was sent and is not answered is timed (RFC 6525 section 5.1.1): behind a poll its
+-- timer runs.
+abbrev pub PollsTimeRequests : Type 0
+PollsTimeRequests = (a : Shown) (now : ℕ) → is_some (polled a now).0.resets.own.active ≡ true
+    → is_armed names.Reconfig (polled a now).0.timers ≡ true
+
+-- Timeouts leave it running as long as the request is not answered. Past its limit of retries the request is given up.
+abbrev pub TimeoutsLeaveRequestsTimed : Type 0
+TimeoutsLeaveRequestsTimed = (a : Shown) (now : ℕ) → is_armed names.Reconfig a.timers ≡ true
+    → is_some (after_timeouts a now).resets.own.active ≡ true
+    → is_armed names.Reconfig (after_timeouts a now).timers ≡ true
 
 -- Ending
 

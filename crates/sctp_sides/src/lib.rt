@@ -14,18 +14,24 @@ ghost use Rattle.sctp_sides.specs.SideLaws.{OpenedStreamsHoldNothing, OpenedStre
 ghost use Rattle.sctp_sides.specs.SideLaws.{OpenedStreamsWereNotLive, OtherChunksDoNothing, OtherSacksDoNothing};
 ghost use Rattle.sctp_sides.specs.SideLaws.{PacketsEnd, PollsGiveAndReport, PollsKeepTheStatus};
 ghost use Rattle.sctp_sides.specs.SideLaws.{PollsOutsideEstablishedGiveWhatWaits, PollsSayTheirActs};
-ghost use Rattle.sctp_sides.specs.SideLaws.{ReadsKeepTheStatus};
+ghost use Rattle.sctp_sides.specs.SideLaws.{NoResetGoesOut, ReadsChangeStreamsAlone, ReadsKeepTheStatus};
 ghost use Rattle.sctp_sides.specs.SideLaws.{SacksAcknowledge, TakenSacksAcknowledge, TheSameHandshakeIsTheSameStage};
 ghost use Rattle.sctp_sides.specs.SideLaws.{TimeoutsMarkAtMost, TimersKeepTheStatus, ToldEventsKeepTheStatus};
 ghost use Rattle.sctp_sides.specs.SideLaws.{WhatHoldsNothingGivesNothing, WhatWaitsGoesOutAsItIs, WritesKeepTheStatus};
+ghost use Rattle.sctp_sides.specs.NoReset.{AcceptedStreamsBeginNoReset, ClosesBeginNoReset, CreatedSidesResetNothing};
+ghost use Rattle.sctp_sides.specs.NoReset.{ExhaustionBeginsNoReset, JoinedSidesResetNothing, LimitsBeginNoReset};
+ghost use Rattle.sctp_sides.specs.NoReset.{OpenedStreamsBeginNoReset, OtherChunksBeginNoReset, PacketEndsBeginNoReset};
+ghost use Rattle.sctp_sides.specs.NoReset.{PollsBeginNoReset, ReadsBeginNoReset, SettingsBeginNoReset};
+ghost use Rattle.sctp_sides.specs.NoReset.{TimersBeginNoReset, ToldEventsBeginNoReset, WritesBeginNoReset};
 ghost use Rattle.sctp_sides.specs.Causes.{CausesClose, ClosingPacketsHaveCauses, FaultsAreCauses};
-ghost use Rattle.sctp_sides.specs.Intake.{DataIsTakenIn, NothingElseIsTakenIn};
+ghost use Rattle.sctp_sides.specs.Intake.{DataIsTakenIn, LaterDataIsKeptApart, NothingElseIsKeptApart};
+ghost use Rattle.sctp_sides.specs.Intake.{NothingElseIsTakenIn};
 ghost use Rattle.sctp_sides.specs.Lifetimes.{CreatedSidesHaveNothingToSend, JoinedSidesHaveNothingToSend};
 ghost use Rattle.sctp_sides.specs.Lifetimes.{NothingLateGoesOut, RetriesAreKept};
 ghost use Rattle.sctp_sides.specs.Laws.{DueForwardsGoOut, DueSacksGoOut, FaultsAloneClose, OpenedStreamsDoNotClose};
 ghost use Rattle.sctp_sides.specs.Laws.{PollsDoNotClose};
 ghost use Rattle.sctp_sides.specs.Laws.{AcceptedStreamsDoNotClose, ClosesClose, ExhaustingReadsAloneClose};
-ghost use Rattle.sctp_sides.specs.Laws.{LimitsDoNotClose};
+ghost use Rattle.sctp_sides.specs.Laws.{ExhaustingStopsAloneClose, LimitsDoNotClose};
 ghost use Rattle.sctp_sides.specs.Laws.{PollsKeepWhatIsHeld, SacksAreSpelled, SacksNameTheLastTsn, SettingsDoNotClose};
 ghost use Rattle.sctp_sides.specs.Laws.{PollsBeginWithWhatWaits, SacksOfferTheBuffer, SacksSayWhatWasTaken};
 ghost use Rattle.sctp_sides.specs.Laws.{BundlesFitThePacket, NewDataStaysInTheCongestionWindow, TimersDoNotClose};
@@ -35,7 +41,8 @@ ghost use Rattle.sctp_sides.specs.Witnesses.{DelayedSacksAreTimed, EchoedCookies
 ghost use Rattle.sctp_sides.specs.Witnesses.{FailuresStopTheTimers, InitsAreTimedInCookieWaitAlone};
 ghost use Rattle.sctp_sides.specs.Witnesses.{JoinedSidesAreFresh, LossesAreToldOnce, LossesStopTheTimers};
 ghost use Rattle.sctp_sides.specs.Witnesses.{LostSidesWaitForNothing, NoHandshakeTimerRunsOnceEstablished};
-ghost use Rattle.sctp_sides.specs.Witnesses.{NothingInFlightIsNotTimed, OutstandingDataIsTimed, SentInitsAreTimed};
+ghost use Rattle.sctp_sides.specs.Witnesses.{NothingInFlightIsNotTimed, OutstandingDataIsTimed, PollsTimeRequests};
+ghost use Rattle.sctp_sides.specs.Witnesses.{SentInitsAreTimed, TimeoutsLeaveRequestsTimed};
 
 /// Sending: the next piece that waits goes out with the next poll where nothing is in flight (RFC 4960 section 6.1),
 /// unless its message is given up by then.
@@ -81,7 +88,8 @@ pub fn writes_and_polls_lose_nothing()
 
 /// Closing: a packet with a fault, or one that leaves the receive buffer exhausted, closes an open association, once,
 /// and no other packet does; so does a read that gives a message and leaves the buffer exhausted, and no other read; so
-/// does the application's close. No write, setting, limit, opened or accepted stream, poll for packets or timer closes.
+/// does a stop of a stream that leaves it so, and no other; so does the application's close. No write, setting, limit,
+/// opened or accepted stream, poll for packets or timer closes.
 pub fn faults_alone_close()
     ensures packets { FaultsAloneClose }
     ensures writes { WritesDoNotClose }
@@ -90,6 +98,7 @@ pub fn faults_alone_close()
     ensures accepted { AcceptedStreamsDoNotClose }
     ensures limits { LimitsDoNotClose }
     ensures reads { ExhaustingReadsAloneClose }
+    ensures stops { ExhaustingStopsAloneClose }
     ensures closes { ClosesClose }
     ensures polls { PollsDoNotClose }
     ensures timers { TimersDoNotClose }
@@ -114,10 +123,13 @@ pub fn sacks_name_the_last_tsn()
     ensures forward { DueForwardsGoOut }
 {}
 
-/// Intake: DATA that may be taken in is taken in, and nothing else is (RFC 4960 section 6.2).
+/// Intake: DATA that may be taken in is taken in, and nothing else is (RFC 4960 section 6.2); DATA of a generation of
+/// its stream that is not read yet is kept apart so (RFC 6525 section 5.2.2).
 pub fn data_is_taken_in()
     ensures taken { DataIsTakenIn }
     ensures no_other { NothingElseIsTakenIn }
+    ensures kept { LaterDataIsKeptApart }
+    ensures no_other_kept { NothingElseIsKeptApart }
 {}
 
 /// Status: whether it failed, its state, whether it was lost, its payload size, its side and its handshake change by no
@@ -130,9 +142,30 @@ pub fn calls_keep_the_status()
     ensures accepted { AcceptedStreamsKeepTheStatus }
     ensures limits { LimitsKeepTheStatus }
     ensures read { ReadsKeepTheStatus }
+    ensures read_plainly { ReadsChangeStreamsAlone }
     ensures told { ToldEventsKeepTheStatus }
     ensures timers { TimersKeepTheStatus }
     ensures polled { PollsKeepTheStatus }
+{}
+
+/// Resets: an association in which no reset of a stream is under way is one after each call but that which stops a
+/// stream, and after each chunk but RE-CONFIG; each begins so (RFC 6525 section 5, RFC 8831 section 6.7).
+pub fn calls_begin_no_reset()
+    ensures created { CreatedSidesResetNothing }
+    ensures joined { JoinedSidesResetNothing }
+    ensures opened { OpenedStreamsBeginNoReset }
+    ensures written { WritesBeginNoReset }
+    ensures set { SettingsBeginNoReset }
+    ensures limits { LimitsBeginNoReset }
+    ensures accepted { AcceptedStreamsBeginNoReset }
+    ensures read { ReadsBeginNoReset }
+    ensures told { ToldEventsBeginNoReset }
+    ensures closed { ClosesBeginNoReset }
+    ensures exhausted { ExhaustionBeginsNoReset }
+    ensures timers { TimersBeginNoReset }
+    ensures polled { PollsBeginNoReset }
+    ensures chunks { OtherChunksBeginNoReset }
+    ensures ends { PacketEndsBeginNoReset }
 {}
 
 /// Stages: what a side's packets said of its handshake stays so in each later stage (RFC 4960 section 5.1). Where the
@@ -185,6 +218,7 @@ pub fn calls_are_made_of_acts()
     ensures poll { PollsGiveAndReport }
     ensures silent { PollsOutsideEstablishedGiveWhatWaits }
     ensures packets { PollsSayTheirActs }
+    ensures no_reset { NoResetGoesOut }
     ensures waiting { WhatWaitsGoesOutAsItIs }
     ensures timeouts { TimeoutsMarkAtMost }
 {}
@@ -198,8 +232,9 @@ pub fn at_most_one_loss()
 {}
 
 /// Timing: over every list of calls each timer of DATA, of the handshake and of acknowledgements runs where it should,
-/// unless its retries passed their limit, and there alone (RFC 4960 sections 5.1, 6.2 and 6.3.2). A side that failed or
-/// was lost waits for no moment.
+/// unless its retries passed their limit, and there alone (RFC 4960 sections 5.1, 6.2 and 6.3.2). A poll leaves the
+/// timer of a request to reset streams running that is not answered, and so does a timeout (RFC 6525 section 5.1.1). A
+/// side that failed or was lost waits for no moment.
 pub fn timers_run_where_they_should()
     ensures data { OutstandingDataIsTimed }
     ensures no_data { NothingInFlightIsNotTimed }
@@ -209,6 +244,8 @@ pub fn timers_run_where_they_should()
     ensures cookies_alone { CookiesAreTimedInCookieEchoedAlone }
     ensures established { NoHandshakeTimerRunsOnceEstablished }
     ensures acknowledgements { DelayedSacksAreTimed }
+    ensures requests { PollsTimeRequests }
+    ensures requests_again { TimeoutsLeaveRequestsTimed }
     ensures failures { FailuresStopTheTimers }
     ensures losses { LossesStopTheTimers }
     ensures failed { FailedSidesWaitForNothing }

@@ -5,6 +5,7 @@ use Rattle.sctp_sides.proofs.Proved.{polls_say_their_acts, sacks_acknowledge, ta
 use Rattle.sctp_sides.proofs.Proved.{timeouts_mark_at_most, what_waits_goes_out_as_it_is}
 use Rattle.sctp_sides.proofs.Proved.{forwards_pass_over, i_forwards_pass_over, only_forwards_ahead_pass_over}
 use Rattle.sctp_sides.proofs.Proved.{unused_forwards_do_nothing}
+use Rattle.sctp_sides.proofs.Proved.{no_reset_goes_out}
 use Rattle.sctp_sides.proofs.calls_are_made_of_acts.Goals as goal
 
 pub returns-clause-data : goal.returns-clause-data
@@ -51,3 +52,6 @@ returns-clause-unused c = unused_forwards_do_nothing
 
 pub returns-clause-ahead : goal.returns-clause-ahead
 returns-clause-ahead c = only_forwards_ahead_pass_over
+
+pub returns-clause-no_reset : goal.returns-clause-no_reset
+returns-clause-no_reset c = no_reset_goes_out

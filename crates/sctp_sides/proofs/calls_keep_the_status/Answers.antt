@@ -1,6 +1,7 @@
 use Rattle.sctp_sides.proofs.Proved.{opened_streams_keep_the_status, polls_keep_the_status, reads_keep_the_status}
 use Rattle.sctp_sides.proofs.Proved.{accepted_streams_keep_the_status, limits_keep_the_status, settings_keep_the_status}
 use Rattle.sctp_sides.proofs.Proved.{timers_keep_the_status, told_events_keep_the_status, writes_keep_the_status}
+use Rattle.sctp_sides.proofs.Proved.{reads_change_streams_alone}
 use Rattle.sctp_sides.proofs.calls_keep_the_status.Goals as goal
 
 pub returns-clause-opened : goal.returns-clause-opened
@@ -20,6 +21,9 @@ returns-clause-limits c = limits_keep_the_status
 
 pub returns-clause-read : goal.returns-clause-read
 returns-clause-read c = reads_keep_the_status
+
+pub returns-clause-read_plainly : goal.returns-clause-read_plainly
+returns-clause-read_plainly c = reads_change_streams_alone
 
 pub returns-clause-told : goal.returns-clause-told
 returns-clause-told c = told_events_keep_the_status

@@ -1,7 +1,8 @@
 use Rattle.sctp_sides.proofs.ClosingCalls.{closes_close, writes_do_not_close}
 use Rattle.sctp_sides.proofs.ClosingCalls.{accepted_streams_do_not_close, limits_do_not_close, settings_do_not_close}
-use Rattle.sctp_sides.proofs.ClosingPackets.{exhausting_reads_alone_close, faults_alone_close}
-use Rattle.sctp_sides.proofs.DueSacks.{polls_do_not_close, timers_do_not_close}
+use Rattle.sctp_sides.proofs.ClosingPackets.{exhausting_reads_alone_close, exhausting_stops_alone_close}
+use Rattle.sctp_sides.proofs.ClosingPackets.{faults_alone_close}
+use Rattle.sctp_sides.proofs.ClosingPolls.{polls_do_not_close, timers_do_not_close}
 use Rattle.sctp_sides.proofs.faults_alone_close.Goals as goal
 
 pub returns-clause-packets : goal.returns-clause-packets
@@ -21,6 +22,9 @@ returns-clause-limits c = limits_do_not_close
 
 pub returns-clause-reads : goal.returns-clause-reads
 returns-clause-reads c = exhausting_reads_alone_close
+
+pub returns-clause-stops : goal.returns-clause-stops
+returns-clause-stops c = exhausting_stops_alone_close
 
 pub returns-clause-closes : goal.returns-clause-closes
 returns-clause-closes c = closes_close

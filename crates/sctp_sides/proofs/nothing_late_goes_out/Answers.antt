@@ -1,5 +1,5 @@
-use Rattle.sctp_sides.proofs.Proved.{created_sides_have_nothing_to_send, joined_sides_have_nothing_to_send}
-use Rattle.sctp_sides.proofs.Proved.{nothing_late_goes_out}
+use Rattle.sctp_sides.proofs.FirstBegunRuns.{created_sides_have_nothing_to_send, joined_sides_have_nothing_to_send}
+use Rattle.sctp_sides.proofs.PollsInTime.{nothing_late_goes_out}
 use Rattle.sctp_sides.proofs.nothing_late_goes_out.Goals as goal
 
 pub returns-clause-created : goal.returns-clause-created

@@ -1,3 +1,4 @@
+use Rattle.sctp_sides.proofs.RequestsTimed.{polls_time_requests, timeouts_leave_requests_timed}
 use Rattle.sctp_sides.proofs.TimersOverRuns.{cookies_are_timed_in_cookie_echoed_alone, delayed_sacks_are_timed}
 use Rattle.sctp_sides.proofs.TimersOverRuns.{echoed_cookies_are_timed, failed_sides_wait_for_nothing}
 use Rattle.sctp_sides.proofs.TimersOverRuns.{failures_stop_the_timers, inits_are_timed_in_cookie_wait_alone}
@@ -41,3 +42,9 @@ returns-clause-failed c = failed_sides_wait_for_nothing
 
 pub returns-clause-lost : goal.returns-clause-lost
 returns-clause-lost c = lost_sides_wait_for_nothing
+
+pub returns-clause-requests : goal.returns-clause-requests
+returns-clause-requests c = polls_time_requests
+
+pub returns-clause-requests_again : goal.returns-clause-requests_again
+returns-clause-requests_again c = timeouts_leave_requests_timed

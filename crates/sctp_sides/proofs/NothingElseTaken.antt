@@ -1,0 +1,298 @@
+-- Nothing but DATA that may be is taken in or kept apart.
+use Rattle.std.proofs.Common.{◌≡◌, refl, sym, ap, ◌∙◌, subst, ℕ, zero, suc, Bool, true, false, if◌then◌else◌}
+use Rattle.std.proofs.Common.{List, [], ◌∷◌, ◌++◌, Option, Some, None, is_some, Result, Ok, Err}
+use Rattle.std.specs.Prelude.{slice_get, ⊤}
+use Rattle.std.specs.List.{AllByRecursion}
+use Rattle.std.proofs.lemmas.Bool.{false≢true}
+use Rattle.sctp_wire_types.specs.declared.chunk.Chunk.{Chunk}
+use Rattle.sctp_wire_types.specs.declared.chunk.Chunk.TheVariants as chunks
+use Rattle.sctp_wire_types.specs.declared.chunk.ChunkPayloadData.{ChunkPayloadData}
+use Rattle.sctp_wire_types.specs.declared.chunk.ChunkReconfig.{ChunkReconfig}
+use Rattle.sctp_wire_types.specs.declared.chunk.GapAckBlock.{GapAckBlock}
+use Rattle.sctp_wire_types.specs.declared.error.Error.{Error}
+use Rattle.sctp_wire_types.specs.declared.packet.CommonHeader.{CommonHeader}
+use Rattle.sctp_wire_types.specs.declared.param.Param.{Param}
+use Rattle.sctp_wire_types.specs.declared.param.Param.TheVariants as params
+use Rattle.sctp_wire_types.specs.Checks.{checked_chunk}
+use Rattle.sctp_wire_types.specs.declared.ids.PayloadProtocolIdentifier.TheVariants as kinds
+use Rattle.sctp_streams.specs.Streams.{generation_left, stream_at}
+use Rattle.sctp_inbound.specs.Handshake.{comes_back}
+use Rattle.sctp_outbound.specs.declared.sender.SackOutcome.{SackOutcome}
+use Rattle.sctp_outbound.specs.declared.sender.SackOutcome.TheVariants as outcomes
+use Rattle.sctp_generations.specs.Generations.{has_retiring}
+use Rattle.sctp_resets.specs.Concerned.{retiring_ids}
+use Rattle.sctp_directions.specs.Acts.{Act, History}
+use Rattle.sctp_model.proofs.Lists.{all_get, all_join, all_weaker}
+use Rattle.sctp_assoc.specs.Calls.{is_beginning, is_cookie_wait, is_established}
+use Rattle.sctp_assoc.specs.Happened.{acts_of_checked, acts_of_chunk, acts_of_data, acts_of_forward}
+use Rattle.sctp_assoc.specs.Happened.{acts_of_kind, acts_of_outcome}
+use Rattle.sctp_assoc.specs.Leads.{Binds}
+use Rattle.sctp_assoc.specs.ResetActs.{acts_of_keeping, acts_of_param, acts_of_reconfig, acts_of_second}
+use Rattle.sctp_assoc.specs.ResetActs.{acts_of_settling}
+use Rattle.sctp_assoc.specs.Resets.{after_param}
+use Rattle.sctp_assoc.specs.Shown.{Shown, uses_forward_tsn}
+use Rattle.sctp_assoc.specs.Skipping.{is_ahead, skips_of, with_passed, with_skips}
+use Rattle.sctp_sides.specs.Intake.{IsEndOfSpans, NothingElseIsKeptApart, NothingElseIsTakenIn, WasToBeKeptApart}
+use Rattle.sctp_sides.specs.Intake.{WasToBeTakenIn, is_for_later, later_refusal_of, refusal_of}
+use Rattle.sctp_wire_types.specs.declared.chunk.SkippedStream.{SkippedStream}
+use Rattle.sctp_sides.proofs.DataIntake.{PassesLater, PassesTests, data_acts, decided_acts, first_acts, has_room}
+use Rattle.sctp_sides.proofs.DataIntake.{is_found, is_new, kept_acts, passes_may, passes_may_later, settling_ends_spans}
+use Rattle.sctp_sides.proofs.DataIntake.{spans_end}
+
+-- Nothing else is taken in
+
+-- what an act took in, or kept apart
+abbrev taken_by : ChunkPayloadData → Option Act → ChunkPayloadData
+taken_by other (Some (Act.Took piece)) = piece
+taken_by other (Some (Act.Deferred piece)) = piece
+taken_by other act = other
+
+-- an act that takes no DATA in
+abbrev pub IsNoIntake : Act → Type 0
+IsNoIntake (Act.Took piece) = ⊥
+IsNoIntake (Act.Deferred piece) = ⊥
+IsNoIntake act = ⊤
+
+ends_take_nothing : (act : Act) → IsEndOfSpans act → IsNoIntake act
+ends_take_nothing (Act.SpansEnded ids m) e = tt
+ends_take_nothing act e = absurd e
+
+ends_are_no_intake : (acts : List Act) → AllByRecursion IsEndOfSpans acts → AllByRecursion IsNoIntake acts
+ends_are_no_intake acts e = all_weaker IsEndOfSpans IsNoIntake acts ends_take_nothing e
+
+abbrev IsNoIntakeAt : Option Act → Type 0
+IsNoIntakeAt None = ⊤
+IsNoIntakeAt (Some act) = IsNoIntake act
+
+-- which act stands there, of several of which one alone takes DATA in
+abbrev is_took : Option Act → Bool
+is_took (Some (Act.Took piece)) = true
+is_took act = false
+
+abbrev is_deferred : Option Act → Bool
+is_deferred (Some (Act.Deferred piece)) = true
+is_deferred act = false
+
+-- DATA is taken in by one of the first acts, where the others end spans
+module _ (x : Act) (takes : IsNoIntake x → ⊥) where
+  found_first : (first others : List Act) (index : ℕ) → AllByRecursion IsNoIntake others
+      → slice_get (first ++ others) index ≡ Some x → (k : ℕ) × (slice_get first k ≡ Some x)
+  found_first [] others index none e = absurd (takes (all_get IsNoIntake others index x e none))
+  found_first (y ∷ ys) others zero none e = (0, e)
+  found_first (y ∷ ys) others (suc index) none e =
+      let more = found_first ys others index none e in (suc more.0, more.1)
+
+  none_found : (acts : List Act) (index : ℕ) → AllByRecursion IsNoIntake acts → slice_get acts index ≡ Some x → ⊥
+  none_found acts index none e = takes (all_get IsNoIntake acts index x e none)
+
+-- the tests that were passed where this DATA was taken in
+record PassedAll (there fits : Bool) (o : Option Error) (piece came : ChunkPayloadData) : Type 0 where
+  found : there ≡ true
+  room : fits ≡ true
+  unrefused : o ≡ None
+  same : came ≡ piece
+
+nothing_at : (x : Act) → None ≡ Some x → ⊥
+nothing_at x e = false≢true (ap is_some e)
+
+passed_all : (found room : Bool) (o : Option Error) (piece came : ChunkPayloadData) (index : ℕ)
+    → slice_get (decided_acts found room o piece) index ≡ Some (Act.Took came)
+    → PassedAll found room o piece came
+passed_all false room o piece came index e = absurd (nothing_at (Act.Took came) e)
+passed_all true false o piece came index e = absurd (nothing_at (Act.Took came) e)
+passed_all true true (Some error) piece came index e = absurd (nothing_at (Act.Took came) e)
+passed_all true true None piece came zero e =
+    record { found = refl; room = refl; unrefused = refl; same = sym (ap (taken_by piece) e) }
+passed_all true true None piece came (suc index) e = absurd (nothing_at (Act.Took came) e)
+
+kept_all : (room : Bool) (o : Option Error) (piece came : ChunkPayloadData) (index : ℕ)
+    → slice_get (kept_acts room o piece) index ≡ Some (Act.Deferred came)
+    → PassedAll true room o piece came
+kept_all false o piece came index e = absurd (nothing_at (Act.Deferred came) e)
+kept_all true (Some error) piece came index e = absurd (nothing_at (Act.Deferred came) e)
+kept_all true None piece came zero e =
+    record { found = refl; room = refl; unrefused = refl; same = sym (ap (taken_by piece) e) }
+kept_all true None piece came (suc index) e = absurd (nothing_at (Act.Deferred came) e)
+
+-- none of these takes DATA in for later, or none at all
+not_kept : (room : Bool) (o : Option Error) (piece came : ChunkPayloadData) (index : ℕ)
+    → slice_get (kept_acts room o piece) index ≡ Some (Act.Took came) → ⊥
+not_kept false o piece came index e = nothing_at (Act.Took came) e
+not_kept true (Some error) piece came index e = nothing_at (Act.Took came) e
+not_kept true None piece came zero e = false≢true (ap is_took e)
+not_kept true None piece came (suc index) e = nothing_at (Act.Took came) e
+
+not_taken : (found room : Bool) (o : Option Error) (piece came : ChunkPayloadData) (index : ℕ)
+    → slice_get (decided_acts found room o piece) index ≡ Some (Act.Deferred came) → ⊥
+not_taken false room o piece came index e = nothing_at (Act.Deferred came) e
+not_taken true false o piece came index e = nothing_at (Act.Deferred came) e
+not_taken true true (Some error) piece came index e = nothing_at (Act.Deferred came) e
+not_taken true true None piece came zero e = false≢true (ap is_deferred e)
+not_taken true true None piece came (suc index) e = nothing_at (Act.Deferred came) e
+
+-- the stream is made first
+behind_opened : (there left : Bool) (id first : ℕ) (acts : List Act) (index : ℕ) (x : Act) → (IsNoIntake x → ⊥)
+    → slice_get ((if there then [] else if left then Act.Opened id first kinds.Unknown ∷ [] else []) ++ acts) index
+    ≡ Some x
+    → (k : ℕ) × (slice_get acts k ≡ Some x)
+behind_opened true left id first acts index x takes e = (index, e)
+behind_opened false false id first acts index x takes e = (index, e)
+behind_opened false true id first acts zero x takes e =
+    absurd (takes (subst (λ (o : Option Act). IsNoIntakeAt o) e tt))
+behind_opened false true id first acts (suc index) x takes e = (index, e)
+
+took_takes : (piece : ChunkPayloadData) → IsNoIntake (Act.Took piece) → ⊥
+took_takes piece n = n
+
+deferred_takes : (piece : ChunkPayloadData) → IsNoIntake (Act.Deferred piece) → ⊥
+deferred_takes piece n = n
+
+module _ (a : Shown) (piece came : ChunkPayloadData) (index : ℕ) where
+  -- DATA was taken in where it passed the tests
+  passed_data : (next later : Bool) → is_new a piece ≡ next → is_for_later a piece ≡ later
+      → slice_get (first_acts next later a piece) index ≡ Some (Act.Took came)
+      → PassesTests a piece × (refusal_of a piece ≡ None) × (came ≡ piece)
+  passed_data false later n l e = absurd (nothing_at (Act.Took came) e)
+  passed_data true true n l e =
+      absurd (not_kept (has_room a piece) (later_refusal_of a piece) piece came index e)
+  passed_data true false n l e =
+      let behind = behind_opened (is_some (stream_at a.streams piece.stream_identifier)) (generation_left a.streams)
+      piece.stream_identifier a.sender.queue.next_message_id
+      (decided_acts (is_found a piece) (has_room a piece) (refusal_of a piece) piece) index (Act.Took came)
+      (took_takes came) e in
+      let p = passed_all (is_found a piece) (has_room a piece) (refusal_of a piece) piece came behind.0 behind.1 in
+      (record { new = n; read_now = l; found = p.found; room = p.room }, p.unrefused, p.same)
+
+  kept_data : (next later : Bool) → is_new a piece ≡ next → is_for_later a piece ≡ later
+      → slice_get (first_acts next later a piece) index ≡ Some (Act.Deferred came)
+      → PassesLater a piece × (later_refusal_of a piece ≡ None) × (came ≡ piece)
+  kept_data false later n l e = absurd (nothing_at (Act.Deferred came) e)
+  kept_data true true n l e =
+      let p = kept_all (has_room a piece) (later_refusal_of a piece) piece came index e in
+      (record { new = n; read_later = l; room = p.room }, p.unrefused, p.same)
+  kept_data true false n l e =
+      let behind = behind_opened (is_some (stream_at a.streams piece.stream_identifier)) (generation_left a.streams)
+      piece.stream_identifier a.sender.queue.next_message_id
+      (decided_acts (is_found a piece) (has_room a piece) (refusal_of a piece) piece) index (Act.Deferred came)
+      (deferred_takes came) e in
+      absurd (not_taken (is_found a piece) (has_room a piece) (refusal_of a piece) piece came behind.0 behind.1)
+
+data_was : (a : Shown) (h : History) (piece came : ChunkPayloadData) (index : ℕ) → Binds a h
+    → slice_get (acts_of_data a piece) index ≡ Some (Act.Took came) → WasToBeTakenIn a h (chunks.Data piece) came
+data_was a h piece came index binds e =
+    let acts = data_acts a piece in
+    let first = first_acts (is_new a piece) (is_for_later a piece) a piece in
+    let there = found_first (Act.Took came) (took_takes came) first acts.others index
+    (ends_are_no_intake acts.others acts.ends)
+    (ap (λ (zs : List Act). slice_get zs index) (sym acts.are) ∙ e) in
+    let p = passed_data a piece came there.0 (is_new a piece) (is_for_later a piece) refl refl there.1 in
+    subst (λ (z : ChunkPayloadData). WasToBeTakenIn a h (chunks.Data piece) z) (sym p.2)
+    (record { data_itself = refl; may = passes_may a h piece binds p.0; unrefused = p.1 })
+
+data_was_kept : (a : Shown) (h : History) (piece came : ChunkPayloadData) (index : ℕ) → Binds a h
+    → slice_get (acts_of_data a piece) index ≡ Some (Act.Deferred came)
+    → WasToBeKeptApart a h (chunks.Data piece) came
+data_was_kept a h piece came index binds e =
+    let acts = data_acts a piece in
+    let first = first_acts (is_new a piece) (is_for_later a piece) a piece in
+    let there = found_first (Act.Deferred came) (deferred_takes came) first acts.others index
+    (ends_are_no_intake acts.others acts.ends)
+    (ap (λ (zs : List Act). slice_get zs index) (sym acts.are) ∙ e) in
+    let p = kept_data a piece came there.0 (is_new a piece) (is_for_later a piece) refl refl there.1 in
+    subst (λ (z : ChunkPayloadData). WasToBeKeptApart a h (chunks.Data piece) z) (sym p.2)
+    (record { data_itself = refl; may = passes_may_later a h piece binds p.0; unrefused = p.1 })
+
+-- Other chunks
+
+all_if : (c : Bool) (xs ys : List Act) → AllByRecursion IsNoIntake xs → AllByRecursion IsNoIntake ys
+    → AllByRecursion IsNoIntake (if c then xs else ys)
+all_if true xs ys m n = m
+all_if false xs ys m n = n
+
+outcomes_take_nothing : (outcome : SackOutcome) (n : ℕ) (blocks : List GapAckBlock) (missing : ℕ)
+    → AllByRecursion IsNoIntake (acts_of_outcome outcome n blocks missing)
+outcomes_take_nothing outcomes.Older n blocks missing = tt
+outcomes_take_nothing outcomes.NotInFlight n blocks missing = tt
+outcomes_take_nothing outcomes.NamesTheUnsent n blocks missing = tt
+outcomes_take_nothing outcomes.Taken n blocks missing = (tt, tt)
+
+-- what a FORWARD TSN does that is ahead
+ahead_takes_nothing : (a : Shown) (tsn : ℕ) (skips : List SkippedStream)
+    → AllByRecursion IsNoIntake
+    (acts_of_keeping tsn skips a ++ acts_of_settling (with_passed (with_skips tsn skips a) tsn))
+ahead_takes_nothing a tsn skips =
+    let b : Shown = with_passed (with_skips tsn skips a) tsn in
+    all_join IsNoIntake (acts_of_keeping tsn skips a) (acts_of_settling b)
+    (ends_are_no_intake (acts_of_keeping tsn skips a)
+    (spans_end (has_retiring a.resets.generations) (retiring_ids a.resets.generations) b.streams))
+    (ends_are_no_intake (acts_of_settling b) (settling_ends_spans b))
+
+-- the association, with FORWARD TSN in use or not
+abbrev pub with_use : Bool → Shown → Shown
+with_use c a = record a { handshake = (let h = a.handshake in record h { use_forward_tsn = c }) }
+
+forward_takes_nothing : (uses ahead : Bool) (a : Shown) (tsn : ℕ) (skips : List SkippedStream)
+    → is_ahead a tsn ≡ ahead → AllByRecursion IsNoIntake (acts_of_forward (with_use uses a) tsn skips)
+forward_takes_nothing false ahead a tsn skips e = tt
+forward_takes_nothing true false a tsn skips e = rw e tt
+forward_takes_nothing true true a tsn skips e = rw e (tt, ahead_takes_nothing (with_use true a) tsn skips)
+
+forwards_take_nothing : (a : Shown) (tsn : ℕ) (skips : List SkippedStream)
+    → AllByRecursion IsNoIntake (acts_of_forward a tsn skips)
+forwards_take_nothing a tsn skips = forward_takes_nothing (uses_forward_tsn a) (is_ahead a tsn) a tsn skips refl
+
+pub params_end_spans : (a : Shown) (param : Param) → AllByRecursion IsEndOfSpans (acts_of_param a param)
+params_end_spans a (params.OutgoingResetRequest request) = (tt, tt)
+params_end_spans a (params.ReconfigResponse response) = (tt, tt)
+params_end_spans a param = tt
+
+seconds_end_spans : (x : Shown × Bool) (param : Option Param) → AllByRecursion IsEndOfSpans (acts_of_second x param)
+seconds_end_spans (a, true) (Some param) = params_end_spans a param
+seconds_end_spans (a, true) None = tt
+seconds_end_spans (a, false) param = tt
+
+pub reconfigs_end_spans : (a : Shown) (reconfig : ChunkReconfig)
+    → AllByRecursion IsEndOfSpans (acts_of_reconfig a reconfig)
+reconfigs_end_spans a reconfig =
+    all_join IsEndOfSpans (acts_of_param a reconfig.first)
+    (acts_of_second (after_param reconfig.first a) reconfig.second) (params_end_spans a reconfig.first)
+    (seconds_end_spans (after_param reconfig.first a) reconfig.second)
+
+-- any chunk but DATA
+abbrev IsNoData : Chunk → Type 0
+IsNoData (chunks.Data piece) = ⊥
+IsNoData chunk = ⊤
+
+kinds_take_nothing : (a : Shown) (header : CommonHeader) (chunk : Chunk) → IsNoData chunk
+    → AllByRecursion IsNoIntake (acts_of_kind a header chunk)
+kinds_take_nothing a header (chunks.Data piece) n = absurd n
+kinds_take_nothing a header (chunks.SelectiveAck sack) n =
+    all_if (is_established a.state) _ [] (outcomes_take_nothing _ _ sack.gap_ack_blocks _) tt
+kinds_take_nothing a header (chunks.Init init) n = all_if (is_beginning a.state) _ [] (tt, tt) tt
+kinds_take_nothing a header (chunks.InitAck init) n =
+    all_if (is_cookie_wait a.state) _ [] (all_if (comes_back a.handshake header) _ [] (tt, tt) tt) tt
+kinds_take_nothing a header (chunks.ForwardTsn x) n =
+    forwards_take_nothing a x.new_cumulative_tsn x.streams
+kinds_take_nothing a header (chunks.IForwardTsn x) n =
+    forwards_take_nothing a x.new_cumulative_tsn (skips_of x.entries)
+kinds_take_nothing a header (chunks.Reconfig reconfig) n =
+    ends_are_no_intake (acts_of_reconfig a reconfig) (reconfigs_end_spans a reconfig)
+kinds_take_nothing a header chunk n = tt
+
+checked_take_nothing : (r : Result (Unit {0}) Error) (a : Shown) (header : CommonHeader) (chunk : Chunk)
+    → IsNoData chunk → AllByRecursion IsNoIntake (acts_of_checked r a header chunk)
+checked_take_nothing (Err fault) a header chunk n = tt
+checked_take_nothing (Ok _) a header chunk n = kinds_take_nothing a header chunk n
+
+pub nothing_else_is_taken_in : NothingElseIsTakenIn
+nothing_else_is_taken_in a h header (chunks.Data piece) index came binds e = data_was a h piece came index binds e
+nothing_else_is_taken_in a h header chunk index came binds e =
+    absurd (none_found (Act.Took came) (took_takes came) (acts_of_chunk a header chunk) index
+    (checked_take_nothing (checked_chunk chunk) a header chunk tt) e)
+
+pub nothing_else_is_kept_apart : NothingElseIsKeptApart
+nothing_else_is_kept_apart a h header (chunks.Data piece) index came binds e =
+    data_was_kept a h piece came index binds e
+nothing_else_is_kept_apart a h header chunk index came binds e =
+    absurd (none_found (Act.Deferred came) (deferred_takes came) (acts_of_chunk a header chunk) index
+    (checked_take_nothing (checked_chunk chunk) a header chunk tt) e)
