@@ -247,6 +247,7 @@ stands_between s fewer size between = record {
   size = size ∙ s.size;
   between = between;
   in_order = λ t tight. s.in_order t (fewer t tight);
+  no_reset = s.no_reset;
 }
 
 -- how the other association stands, where an event happened at this one's sender
@@ -270,6 +271,7 @@ other_by_sender x e at invariant h =
       stopped = same ∙ s.stopped;
       nothing_left = s.nothing_left;
       truthful = s.truthful;
+      no_reset = s.no_reset;
     }))
     (λ (s : StandsFailed x.other x.out). inr (inr record { failed = s.failed; stopped = same ∙ s.stopped }))
     r)

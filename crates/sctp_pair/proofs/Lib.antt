@@ -16,12 +16,14 @@ pub mod CountedRuns
 pub mod MessageBytes
 pub mod NeverTakenBack
 pub mod NewPairs
+pub mod NoReset
 pub mod NumbersCounted
 pub mod PacketCall
 pub mod PacketChunks
 pub mod PollCall
 pub mod Promised
 pub mod ReadCall
+mod RefusalNumbers
 pub mod RunsJoined
 pub mod RunsOfWorlds
 pub mod SaidStaysSaid

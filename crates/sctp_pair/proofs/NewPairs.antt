@@ -126,6 +126,15 @@ joined_begins {size} {own} {peer} other j = record {
       size = refl;
       between = nothing_between j.config j.remote own.initial_tsn peer.initial_tsn size other;
       in_order = λ s tight. no_stream_yet s;
+      no_reset = record {
+        waiting = refl;
+        queued = refl;
+        active = refl;
+        in_progress = refl;
+        owed = refl;
+        kept = refl;
+        control = tt;
+      };
     }
 
 -- A pair that two tokens joined stands in the empty world.
@@ -183,6 +192,15 @@ client_begins {size} {own} other peer c = record {
       size = refl;
       between = nothing_between c.config c.remote own 1 size other;
       in_order = λ s tight. no_stream_yet s;
+      no_reset = record {
+        waiting = refl;
+        queued = refl;
+        active = refl;
+        in_progress = refl;
+        owed = refl;
+        kept = refl;
+        control = (tt, tt);
+      };
     }
 
 -- The association is a server that listens, with this payload size and this initial TSN.
@@ -226,6 +244,15 @@ server_begins {size} {own} other peer c = record {
       size = refl;
       between = nothing_between c.config c.remote own 1 size other;
       in_order = λ s tight. no_stream_yet s;
+      no_reset = record {
+        waiting = refl;
+        queued = refl;
+        active = refl;
+        in_progress = refl;
+        owed = refl;
+        kept = refl;
+        control = tt;
+      };
     }
 
 not_both : sides.Server ≡ sides.Client → ⊥

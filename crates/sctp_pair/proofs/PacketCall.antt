@@ -9,10 +9,11 @@ use Rattle.sctp_model.proofs.Proved.{each_event_keeps_the_invariant}
 use Rattle.sctp_assoc.specs.Closing.{is_closed_state}
 use Rattle.sctp_assoc.specs.Chunks.{after_packet}
 use Rattle.sctp_sides.specs.Meeting.{IsNoEarlier, Stage, stage_of}
+use Rattle.sctp_sides.specs.NoReset.{HasNoReset}
 use Rattle.sctp_sides.specs.SideLaws.{Closes, EndsPacket, OfEachChunk}
 use Rattle.sctp_assoc.specs.Shown.{Shown}
 use Rattle.sctp_sides.proofs.Proved.{lost_associations_take_nothing, no_packet_changes_nothing, packets_carry}
-use Rattle.sctp_sides.proofs.Proved.{the_same_handshake_is_the_same_stage}
+use Rattle.sctp_sides.proofs.Proved.{quiet_packets_carry, the_same_handshake_is_the_same_stage}
 use Rattle.sctp_directions.proofs.Proved.{closed_receivers_are_not_open, receivers_events_are_received}
 use Rattle.sctp_pair.specs.Fits.{StagesAgree, StandsFailed}
 use Rattle.sctp_pair.specs.declared.step.Reply.{Reply}
@@ -23,6 +24,7 @@ use Rattle.sctp_pair.proofs.BetweenDirections.{SettlesQuietly, Surroundings, doe
 use Rattle.sctp_pair.proofs.BetweenDirections.{goes_nowhere, goes_on, moved, nothing_added, nothing_read}
 use Rattle.sctp_pair.proofs.BetweenDirections.{other_by_receiver, sound_after}
 use Rattle.sctp_pair.proofs.PacketChunks.{Brings_of, OtherSays, SaidIn, all_said_in, came_on, chunk_step}
+use Rattle.sctp_pair.proofs.PacketChunks.{said_is_no_reconfig}
 use Rattle.sctp_pair.proofs.QuietCalls.{fails_settle, same_settles}
 use Rattle.sctp_pair.proofs.HandshakeStages.{stays_put, works_on}
 use Rattle.sctp_pair.proofs.BetweenChunks.{Underway}
@@ -52,19 +54,19 @@ settled_open {x} {B} {a} u = record {
   coming_still = u.coming_still;
 }
 
-end_step : {x : Surroundings} {B : By → ℕ → Type 0} (a b : Shown) → EndsPacket a b → Underway x B a
+end_step : {x : Surroundings} {B : By → ℕ → Type 0} (a b : Shown) → EndsPacket a b → HasNoReset b → Underway x B a
     → Settles x b nothing_added nothing_read B
-end_step {x} {B} a b ends u =
-    settled_open (came_on u [] (ends.leads u.stands.past u.stands.binds) ends.same tt
+end_step {x} {B} a b ends none u =
+    settled_open (came_on u [] (ends.leads u.stands.past u.stands.binds) ends.same none tt
     (coming_nowhere B u.within_coming u.holds))
 
 -- Closing
 
 -- a fault closes an open association: its receiver closes
 over_step : {x : Surroundings} {B : By → ℕ → Type 0} (a b : Shown) → b.side ≡ a.side → b.handshake ≡ a.handshake
-    → ((own : ℕ) → IsTruthful own a → IsTruthful own b) → IsOver b → Underway x B a
+    → ((own : ℕ) → IsTruthful own a → IsTruthful own b) → IsOver b → HasNoReset b → Underway x B a
     → Settles x b nothing_added nothing_read B
-over_step {x} {B} a b side handshake truthful over u =
+over_step {x} {B} a b side handshake truthful over none u =
     let received = receivers_events_are_received u.coming2 Event.Close tt in
     let coming3 : Direction = happens u.coming2 Event.Close in
     let goes = goes_by_receiver B u.coming2 Event.Close tt (λ n. n) (λ o n. absurd n) (λ o n. absurd n) in
@@ -86,6 +88,7 @@ over_step {x} {B} a b side handshake truthful over u =
         stopped = closed_receivers_are_not_open u.coming2;
         nothing_left = over.holds_nothing;
         truthful = truthful x.own u.stands.truthful;
+        no_reset = none;
       });
       other = other_by_receiver (moved x u.out2 u.coming2) Event.Close tt u.holds.other;
       goes = u.goes;
@@ -96,9 +99,9 @@ over_step {x} {B} a b side handshake truthful over u =
     }
 
 -- a server that listens stays as it is
-close_step : {x : Surroundings} {B : By → ℕ → Type 0} (a b : Shown) → Closes a b → Underway x B a
+close_step : {x : Surroundings} {B : By → ℕ → Type 0} (a b : Shown) → Closes a b → HasNoReset b → Underway x B a
     → Settles x b nothing_added nothing_read B
-close_step {x} {B} a b closes u = ⊎_elim
+close_step {x} {B} a b closes none u = ⊎_elim
     (λ (closed : is_closed_state a.state ≡ true).
     subst (λ (z : Shown). Settles x z nothing_added nothing_read B) (sym (closes.stays closed)) (settled_open u))
     (λ (opened : is_closed_state a.state ≡ false).
@@ -109,17 +112,17 @@ close_step {x} {B} a b closes u = ⊎_elim
       lost = ended.lost;
       none_live = ended.none_live;
       holds_nothing = ended.holds_nothing;
-    }) u)
+    }) none u)
     (cases_Bool (is_closed_state a.state))
 
 -- an exhausted receive buffer does as a fault does, and an ABORT waits then, in a server that listens too
-exhaust_step : {x : Surroundings} {B : By → ℕ → Type 0} (a b : Shown) → Exhausts a b → Underway x B a
+exhaust_step : {x : Surroundings} {B : By → ℕ → Type 0} (a b : Shown) → Exhausts a b → HasNoReset b → Underway x B a
     → Settles x b nothing_added nothing_read B
-exhaust_step {x} {B} a b exhausts u = ⊎_elim
+exhaust_step {x} {B} a b exhausts none u = ⊎_elim
     (λ (closed : is_closed_state a.state ≡ true).
-    let stays = exhausts.stays closed in end_step a b (record { leads = stays.0; same = stays.1 }) u)
+    let stays = exhausts.stays closed in end_step a b (record { leads = stays.0; same = stays.1 }) none u)
     (λ (opened : is_closed_state a.state ≡ false).
-    over_step a b exhausts.side exhausts.handshake exhausts.truthful (exhausts.ends opened) u)
+    over_step a b exhausts.side exhausts.handshake exhausts.truthful (exhausts.ends opened) none u)
     (cases_Bool (is_closed_state a.state))
 
 -- A packet
@@ -157,13 +160,13 @@ module _ (x : Surroundings) (a : Shown) (now : ℕ) where
       subst (λ (z : Shown). Settles x z nothing_added nothing_read (Brings_of x None))
       (sym (no_packet_changes_nothing a now)) (settled_open u)
   open_packet (Some packet) present said u =
-      packets_carry (Underway x (Brings_of x (Some packet)))
+      quiet_packets_carry (Underway x (Brings_of x (Some packet)))
       (λ b. Settles x b nothing_added nothing_read (Brings_of x (Some packet)))
-      (SaidIn x (Some packet))
-      (λ header c y z s takes v. chunk_step (Some packet) header c s takes v)
-      (λ y z ends v. end_step y z ends v)
-      (λ y z closes v. close_step y z closes v)
-      (λ y z exhausts v. exhaust_step y z exhausts v)
+      (SaidIn x (Some packet)) (said_is_no_reconfig x (Some packet))
+      (λ header c y z s takes none v. chunk_step (Some packet) header c s takes (none v.stands.no_reset) v)
+      (λ y z ends none v. end_step y z ends (none v.stands.no_reset) v)
+      (λ y z closes none v. close_step y z closes (none v.stands.no_reset) v)
+      (λ y z exhausts none v. exhaust_step y z exhausts (none v.stands.no_reset) v)
       packet a now present (all_said_in x packet [] packet.chunks refl said) u
 
   -- An association that failed before stays so, whatever comes.

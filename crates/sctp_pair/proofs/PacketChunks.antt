@@ -29,7 +29,8 @@ use Rattle.sctp_directions.proofs.Proved.{acts_keep_the_initial_tsns, sacks_mean
 use Rattle.sctp_assoc.specs.Leads.{Leads, parts}
 use Rattle.sctp_assoc.specs.Happened.{acts_of_chunk}
 use Rattle.sctp_assoc.specs.Shown.{Shown}
-use Rattle.sctp_sides.specs.Meeting.{Greets}
+use Rattle.sctp_sides.specs.Meeting.{Greets, Stage}
+use Rattle.sctp_sides.specs.NoReset.{HasNoReset, IsNoReconfig}
 use Rattle.sctp_sides.specs.SideLaws.{IsAcknowledging, IsPassingOver, IsSameStatus, IsTaking, OpensAndTakes, OpensOnly}
 use Rattle.sctp_sides.specs.SideLaws.{TakesChunk, TakesOnly}
 use Rattle.sctp_sides.proofs.Proved.{data_opens_or_takes, forwards_pass_over, sacks_acknowledge}
@@ -132,12 +133,13 @@ taking_is_not_peer_known a piece acts (inr (inr (inl t))) =
     subst (AllByRecursion IsNotPeerKnown) (sym t.are) (tt, (tt, tt))
 taking_is_not_peer_known a piece acts (inr (inr (inr t))) = subst (AllByRecursion IsNotPeerKnown) (sym t.are) (tt, tt)
 
--- Acts of a chunk, which leave the status and do not make the peer known, led the direction that comes on.
+-- Acts of a chunk, which leave the status, begin no reset and do not make the peer known, led the direction that comes
+-- on.
 pub came_on : {x : Surroundings} {B : By → ℕ → Type 0} {a b : Shown} (u : Underway x B a) (acts : List Act)
-    (leads : (k : History) × Leads acts a u.stands.past b k) → IsSameStatus a b → AllByRecursion IsNotPeerKnown acts
-    → Comes (moved x u.out2 u.coming2) B (parts a u.stands.past) acts → Underway x B b
+    (leads : (k : History) × Leads acts a u.stands.past b k) → IsSameStatus a b → HasNoReset b
+    → AllByRecursion IsNotPeerKnown acts → Comes (moved x u.out2 u.coming2) B (parts a u.stands.past) acts → Underway x B b
 unfolding stands_by
-came_on {x} {B} {a} {b} u acts leads same nobody after =
+came_on {x} {B} {a} {b} u acts leads same none nobody after =
     let next : Surroundings = moved x u.out2 after.coming2 in
     let holds : Holds next (parts b leads.0) = subst (Holds next) (sym leads.1.there) after.holds in
     let met = ap (λ (p : Parts). p.history.peer) leads.1.there
@@ -154,21 +156,21 @@ came_on {x} {B} {a} {b} u acts leads same nobody after =
       silent = λ never. ap (λ (z : Sender). z.plan.places) after.still ∙ u.silent never;
       goes = goes_same a b same u.goes;
       meets = meets_same a b same u.meets;
-      stands = stands_by next leads.0 u.stands same leads.1.binds met refl holds;
+      stands = stands_by next leads.0 u.stands same none leads.1.binds met refl holds;
       holds = holds;
     }
 
 data_step : {x : Surroundings} {B : By → ℕ → Type 0} (header : CommonHeader) (piece : ChunkPayloadData) {a b : Shown}
-    → TakesChunk header (chunks.Data piece) a b → IsGiven x.peer x.coming piece
+    → TakesChunk header (chunks.Data piece) a b → HasNoReset b → IsGiven x.peer x.coming piece
     → ((o : ℕ) → piece.tsn ≡ tsn x.peer o → B By.ByData o) → Underway x B a → Underway x B b
-data_step {x} {B} header piece {a} {b} takes (k, d, e, said) brings u =
+data_step {x} {B} header piece {a} {b} takes none (k, d, e, said) brings u =
     let h : History = u.stands.past in
     let acts : List Act = acts_of_chunk a header (chunks.Data piece) in
-    let taking = data_opens_or_takes a header piece in
+    let taking = data_opens_or_takes a header piece u.stands.no_reset in
     let leads = takes.leads h u.stands.binds in
     let there = u.goes_coming.datas k d e in
     let still = data_stays_said x.peer piece d u.goes_coming.spans said in
-    came_on u acts leads takes.leaves (taking_is_not_peer_known a piece acts taking)
+    came_on u acts leads takes.leaves none (taking_is_not_peer_known a piece acts taking)
     (take_shape (moved x u.out2 u.coming2) B a h piece (data_is_known k d u there) u.within_coming u.holds acts taking
     leads.1.can (k, d, there, still) brings)
 
@@ -216,16 +218,16 @@ passing_is_not_peer_known tsn skipped acts (inl n) = subst (AllByRecursion IsNot
 passing_is_not_peer_known tsn skipped acts (inr t) = subst (AllByRecursion IsNotPeerKnown) (sym t) (tt, tt)
 
 forward_step : {x : Surroundings} {B : By → ℕ → Type 0} (header : CommonHeader) (c : ChunkForwardTsn) {a b : Shown}
-    → TakesChunk header (chunks.ForwardTsn c) a b → IsForwardMade x.peer x.coming c
+    → TakesChunk header (chunks.ForwardTsn c) a b → HasNoReset b → IsForwardMade x.peer x.coming c
     → ((n : ℕ) → c.new_cumulative_tsn ≡ tsn_before (tsn x.peer n) → B By.ByForward n) → Underway x B a → Underway x B b
-forward_step {x} {B} header c {a} {b} takes (k, f, e, said) brings u =
+forward_step {x} {B} header c {a} {b} takes none (k, f, e, said) brings u =
     let h : History = u.stands.past in
     let acts : List Act = acts_of_chunk a header (chunks.ForwardTsn c) in
-    let passing = forwards_pass_over a header c in
+    let passing = forwards_pass_over a header c u.stands.no_reset in
     let leads = takes.leads h u.stands.binds in
     let there = u.goes_coming.forwards k f e in
     let still = forward_stays_said x.peer c f u.goes_coming.spans said in
-    came_on u acts leads takes.leaves (passing_is_not_peer_known c.new_cumulative_tsn c.streams acts passing)
+    came_on u acts leads takes.leaves none (passing_is_not_peer_known c.new_cumulative_tsn c.streams acts passing)
     (forward_shape (moved x u.out2 u.coming2) B a h c (forward_is_known k f u there) u.within_coming u.holds acts
     passing leads.1.can (k, f, there, still) brings)
 
@@ -258,9 +260,10 @@ sack_is_not_peer_known a h c acts (inl n) = subst (AllByRecursion IsNotPeerKnown
 sack_is_not_peer_known a h c acts (inr s) = subst (AllByRecursion IsNotPeerKnown) (sym s.are) (tt, tt)
 
 sack_step : {x : Surroundings} {B : By → ℕ → Type 0} (header : CommonHeader) (s : ChunkSelectiveAck) {a b : Shown}
-    → TakesChunk header (chunks.SelectiveAck s) a b → IsMade x.own x.out s → Underway x B a → Underway x B b
+    → TakesChunk header (chunks.SelectiveAck s) a b → HasNoReset b → IsMade x.own x.out s → Underway x B a
+    → Underway x B b
 unfolding stands_by
-sack_step {x} {B} header s {a} {b} takes (k, sack, e, says) u =
+sack_step {x} {B} header s {a} {b} takes none (k, sack, e, says) u =
     let h : History = u.stands.past in
     let acts : List Act = acts_of_chunk a header (chunks.SelectiveAck s) in
     let shape = sacks_acknowledge a h header s u.stands.binds in
@@ -284,7 +287,7 @@ sack_step {x} {B} header s {a} {b} takes (k, sack, e, says) u =
       silent = u.silent;
       goes = goes_same a b takes.leaves u.goes;
       meets = meets_same a b takes.leaves u.meets;
-      stands = stands_by next leads.0 u.stands takes.leaves leads.1.binds met after.goes.size holds;
+      stands = stands_by next leads.0 u.stands takes.leaves none leads.1.binds met after.goes.size holds;
       holds = holds;
     }
 
@@ -307,6 +310,11 @@ OtherSays x c = IsSaidBy x.peer x.own x.there x.coming x.out c
 abbrev pub SaidIn : Surroundings → Option Packet → Chunk → Type 0
 SaidIn x packet c = OtherSays x c × IsIn packet c
 
+-- no chunk of a handshake is a RE-CONFIG
+greeting_is_no_reconfig : (own : ℕ) (s : Stage) (c : Chunk) → Greets own s c → IsNoReconfig c
+greeting_is_no_reconfig own s (chunks.Reconfig reconfig) greeting = greeting
+greeting_is_no_reconfig own s c greeting = tt
+
 -- it is DATA, a SACK, a FORWARD TSN or the handshake's
 said_cases : (x : Surroundings) (packet : Option Packet) (P : Chunk → Type 0)
     → ((piece : ChunkPayloadData) → IsGiven x.peer x.coming piece → HasData packet piece.tsn → P (chunks.Data piece))
@@ -321,16 +329,22 @@ said_cases x packet P gives acks forwards greets (chunks.SelectiveAck s) (inl sa
 said_cases x packet P gives acks forwards greets (chunks.ForwardTsn c) (inl said, here) = forwards c said here
 said_cases x packet P gives acks forwards greets c (inl said, here) = absurd said
 
+-- and so it is no RE-CONFIG
+pub said_is_no_reconfig : (x : Surroundings) (packet : Option Packet) (c : Chunk) → SaidIn x packet c → IsNoReconfig c
+said_is_no_reconfig x packet c said =
+    said_cases x packet IsNoReconfig (λ piece given here. tt) (λ s made. tt) (λ f made here. tt)
+    (λ z greeting. greeting_is_no_reconfig x.peer x.there z greeting) c said
+
 pub chunk_step : {x : Surroundings} (packet : Option Packet) (header : CommonHeader) (c : Chunk) {a b : Shown}
-    → SaidIn x packet c → TakesChunk header c a b → Underway x (Brings_of x packet) a
+    → SaidIn x packet c → TakesChunk header c a b → HasNoReset b → Underway x (Brings_of x packet) a
     → Underway x (Brings_of x packet) b
-chunk_step {x} packet header c {a} {b} said takes u =
+chunk_step {x} packet header c {a} {b} said takes none u =
     let B : By → ℕ → Type 0 = Brings_of x packet in
     said_cases x packet (λ (z : Chunk). TakesChunk header z a b → Underway x B b)
-    (λ piece given brought takes. data_step header piece takes given (λ o e. subst (HasData packet) e brought) u)
-    (λ s made takes. sack_step header s takes made u)
-    (λ f made brought takes. forward_step header f takes made (λ n e. subst (HasForward packet) e brought) u)
-    (λ z greeting takes. greet_step header z takes greeting u)
+    (λ piece given brought takes. data_step header piece takes none given (λ o e. subst (HasData packet) e brought) u)
+    (λ s made takes. sack_step header s takes none made u)
+    (λ f made brought takes. forward_step header f takes none made (λ n e. subst (HasForward packet) e brought) u)
+    (λ z greeting takes. greet_step header z takes none greeting u)
     c said takes
 
 -- The chunks of a packet

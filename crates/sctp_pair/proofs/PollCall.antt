@@ -13,15 +13,15 @@ use Rattle.sctp_directions.specs.Acts.{Act, CanAll, History, Parts, all_data_giv
 use Rattle.sctp_assoc.specs.Leads.{parts}
 use Rattle.sctp_assoc.specs.Calls.{is_established}
 use Rattle.sctp_assoc.specs.Happened.{Polls, PollsOn, acts_of_poll, forwards_of_poll}
-use Rattle.sctp_assoc.specs.declared.control.ControlPacket.{ControlPacket}
-use Rattle.sctp_sides.specs.Meeting.{Greets, IsTruthful, Stage, stage_of}
-use Rattle.sctp_assoc.specs.Gather.{AreControlReadAgain, control_packets, has_something_to_give, polled}
-use Rattle.sctp_assoc.specs.Gather.{without_control}
+use Rattle.sctp_assoc.specs.declared.control.Control.TheVariants as controls
+use Rattle.sctp_sides.specs.Meeting.{Greets, IsTruthful, SaysWhatIsSo, Stage, WaitsTruthfully, stage_of}
+use Rattle.sctp_assoc.specs.Gather.{AreControlReadAgain, has_something_to_give, polled, without_control}
+use Rattle.sctp_sides.specs.NoReset.{HasNoReset, IsNoReconfig, IsOfNoReset, control_packets}
 use Rattle.sctp_sides.specs.SideLaws.{IsExchanged, IsGivenBy, IsPolling, IsSameStatus, IsWaitingToGo, OfEachChunk}
 use Rattle.sctp_sides.specs.SideLaws.{reports}
 use Rattle.sctp_assoc.specs.Shown.{Shown}
 use Rattle.sctp_sides.proofs.Proved.{acts_tied, done_append, established_sides_talk, forwardings_are_silent}
-use Rattle.sctp_sides.proofs.Proved.{given_append, polls_give_and_report}
+use Rattle.sctp_sides.proofs.Proved.{given_append, polls_begin_no_reset, polls_give_and_report}
 use Rattle.sctp_sides.proofs.Proved.{polls_keep_the_status, polls_outside_established_give_what_waits}
 use Rattle.sctp_sides.proofs.Proved.{polls_say_their_acts, reports_are_silent, what_waits_goes_out_as_it_is}
 use Rattle.sctp_fit.specs.Sendings.{IsGiven}
@@ -41,6 +41,7 @@ use Rattle.sctp_pair.proofs.ForwardsMade.{few_for_a_forward, new_data_says_the_s
 use Rattle.sctp_pair.proofs.OutgoingData.{all_new, all_old, forward_if, given_grows}
 use Rattle.sctp_pair.proofs.QuietCalls.{by_working, closed_on, fails_settle, same_settles, still}
 use Rattle.sctp_pair.proofs.HandshakeStages.{at_same, come_on, stays_put}
+use Rattle.sctp_pair.proofs.NoReset.{without_control_none_begins}
 use Rattle.sctp_pair.proofs.ComingData.{AfterComing, ReportsSaid, act_reported, coming_nowhere}
 
 can_front : (xs ys : List Act) (p : Parts) → CanAll (xs ++ ys) p → CanAll xs p
@@ -70,12 +71,19 @@ module _ (x : Surroundings) (a b : Shown) (h : History) (acts : List Act) (forwa
   exchanged_said (chunks.ForwardTsn c) (e, is) = subst (IsForwardMade x.own x.out) (sym is) (forwarded e)
   exchanged_said c n = absurd n
 
+-- what waits to go out and is no RE-CONFIG is of a handshake
+greets_or_resets : (own : ℕ) (s : Stage) (c : Chunk) → SaysWhatIsSo own s c → IsNoReconfig c → Greets own s c
+greets_or_resets own s (chunks.Reconfig reconfig) says other = absurd other
+greets_or_resets own s c says other = says
+
 -- a chunk that waited to go out says what is so
-waiting_said : (x : Surroundings) (a : Shown) → stage_of a ≡ x.here → IsTruthful x.own a → (c : Chunk)
+waiting_said : (x : Surroundings) (a : Shown) → stage_of a ≡ x.here → IsTruthful x.own a → HasNoReset a → (c : Chunk)
     → IsWaitingToGo a c → SaysAt x c
-waiting_said x a at t c (k, w, e, is) =
+waiting_said x a at t quiet c (k, w, e, is) =
     inr (subst (λ (z : Stage). Greets x.own z c) at (subst (Greets x.own (stage_of a)) is
-    (all_get (λ (z : ControlPacket). Greets x.own (stage_of a) z.chunk) a.control k w e t.says)))
+    (greets_or_resets x.own (stage_of a) w.chunk
+    (all_get (WaitsTruthfully x.own (stage_of a)) a.control k (controls.Packet w) e t.says)
+    (all_get IsOfNoReset a.control k (controls.Packet w) e quiet.control))))
 
 -- what each chunk of a packet is, where each is it
 each_chunk : (Is Says : Chunk → Type 0) (packet : Option Packet) → ((c : Chunk) → Is c → Says c) → OfEachChunk Is packet
@@ -126,7 +134,7 @@ pub record Polled (x : Surroundings) (b : Shown) (packets : List (List ℕ)) : T
 
 -- A poll of an association gave these packets and left b.
 module _ {x : Surroundings} {a b : Shown} {packets : List (List ℕ)} (f : Faces x a) (same_status : IsSameStatus a b)
-    (again : AreControlReadAgain a.control) where
+    (none : HasNoReset a → HasNoReset b) (again : AreControlReadAgain a.control) where
   -- In Established DATA goes out, a report where it is due, FORWARD TSN where it is given, and what waits. The
   -- direction makes the FORWARD TSN before new DATA goes out, which says the same: only then few offsets are sure to be
   -- assigned.
@@ -216,13 +224,14 @@ module _ {x : Surroundings} {a b : Shown} {packets : List (List ℕ)} (f : Faces
         size = goes.size ∙ s.size ∙ sym same_status.size;
         between = holds.between;
         in_order = holds.in_order;
+        no_reset = none s.no_reset;
       } in
       let exchanged = exchanged_said now a b h acts forwards
       (subst (λ z. AllByRecursion (IsGiven x.own new.out2) z) (sym data_is) given)
       (λ due. subst (λ (z : History). ReportsSaid x.peer z report.0.coming2) (sym past_is) (report.1 due)) forwarded in
       let said : (c : Chunk) → IsGivenBy acts forwards a b h c → SaysAt now c =
       λ c. ⊎_elim
-      (λ (w : IsWaitingToGo a c). waiting_said now a (f.at s.working) s.truthful c w)
+      (λ (w : IsWaitingToGo a c). waiting_said now a (f.at s.working) s.truthful s.no_reset c w)
       (λ (e : IsExchanged acts forwards a b h c). inl (exchanged c e)) in
       record {
         settles = record {
@@ -242,29 +251,30 @@ module _ {x : Surroundings} {a b : Shown} {packets : List (List ℕ)} (f : Faces
           coming_still = report.0.still;
         };
         said = each_packet (IsGivenBy acts forwards a b h) (SaysAt now) packets said
-            (polls_say_their_acts acts forwards a b h packets s.truthful.plain again established s.binds poll);
+            (polls_say_their_acts acts forwards a b h packets s.no_reset s.truthful.plain again established s.binds poll);
       }
 
   -- Outside Established what waits goes out, and nothing else happens.
   silent_polls : (now : ℕ) → a.failed ≡ false → polled a now ≡ (b, packets) → is_established a.state ≡ false
-      → IsTruthful x.own a → StandsAt x (without_control a) → Polled x b packets
+      → IsTruthful x.own a → HasNoReset a → StandsAt x (without_control a) → Polled x b packets
   unfolding still
-  silent_polls now working e outside truthful stands =
+  silent_polls now working e outside truthful quiet stands =
       let gives : (without_control a, control_packets a.control) ≡ (b, packets) =
-      sym (polls_outside_established_give_what_waits a now outside) ∙ e in
+      sym (polls_outside_established_give_what_waits a now quiet outside) ∙ e in
       let there : StandsAt x b = subst (StandsAt x) (ap (λ (z : Shown × List (List ℕ)). z.0) gives) stands in
       let waited : SaidAt x (control_packets a.control) =
       each_packet (IsWaitingToGo a) (SaysAt x) (control_packets a.control)
-      (waiting_said x a (f.at working) truthful) (what_waits_goes_out_as_it_is a truthful.plain again) in
+      (waiting_said x a (f.at working) truthful quiet) (what_waits_goes_out_as_it_is a truthful.plain again) in
       record {
         settles = still f (at_same a b x.here same_status f.at) there;
         said = subst (SaidAt x) (ap (λ (z : Shown × List (List ℕ)). z.1) gives) waited;
       }
 
-without_same : (a : Shown) (now : ℕ) → is_established a.state ≡ false → IsSameStatus a (without_control a)
-without_same a now outside =
+without_same : (a : Shown) (now : ℕ) → is_established a.state ≡ false → HasNoReset a
+    → IsSameStatus a (without_control a)
+without_same a now outside quiet =
     subst (IsSameStatus a) (ap (λ (z : Shown × List (List ℕ)). z.0)
-    (polls_outside_established_give_what_waits a now outside)) (polls_keep_the_status a now)
+    (polls_outside_established_give_what_waits a now quiet outside)) (polls_keep_the_status a now)
 
 -- an open association without what waited stands as before
 open_without : (x : Surroundings) (a : Shown) → IsSameStatus a (without_control a) → OpenAt x a
@@ -286,12 +296,13 @@ open_without x a same s = record {
   size = s.size;
   between = s.between;
   in_order = s.in_order;
+  no_reset = without_control_none_begins a s.no_reset;
 }
 
 -- and so does a closed one
 closed_without : (x : Surroundings) (a : Shown) → IsSameStatus a (without_control a) → ClosedAt x a
     → ClosedAt x (without_control a)
-closed_without x a same s = closed_on same s.nothing_left s
+closed_without x a same s = closed_on same (without_control_none_begins a s.no_reset) s.nothing_left s
 
 -- any association that didn't fail before
 any_polls : {x : Surroundings} {a b : Shown} (now : ℕ) (packets : List (List ℕ)) → a.failed ≡ false
@@ -300,18 +311,20 @@ any_polls : {x : Surroundings} {a b : Shown} (now : ℕ) (packets : List (List �
 any_polls {x} {a} {b} now packets working e polls f =
     let same : IsSameStatus a b =
     subst (IsSameStatus a) (ap (λ (z : Shown × List (List ℕ)). z.0) e) (polls_keep_the_status a now) in
+    let none : HasNoReset a → HasNoReset b =
+    λ n. subst HasNoReset (ap (λ (z : Shown × List (List ℕ)). z.0) e) (polls_begin_no_reset a now n) in
     by_working (Polled x b packets) working f
     (λ s. ⊎_elim
     (λ (established : is_established a.state ≡ true).
-    open_polls f same polls.control_again (acts_of_poll a now) (forwards_of_poll a now) s established
+    open_polls f same none polls.control_again (acts_of_poll a now) (forwards_of_poll a now) s established
     (polls_give_and_report a now established) (polls.from s.past s.binds))
     (λ (outside : is_established a.state ≡ false).
-    silent_polls f same polls.control_again now working e outside s.truthful
-    (inl (open_without x a (without_same a now outside) s)))
+    silent_polls f same none polls.control_again now working e outside s.truthful s.no_reset
+    (inl (open_without x a (without_same a now outside s.no_reset) s)))
     (cases_Bool (is_established a.state)))
     (λ s.
-    silent_polls f same polls.control_again now working e s.unestablished s.truthful
-    (inr (inl (closed_without x a (without_same a now s.unestablished) s))))
+    silent_polls f same none polls.control_again now working e s.unestablished s.truthful s.no_reset
+    (inr (inl (closed_without x a (without_same a now s.unestablished s.no_reset) s))))
 
 -- of packets that are said the first ones are
 first_said : (Says : Chunk → Type 0) (n : ℕ) (packets : List (List ℕ))

@@ -21,9 +21,10 @@ use Rattle.sctp_assoc.specs.Leads.{Leads, parts}
 use Rattle.sctp_assoc.specs.Calls.{is_established, open_refusal, opened}
 use Rattle.sctp_assoc.specs.Closing.{is_closed_state}
 use Rattle.sctp_assoc.specs.Shown.{Shown}
+use Rattle.sctp_sides.specs.NoReset.{HasNoReset}
 use Rattle.sctp_sides.specs.SideLaws.{HoldsNothing, IsNotLive, IsSameStatus}
 use Rattle.sctp_sides.proofs.Proved.{open_leads_on, opened_streams_hold_nothing, opened_streams_keep_the_status}
-use Rattle.sctp_sides.proofs.Proved.{opened_streams_were_not_live}
+use Rattle.sctp_sides.proofs.Proved.{opened_streams_begin_no_reset, opened_streams_were_not_live}
 use Rattle.sctp_pair.specs.declared.step.Reply.{Reply}
 use Rattle.sctp_pair.specs.declared.step.Reply.TheVariants as replies
 use Rattle.sctp_pair.specs.Fits.{IsAt, StandsClosed, StandsFailed}
@@ -137,6 +138,7 @@ pub record LeadsOn (x : Surroundings) (a : Shown) (past : History) (acts : List 
   pub nobody : AllByRecursion IsNotPeerKnown acts
   pub orderly : AllByRecursion (KeepsOrder x.loose) acts
   pub same : IsSameStatus a b
+  pub none : HasNoReset b
   pub size : out2.sender.plan.size ≡ x.out.sender.plan.size
   pub outgoing : FitsOutgoing (sending (done_all acts (parts a past))) out2
   pub incoming : FitsIncoming (receiving (done_all acts (parts a past))) coming2
@@ -173,20 +175,23 @@ open_on x acts {a} {b} {out2} {coming2} s m =
       in_order =
           λ t tight. subst (λ (p : Parts). IsKeptInOrder p.streams t) (sym there)
           (order_stays x.loose acts (parts a s.past) t tight m.orderly (s.in_order t tight));
+      no_reset = m.none;
     }
 
 -- A closed association stays closed
 
--- A closed association whose status stays, and whose streams hold nothing, stands closed.
-pub closed_on : {own : ℕ} {a b : Shown} {coming : Direction} → IsSameStatus a b → HoldsNothing b
+-- A closed association whose status stays, whose streams hold nothing, and in which no reset is under way, stands
+-- closed.
+pub closed_on : {own : ℕ} {a b : Shown} {coming : Direction} → IsSameStatus a b → HasNoReset b → HoldsNothing b
     → StandsClosed own a coming → StandsClosed own b coming
-closed_on {own} status empty s = record {
+closed_on {own} status none empty s = record {
   closed = ap is_closed_state status.state ∙ s.closed;
   unestablished = ap is_established status.state ∙ s.unestablished;
   lost = status.lost ∙ s.lost;
   stopped = s.stopped;
   nothing_left = empty;
   truthful = status.truthful own s.truthful;
+  no_reset = none;
 }
 
 -- a failed association does nothing that one that works does
@@ -209,6 +214,7 @@ empty_still a b e empty = subst (λ z. HoldsNothing (record b { streams = z })) 
 -- Acts lead from a to b, whose status is the same, and the directions fit what they did as they are.
 pub record IsUnseen (x : Surroundings) (a : Shown) (acts : List Act) (b : Shown) : Type 0 where
   pub same : IsSameStatus a b
+  pub none : HasNoReset a → HasNoReset b
   pub empty : HoldsNothing a → HoldsNothing b
   pub leads : assoc.LeadsOn acts a b
   pub nobody : AllByRecursion IsNotPeerKnown acts
@@ -229,17 +235,19 @@ unseen_settles {x} {a} {b} acts u working f =
       nobody = u.nobody;
       orderly = u.orderly;
       same = u.same;
+      none = u.none s.no_reset;
       size = refl;
       outgoing = u.outgoing s.past s.between.outgoing;
       incoming = u.incoming s.past s.between.incoming;
     })))
-    (λ s. still f (at_same a b x.here u.same f.at) (inr (inl (closed_on u.same (u.empty s.nothing_left) s))))
+    (λ s. still f (at_same a b x.here u.same f.at) (inr (inl (closed_on u.same (u.none s.no_reset) (u.empty s.nothing_left) s))))
 
 -- the same of a call without acts that leaves the streams as they are
-pub idle_settles : {x : Surroundings} {a b : Shown} → IsSameStatus a b × (b.streams ≡ a.streams) → assoc.LeadsOn [] a b
-    → a.failed ≡ false → Faces x a → SettlesQuietly x b
-idle_settles {x} {a} {b} stays leads working f = unseen_settles [] record {
+pub idle_settles : {x : Surroundings} {a b : Shown} → IsSameStatus a b × (b.streams ≡ a.streams)
+    → (HasNoReset a → HasNoReset b) → assoc.LeadsOn [] a b → a.failed ≡ false → Faces x a → SettlesQuietly x b
+idle_settles {x} {a} {b} stays none leads working f = unseen_settles [] record {
   same = stays.0;
+  none = none;
   empty = empty_still a b stays.1;
   leads = leads;
   nobody = tt;
@@ -264,6 +272,7 @@ module _ (x : Surroundings) (a : Shown) (id : ℕ) (kind : PayloadProtocolIdenti
         nobody = (tt, tt);
         orderly = (orderly_acts_keep_order x.loose (Act.Opened id first kind) (λ t n. n), tt);
         same = same;
+        none = opened_streams_begin_no_reset a id kind s.no_reset;
         size = refl;
         outgoing =
             opened_streams_send_nothing (sending p) id first kind x.out none (f.sound_out.plain.span id)
@@ -281,7 +290,8 @@ module _ (x : Surroundings) (a : Shown) (id : ℕ) (kind : PayloadProtocolIdenti
       by_working (SettlesQuietly x (opened a id kind)) free.0 f
       (λ s. opened_open free.1 s)
       (λ s. still f (at_same a (opened a id kind) x.here same f.at)
-      (inr (inl (closed_on same (opened_streams_hold_nothing a id kind free.1 s.nothing_left) s))))
+      (inr (inl (closed_on same (opened_streams_begin_no_reset a id kind s.no_reset)
+      (opened_streams_hold_nothing a id kind free.1 s.nothing_left) s))))
 
 -- A stream is opened at the application's trigger: where the association is closed, it stays empty.
 pub opens_settle : {x : Surroundings} {a b : Shown} (id : ℕ) (kind : PayloadProtocolIdentifier) (r : Reply)

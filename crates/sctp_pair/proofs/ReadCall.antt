@@ -21,13 +21,16 @@ use Rattle.sctp_directions.proofs.Proved.{closed_receivers_are_not_open}
 use Rattle.sctp_directions.proofs.Proved.{only_what_is_brought_is_taken_in, receivers_events_are_received}
 use Rattle.sctp_directions.proofs.Proved.{what_comes_leaves_its_own}
 use Rattle.sctp_assoc.specs.Leads.{parts}
-use Rattle.sctp_assoc.specs.Calls.{first_refusal, read_exhausts, read_from_stream}
+use Rattle.sctp_assoc.specs.Calls.{drained_behind, first_refusal, read_exhausts, read_from_stream}
 use Rattle.sctp_assoc.specs.Closing.{exhausted, is_closed_state, is_exhausted}
 use Rattle.sctp_assoc.specs.Shown.{Shown}
 use Rattle.sctp_sides.specs.Meeting.{IsTruthful, Stage}
-use Rattle.sctp_sides.specs.SideLaws.{Exhausts, HoldsNothing, IsLive, IsOver, IsSameStatus, with_read}
-use Rattle.sctp_sides.proofs.Proved.{exhaustion_closes, found_streams_are_live, plain_read_leads, reads_keep_the_status}
-use Rattle.sctp_sides.proofs.Proved.{the_same_handshake_is_the_same_stage, what_holds_nothing_gives_nothing}
+use Rattle.sctp_sides.specs.NoReset.{HasNoReset}
+use Rattle.sctp_sides.specs.SideLaws.{Exhausts, HoldsNothing, IsLive, IsOver, IsSameStatus}
+use Rattle.sctp_sides.proofs.Proved.{exhaustion_closes, found_streams_are_live, plain_read_leads}
+use Rattle.sctp_sides.proofs.Proved.{exhaustion_begins_no_reset}
+use Rattle.sctp_sides.proofs.Proved.{the_same_handshake_is_the_same_stage}
+use Rattle.sctp_sides.proofs.Proved.{what_holds_nothing_gives_nothing}
 use Rattle.sctp_pair.specs.declared.step.Reply.{Reply}
 use Rattle.sctp_pair.specs.declared.step.Reply.TheVariants as replies
 use Rattle.sctp_pair.specs.Fits.{IsAt, StandsClosed}
@@ -39,6 +42,7 @@ use Rattle.sctp_pair.proofs.BetweenDirections.{Surroundings, does_by_goes, goes_
 use Rattle.sctp_pair.proofs.BetweenDirections.{other_by_receiver, sound_after}
 use Rattle.sctp_pair.proofs.QuietCalls.{by_working, closed_on, fails_settle, open_on, same_settles, still}
 use Rattle.sctp_pair.proofs.HandshakeStages.{at_same, stays_put}
+use Rattle.sctp_pair.proofs.NoReset.{read_plainly, reads_plainly}
 
 -- what a read with this reply gives on stream s
 abbrev pub read_by : Reply → ℕ → ℕ → Option ReceivedMessage
@@ -119,7 +123,7 @@ at_exhausted a closes at working =
 -- association stands open then.
 record HasRead (x : Surroundings) (a : Shown) (id : ℕ) (message : Option ReceivedMessage) : Type 0 where
   pub does : Does nothing_added (read_by (replies.Read message) id) None_brought x.coming (after_one x id)
-  pub stands : OpenAt (record x { coming = after_one x id }) (with_read a id)
+  pub stands : OpenAt (record x { coming = after_one x id }) (read_plainly a id)
 
 plainly_read : {x : Surroundings} {a b : Shown} (id : ℕ) (message : Option ReceivedMessage) → IsLive a id
     → read_from_stream a id ≡ (b, message) → Faces x a → OpenAt x a → HasRead x a id message
@@ -127,7 +131,7 @@ plainly_read {x} {a} {b} id message live e f s =
     let fits =
     reads_are_alike (receiving (parts a s.past)) id live.stream x.coming live.there (f.sound_coming.plain.span id)
     f.within_coming f.sound_coming.invariant s.between.incoming in
-    let reads = reads_keep_the_status a id in
+    let reads = reads_plainly a id s.no_reset in
     let given : (read_in a.streams id).1 ≡ message =
     sym reads.given ∙ ap (λ (z : Shown × Option ReceivedMessage). z.1) e in
     record {
@@ -140,6 +144,7 @@ plainly_read {x} {a} {b} id message live e f s =
         nobody = (tt, tt);
         orderly = (orderly_acts_keep_order x.loose (Act.WasRead id) (λ z n. n), tt);
         same = reads.same;
+        none = reads.no_reset;
         size = refl;
         outgoing = what_comes_leaves_its_own (Act.WasRead id) (parts a s.past) x.out tt s.between.outgoing;
         incoming = fits.0;
@@ -186,10 +191,10 @@ module _ {x : Surroundings} {a : Shown} (id : ℕ) (message : Option ReceivedMes
       (receivers_events_are_received x.coming (Event.Read id) tt).sender
 
   -- the read leaves the receive buffer exhausted, and that closes
-  read_closes : (b : Shown) → IsAt b x.here → IsOver b → ((own : ℕ) → IsTruthful own (with_read a id)
+  read_closes : (b : Shown) → IsAt b x.here → IsOver b → HasNoReset b → ((own : ℕ) → IsTruthful own (read_plainly a id)
       → IsTruthful own b) → Settles x b nothing_added (read_by (replies.Read message) id) None_brought
   unfolding happens
-  read_closes b at over truthful =
+  read_closes b at over none truthful =
       let coming2 = after_one x id in
       let closes = goes_by_receiver None_brought coming2 Event.Close tt (λ n. n) (λ o n. n) (λ o n. n) in
       let stands : ClosedAt (record x { coming = happens coming2 Event.Close }) b = record {
@@ -199,6 +204,7 @@ module _ {x : Surroundings} {a : Shown} (id : ℕ) (message : Option ReceivedMes
         stopped = closed_receivers_are_not_open coming2;
         nothing_left = over.holds_nothing;
         truthful = truthful x.own h.stands.truthful;
+        no_reset = none;
       } in
       settled_read b id message (happens coming2 Event.Close) f
       (does_on (read_by (replies.Read message) id) x.coming coming2 (happens coming2 Event.Close) h.does closes)
@@ -211,14 +217,15 @@ module _ {x : Surroundings} {a : Shown} (id : ℕ) (message : Option ReceivedMes
       ∙ (receivers_events_are_received x.coming (Event.Read id) tt).sender)
 
   -- a server that listens stays as it is, but for the ABORT
-  read_exhausted : (closed : Bool) → is_closed_state (with_read a id).state ≡ closed → IsAt (with_read a id) x.here
-      → Settles x (exhausted (with_read a id)) nothing_added (read_by (replies.Read message) id) None_brought
+  read_exhausted : (closed : Bool) → is_closed_state (read_plainly a id).state ≡ closed → IsAt (read_plainly a id) x.here
+      → Settles x (exhausted (read_plainly a id)) nothing_added (read_by (replies.Read message) id) None_brought
   read_exhausted false e at =
-      let c = with_read a id in
+      let c = read_plainly a id in
       let closes = exhaustion_closes c in
-      read_closes (exhausted c) (at_exhausted c closes at) (closes.ends e) closes.truthful
+      read_closes (exhausted c) (at_exhausted c closes at) (closes.ends e)
+      (exhaustion_begins_no_reset c h.stands.no_reset) closes.truthful
   read_exhausted true e at =
-      let c = with_read a id in
+      let c = read_plainly a id in
       let closes = exhaustion_closes c in
       let stays = closes.stays e in
       let on = stays.0 h.stands.past h.stands.binds in
@@ -229,6 +236,7 @@ module _ {x : Surroundings} {a : Shown} (id : ℕ) (message : Option ReceivedMes
         nobody = tt;
         orderly = tt;
         same = stays.1;
+        none = exhaustion_begins_no_reset c h.stands.no_reset;
         size = refl;
         outgoing = h.stands.between.outgoing;
         incoming = h.stands.between.incoming;
@@ -239,18 +247,18 @@ read_open : {x : Surroundings} {a b : Shown} (id : ℕ) (message : Option Receiv
     → Settles x b nothing_added (read_by (replies.Read message) id) None_brought
 read_open {x} {a} {b} id message live e f s =
     let h = plainly_read id message live e f s in
-    let reads = reads_keep_the_status a id in
-    let at : IsAt (with_read a id) x.here = at_same a (with_read a id) x.here reads.same f.at in
+    let reads = reads_plainly a id s.no_reset in
+    let at : IsAt (read_plainly a id) x.here = at_same a (read_plainly a id) x.here reads.same f.at in
     let left : (read_from_stream a id).0 ≡ b = ap (λ (z : Shown × Option ReceivedMessage). z.0) e in
     subst (λ (z : Shown). Settles x z nothing_added (read_by (replies.Read message) id) None_brought) left
     (⊎_elim
     (λ (exhausts : read_exhausts a id ≡ true).
     subst (λ (z : Shown). Settles x z nothing_added (read_by (replies.Read message) id) None_brought)
     (sym (reads.exhausts exhausts))
-    (read_exhausted id message f h (is_closed_state (with_read a id).state) refl at))
+    (read_exhausted id message f h (is_closed_state (read_plainly a id).state) refl at))
     (λ (plain : read_exhausts a id ≡ false).
     subst (λ (z : Shown). Settles x z nothing_added (read_by (replies.Read message) id) None_brought)
-    (sym (reads.plainly plain)) (read_stays id message f h (with_read a id) at h.stands))
+    (sym (reads.plainly plain)) (read_stays id message f h (read_plainly a id) at h.stands))
     (cases_Bool (read_exhausts a id)))
 
 -- A closed association reads nothing
@@ -258,20 +266,21 @@ read_open {x} {a} {b} id message live e f s =
 -- a read that gives nothing exhausts nothing
 none_exhausts : (a : Shown) (id : ℕ) → (read_in a.streams id).1 ≡ None → read_exhausts a id ≡ false
 none_exhausts a id none =
-    ap (λ (o : Option ReceivedMessage). is_some o && is_exhausted (with_read a id)) none
+    ap (λ (o : Option ReceivedMessage). is_some o && is_exhausted (drained_behind a id (read_in a.streams id).0)) none
 
 read_closed : {own : ℕ} {coming : Direction} (a b : Shown) (id : ℕ) (message : Option ReceivedMessage) → IsLive a id
     → read_from_stream a id ≡ (b, message) → StandsClosed own a coming
     → (message ≡ None) × IsSameStatus a b × StandsClosed own b coming
 read_closed a b id message live e s =
-    let nothing = what_holds_nothing_gives_nothing a id live s.nothing_left in
-    let reads = reads_keep_the_status a id in
+    let nothing = what_holds_nothing_gives_nothing a id s.no_reset live s.nothing_left in
+    let reads = reads_plainly a id s.no_reset in
     let left : (read_from_stream a id).0 ≡ b = ap (λ (x : Shown × Option ReceivedMessage). x.0) e in
     let plain = reads.plainly (none_exhausts a id (sym reads.given ∙ nothing.0)) in
     let same : IsSameStatus a b = subst (IsSameStatus a) (sym plain ∙ left) reads.same in (
       sym (ap (λ (x : Shown × Option ReceivedMessage). x.1) e) ∙ nothing.0,
       same,
-      closed_on same (subst HoldsNothing left nothing.1) s,
+      closed_on same (subst HasNoReset (sym plain ∙ left) reads.no_reset)
+          (subst HoldsNothing left nothing.1) s,
     )
 
 -- a read that gave nothing

@@ -10,7 +10,7 @@ use Rattle.sctp_model.specs.Messages.{Message}
 use Rattle.sctp_serial.specs.Serial.{tsn}
 use Rattle.sctp_model.proofs.Lists.{all_get}
 use Rattle.sctp_sides.specs.SideLaws.{OfEachChunk}
-use Rattle.sctp_assoc.specs.Calls.{first_filled}
+use Rattle.sctp_assoc.specs.Calls.{first_filled, is_writable}
 use Rattle.sctp_assoc.specs.Shown.{Shown}
 use Rattle.sctp_pair.specs.declared.step.Reply.{Reply}
 use Rattle.sctp_pair.specs.declared.step.Reply.TheVariants as replies
@@ -25,7 +25,7 @@ use Rattle.sctp_pair.specs.Steps.{Writes}
 use Rattle.sctp_pair.specs.Steps.{WritesFirst}
 use Rattle.sctp_pair.specs.Steps.{packet_in}
 use Rattle.sctp_streams.specs.declared.setting.Setting.TheVariants as settings
-use Rattle.sctp_streams.specs.Stream.{is_read_half_open, is_write_half_open, ordered_and_reliable, params_of}
+use Rattle.sctp_streams.specs.Stream.{is_read_half_open, ordered_and_reliable, params_of}
 use Rattle.sctp_pair.specs.World.{is_loose, is_side, loose_after, loose_of}
 use Rattle.sctp_fit.specs.Incoming.{tsn_before}
 use Rattle.sctp_pair.specs.World.{HasData, HasForward, World, other_side, packet_brought, packet_of_bytes}
@@ -265,8 +265,8 @@ module _ (q : Ends) (r : Reply) (w : World) (fits : Fits w.ends w) where
       (λ a b c. shows_same a id (λ s. replies.State (is_read_half_open s.halves)) r b c) (λ y s. (refl, refl)) h h
   step_at (steps.IsWritable side id) h =
       same_leads side (steps.IsWritable side id)
-      (λ a b. ShowsOrRefuses a id (λ s. replies.State (is_write_half_open s.halves)) r b)
-      (λ a b c. shows_same a id (λ s. replies.State (is_write_half_open s.halves)) r b c) (λ y s. (refl, refl)) h h
+      (λ a b. ShowsOrRefuses a id (λ s. replies.State (is_writable a id)) r b)
+      (λ a b c. shows_same a id (λ s. replies.State (is_writable a id)) r b c) (λ y s. (refl, refl)) h h
   step_at (steps.StreamIdentifier side id) h =
       same_leads side (steps.StreamIdentifier side id)
       (λ a b. ShowsOrRefuses a id (λ s. replies.StreamIdentifier id) r b)

@@ -1,5 +1,5 @@
 -- An association tells its events and meets its timeouts: either leaves it between the same directions.
-use Rattle.std.proofs.Common.{◌≡◌, refl, sym, subst, ◌⊎◌, inl, inr, ℕ, Bool, false, List, [], ◌∷◌, Option}
+use Rattle.std.proofs.Common.{◌≡◌, refl, sym, ap, subst, ◌⊎◌, inl, inr, ℕ, Bool, false, List, [], ◌∷◌, Option}
 use Rattle.std.specs.List.{AllByRecursion}
 use Rattle.sctp_streams.specs.declared.event.Event.{Event}
 use Rattle.sctp_model.specs.Machine.{Direction}
@@ -12,8 +12,9 @@ use Rattle.sctp_assoc.specs.Calls.{event_polled}
 use Rattle.sctp_assoc.specs.Happened.{acts_of_timeouts}
 use Rattle.sctp_assoc.specs.Shown.{Shown}
 use Rattle.sctp_assoc.specs.Timeouts.{after_timeouts}
+use Rattle.sctp_sides.specs.NoReset.{HasNoReset}
 use Rattle.sctp_sides.proofs.Proved.{poll_leads_on, timeouts_lead_on, timeouts_mark_at_most, timers_keep_the_status}
-use Rattle.sctp_sides.proofs.Proved.{told_events_keep_the_status}
+use Rattle.sctp_sides.proofs.Proved.{timers_begin_no_reset, told_events_begin_no_reset, told_events_keep_the_status}
 use Rattle.sctp_pair.specs.declared.step.Reply.{Reply}
 use Rattle.sctp_pair.specs.declared.step.Reply.TheVariants as replies
 use Rattle.sctp_pair.specs.Steps.{Expires, PollsEvent}
@@ -27,7 +28,9 @@ use Rattle.sctp_pair.proofs.QuietCalls.{unseen_settles}
 told_settles : {x : Surroundings} {a b : Shown} (event : Option Event) → a.failed ≡ false → event_polled a ≡ (b, event)
     → Faces x a → SettlesQuietly x b
 told_settles {x} {a} {b} event working e f =
-    idle_settles (told_events_keep_the_status a b event e) (poll_leads_on a b event e) working f
+    idle_settles (told_events_keep_the_status a b event e)
+    (λ none. subst HasNoReset (ap (λ (z : Shown × Option Event). z.0) e) (told_events_begin_no_reset a none))
+    (poll_leads_on a b event e) working f
 
 -- The oldest event is told: the directions see nothing of it.
 pub tells_settle : {x : Surroundings} {a b : Shown} (r : Reply) → PollsEvent a r b → Faces x a → SettlesQuietly x b
@@ -70,6 +73,7 @@ expired_settles {x} {a} now working f =
     let shape = timeouts_mark_at_most a now in
     unseen_settles acts record {
       same = stays.0;
+      none = timers_begin_no_reset a now;
       empty = empty_still a (after_timeouts a now) stays.1;
       leads = timeouts_lead_on a (after_timeouts a now) now refl;
       nobody = timeouts_are_not_peer_known acts shape;

@@ -22,7 +22,8 @@ use Rattle.sctp_assoc.specs.Leads.{parts}
 use Rattle.sctp_assoc.specs.Calls.{first_filled, first_refusal, written}
 use Rattle.sctp_assoc.specs.Shown.{Shown}
 use Rattle.sctp_sides.specs.SideLaws.{WasWritable}
-use Rattle.sctp_sides.proofs.Proved.{accepted_writes_fit, write_leads_on, writes_keep_the_status}
+use Rattle.sctp_sides.proofs.Proved.{accepted_writes_fit, write_leads_on, writes_begin_no_reset}
+use Rattle.sctp_sides.proofs.Proved.{writes_keep_the_status}
 use Rattle.sctp_pair.specs.declared.step.Reply.{Reply}
 use Rattle.sctp_pair.specs.declared.step.Reply.TheVariants as replies
 use Rattle.sctp_pair.specs.Steps.{Writes, WritesFirst}
@@ -102,6 +103,7 @@ written_settles {x} {a} id n named bytes can f s =
       nobody = (tt, tt);
       orderly = (orderly_acts_keep_order x.loose (Act.Wrote id named bytes) (λ z n. n), tt);
       same = writes_keep_the_status a id named bytes;
+      none = writes_begin_no_reset a id named bytes s.no_reset;
       size = sent.0.size;
       outgoing =
           its_writes_are_accepted (parts a s.past) id named bytes t x.out there can.some f.sound_out.invariant

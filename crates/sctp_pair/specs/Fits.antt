@@ -8,6 +8,7 @@ use Rattle.sctp_directions.specs.Acts.{History, IsKeptInOrder}
 use Rattle.sctp_assoc.specs.Calls.{is_established}
 use Rattle.sctp_assoc.specs.Closing.{is_closed_state}
 use Rattle.sctp_sides.specs.Meeting.{Greets, HasCome, IsDoneAmongClients, IsTruthful, MayHear, Stage, stage_of}
+use Rattle.sctp_sides.specs.NoReset.{HasNoReset}
 use Rattle.sctp_sides.specs.SideLaws.{HoldsNothing, OfEachChunk}
 use Rattle.sctp_assoc.specs.Shown.{Shown}
 use Rattle.sctp_directions.specs.Said.{Says}
@@ -20,7 +21,8 @@ use Rattle.sctp_pair.specs.World.{IsSafeWorld, IsWithinLimits, IsWorldStep, Worl
 
 -- An association that was neither lost nor failed (a server that listens, in state Closed, is one, too) stands between
 -- its own direction and the one that comes to it; own and peer are their initial TSNs. What it knows of the peer's is
--- true. The loose streams are those that a step set to send other messages than ordered, reliable ones.
+-- true. The loose streams are those that a step set to send other messages than ordered, reliable ones. No step stops a
+-- stream, so no reset of one is ever under way (RFC 6525 section 5).
 pub record StandsOpen (loose : ℕ → Bool) (own peer : ℕ) (a : Shown) (out coming : Direction) : Type 0 where
   pub past : History
   pub own_is : past.own ≡ own
@@ -34,9 +36,10 @@ pub record StandsOpen (loose : ℕ → Bool) (own peer : ℕ) (a : Shown) (out c
   pub between : FitsBetween (parts a past) out coming
   -- a stream sends ordered, reliable messages as long as no step sets it otherwise
   pub in_order : (s : ℕ) → loose s ≡ false → IsKeptInOrder a.streams s
+  pub no_reset : HasNoReset a
 
 -- A closed one is lost and receives nothing more, the streams that were opened since then are empty, and what waits to
--- go out is truthful.
+-- go out is truthful; no reset of a stream is under way.
 pub record StandsClosed (own : ℕ) (a : Shown) (coming : Direction) : Type 0 where
   pub closed : is_closed_state a.state ≡ true
   pub unestablished : is_established a.state ≡ false
@@ -44,6 +47,7 @@ pub record StandsClosed (own : ℕ) (a : Shown) (coming : Direction) : Type 0 wh
   pub stopped : coming.receiver.is_open ≡ false
   pub nothing_left : HoldsNothing a
   pub truthful : IsTruthful own a
+  pub no_reset : HasNoReset a
 
 -- One that failed does nothing more.
 pub record StandsFailed (a : Shown) (coming : Direction) : Type 0 where

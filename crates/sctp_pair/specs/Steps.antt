@@ -9,12 +9,12 @@ use Rattle.sctp_wire_types.specs.Errors.{refusal_number}
 use Rattle.sctp_wire.specs.declared.packet.Packet.{Packet}
 use Rattle.sctp_wire.specs.Packets.{packet_at}
 use Rattle.sctp_assoc.specs.Calls.{accepted_stream, adjusted, buffered_of, deadline_of, event_polled}
-use Rattle.sctp_assoc.specs.Calls.{first_filled, has_begun_closing, read_exhausts, refusal_to_read}
+use Rattle.sctp_assoc.specs.Calls.{first_filled, has_begun_closing, is_writable, read_takes_memory, refusal_to_read}
 use Rattle.sctp_assoc.specs.Closing.{closed_by, is_closed_state}
 use Rattle.sctp_streams.specs.declared.event.AssociationError.TheVariants as reasons
 use Rattle.sctp_streams.specs.declared.setting.Setting.{Setting}
 use Rattle.sctp_streams.specs.declared.setting.Setting.TheVariants as settings
-use Rattle.sctp_streams.specs.Stream.{StreamView, is_read_half_open, is_write_half_open, params_of}
+use Rattle.sctp_streams.specs.Stream.{StreamView, is_read_half_open, params_of}
 use Rattle.sctp_streams.specs.Streams.{live_ids, stream_at}
 use Rattle.sctp_assoc.specs.Calls.{open_refusal, opened, read_from_stream, refusal_to_write, stream_refusal}
 use Rattle.sctp_assoc.specs.Calls.{with_max_send_message_size, written}
@@ -23,7 +23,7 @@ use Rattle.sctp_assoc.specs.Happened.{PollsOn, acts_of_poll, forwards_of_poll}
 use Rattle.sctp_assoc.specs.Inbound.{taken_packet}
 use Rattle.sctp_assoc.specs.Gather.{has_something_to_give, polled}
 use Rattle.sctp_assoc.specs.Shown.{HasFailed, Shown, answers_of}
-use Rattle.sctp_assoc.specs.Timeouts.{after_timeouts, handshake_goes_out_again}
+use Rattle.sctp_assoc.specs.Timeouts.{after_timeouts, timeouts_take_memory}
 use Rattle.sctp_pair.specs.declared.step.Reply.{Reply}
 use Rattle.sctp_pair.specs.declared.step.Reply.TheVariants as replies
 use Rattle.sctp_pair.specs.declared.step.Side2.{Side2}
@@ -78,10 +78,11 @@ WritesFirst a id buffers (replies.Refused n) b =
     ⊎ (n ≡ refusal_number errors.ErrNoMemory)) × (b ≡ a)
 WritesFirst a id buffers _ b = ⊥
 
+-- the next message of a stream is read; memory is wanted only where that closes, or ends a generation of the stream
 abbrev pub Reads : Shown → ℕ → Reply → Shown → Type 0
 Reads a id (replies.Read message) b = (refusal_to_read a id ≡ None) × (read_from_stream a id ≡ (b, message))
 Reads a id (replies.Refused n) b =
-    (IsNumberOf (refusal_to_read a id) n × (b ≡ a)) ⊎ ((read_exhausts a id ≡ true) × Fails a n b)
+    (IsNumberOf (refusal_to_read a id) n × (b ≡ a)) ⊎ ((read_takes_memory a id ≡ true) × Fails a n b)
 Reads a id _ b = ⊥
 
 -- something is set on a live stream
@@ -142,10 +143,11 @@ PollsEvent a (replies.Event event) b =
 PollsEvent a (replies.Refused n) b = HadFailed a n b
 PollsEvent a _ b = ⊥
 
--- the timers are met; memory is wanted only where INIT or COOKIE ECHO is to go out again (RFC 4960 section 5.1)
+-- the timers are met; memory is wanted only where INIT or COOKIE ECHO is to go out again (RFC 4960 section 5.1), or a
+-- request to reset streams is given up
 abbrev pub Expires : Shown → ℕ → Reply → Shown → Type 0
 Expires a now replies.Done b = (a.failed ≡ false) × (b ≡ after_timeouts a now)
-Expires a now (replies.Refused n) b = HadFailed a n b ⊎ ((handshake_goes_out_again a now ≡ true) × Fails a n b)
+Expires a now (replies.Refused n) b = HadFailed a n b ⊎ ((timeouts_take_memory a now ≡ true) × Fails a n b)
 Expires a now _ b = ⊥
 
 -- of the packets of a poll the first one for which room was refused is lost, and all behind it
@@ -258,7 +260,7 @@ Steps (steps.StreamStats side id) p r q =
 Steps (steps.IsReadable side id) p r q =
     AtSide side p (λ a b. ShowsOrRefuses a id (λ s. replies.State (is_read_half_open s.halves)) r b) q
 Steps (steps.IsWritable side id) p r q =
-    AtSide side p (λ a b. ShowsOrRefuses a id (λ s. replies.State (is_write_half_open s.halves)) r b) q
+    AtSide side p (λ a b. ShowsOrRefuses a id (λ s. replies.State (is_writable a id)) r b) q
 Steps (steps.StreamIdentifier side id) p r q =
     AtSide side p (λ a b. ShowsOrRefuses a id (λ s. replies.StreamIdentifier id) r b) q
 Steps (steps.GetDefaultPayloadType side id) p r q =

@@ -8,10 +8,11 @@ ghost use Rattle.sctp_pair.specs.Steps.{Buffers, Delivers, Expires, Fails, Finds
 ghost use Rattle.sctp_pair.specs.Steps.{AcceptsStream, ClosesOne, Keeps, Limits, Lists, Sets, ShowsOrRefuses, TakesIn};
 ghost use Rattle.sctp_pair.specs.Steps.{TakesPacket};
 ghost use Rattle.sctp_pair.specs.Steps.{PollsEvent, Writes, WritesFirst};
-ghost use Rattle.sctp_assoc.specs.Calls.{RefusesOrLacksMemory, first_filled, refusal_to_write, written};
+ghost use Rattle.sctp_assoc.specs.Calls.{RefusesOrLacksMemory, first_filled, is_writable, open_refusal, opened};
+ghost use Rattle.sctp_assoc.specs.Calls.{refusal_to_write, written};
 ghost use Rattle.sctp_pair.specs.declared.step.Reply.TheVariants as replies;
 ghost use Rattle.sctp_streams.specs.declared.setting.Setting.TheVariants as settings;
-ghost use Rattle.sctp_streams.specs.Stream.{is_read_half_open, is_write_half_open, params_of};
+ghost use Rattle.sctp_streams.specs.Stream.{is_read_half_open, params_of};
 
 use crate::Reply;
 use bytes::Bytes;
@@ -30,9 +31,25 @@ pub(crate) fn open_stream(
 ) -> Reply
     ensures { Opens association.old id payload_type result association.new }
 {
-    match association.open_stream(id, payload_type) {
-        Ok(_) => Reply::Done,
+    match make_stream(association, id, payload_type) {
+        Ok(()) => Reply::Done,
         Err(error) => Reply::Refused(error.number()),
+    }
+}
+
+// Opens a stream that nobody borrows then.
+fn make_stream(
+    association: &mut Association,
+    id: StreamId,
+    payload_type: PayloadProtocolIdentifier,
+) -> Result<(), Error>
+    ensures refused { RefusesOrLacksMemory result (open_refusal association.old id) }
+    ensures ok { OnOk result (association.new ≡ opened association.old id payload_type) }
+    ensures err { OnErr result (association.new ≡ association.old) }
+{
+    match association.open_stream(id, payload_type) {
+        Ok(_) => Ok(()),
+        Err(error) => Err(error),
     }
 }
 
@@ -311,7 +328,7 @@ pub(crate) fn is_readable(association: &mut Association, id: StreamId) -> Reply
 }
 
 pub(crate) fn is_writable(association: &mut Association, id: StreamId) -> Reply
-    ensures { ShowsOrRefuses association.old id (λ s. replies.State (is_write_half_open s.halves))
+    ensures { ShowsOrRefuses association.old id (λ s. replies.State (is_writable association.old id))
         result association.new }
 {
     match association.stream(id) {
