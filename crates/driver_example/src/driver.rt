@@ -118,7 +118,7 @@ impl EchoServer {
         Ok(())
     }
 
-    // A message that can't be written, since the association was closed meanwhile, is dropped.
+    // A message that can't be written, since the association or the stream was closed meanwhile, is dropped.
     fn echo(&mut self, id: StreamId) -> Result<(), Error> {
         for _ in 0..u64::MAX {
             let Ok(mut stream) = self.association.stream(id) else {
@@ -128,7 +128,10 @@ impl EchoServer {
                 break;
             };
             let bytes = bytes_of(self.alloc, message)?;
-            match self.association.stream(id)?.write(bytes.as_slice()) {
+            let Ok(mut stream) = self.association.stream(id) else {
+                break;
+            };
+            match stream.write(bytes.as_slice()) {
                 Ok(_) => {}
                 Err(Error::ErrNoMemory) => return Err(Error::ErrNoMemory),
                 Err(_) => break,

@@ -19,12 +19,37 @@ enum Scene {
     Finish,
     // The client closes.
     Close,
+    // The client stops the stream, or closes both halves of it.
+    End { of_both_halves: bool },
     // A message is counted at both sides.
     Counts,
     // A message takes the client's buffered amount past both marks.
     Marks,
     // The client sets how long a message may be, and a stream's payload type.
     Settings,
+}
+
+// How far the end of a stream was told.
+#[derive(Clone, Copy, Debug, PartialEq, Eq)]
+enum Told {
+    Nothing,
+    // The stream gave its last counters.
+    Counted,
+    // So it did, and the peer ended its half.
+    Finished,
+    // So it did, and the reset of the own half ended.
+    Reset,
+}
+
+impl Told {
+    fn after(self, event: &Event) -> Told {
+        match (self, event) {
+            (Told::Nothing, Event::DataChannelStatsFinal(_)) => Told::Counted,
+            (Told::Counted, Event::Stream(StreamEvent::Finished { id: 1 })) => Told::Finished,
+            (Told::Finished, Event::Stream(StreamEvent::ResetComplete { id: 1 })) => Told::Reset,
+            (told, _) => told,
+        }
+    }
 }
 
 // Whether all went as it should. No other function here owns a driver, as each way out of one that does proves how it
@@ -51,6 +76,7 @@ fn play(
         Scene::Loss => comes_again(alloc, client, server),
         Scene::Finish => is_finished(client),
         Scene::Close => is_over(client),
+        Scene::End { of_both_halves } => ends_stream(alloc, client, server, of_both_halves),
         Scene::Counts => is_counted(alloc, client, server),
         Scene::Marks => passes_marks(alloc, client, server),
         Scene::Settings => is_set(client),
@@ -165,6 +191,50 @@ fn is_over(client: &mut Driver) -> Result<bool, Fail> {
     Ok(client.is_closed() && !client.is_failed() && refused)
 }
 
+// Whether a stop, or a close, of the client's stream ends it at both sides, which are told, and it can be opened anew.
+fn ends_stream(
+    alloc: Global,
+    client: &mut Driver,
+    server: &mut Driver,
+    of_both_halves: bool,
+) -> Result<bool, Fail> {
+    let used = is_exchanged(alloc, client, server, 10)?;
+    let waits = waits_unread(alloc, client, server)?;
+    let refused = if of_both_halves {
+        client.close_stream(1)?;
+        matches!(write(client, b"late"), Err(Error::ErrStreamClosed))
+    } else {
+        client.stop(1)?;
+        matches!(write(client, b"late"), Err(Error::ErrStreamResetPending))
+    };
+    let unread = matches!(client.read(1, &mut []), Err(Error::ErrStreamClosed));
+    settle(alloc, client, server, 0)?;
+    let gone = client.stream_ids()?.is_empty() && server.stream_ids()?.is_empty();
+    let told = is_end_told(client)? && is_end_told(server)?;
+    open(client)?;
+    let anew = is_exchanged(alloc, client, server, 20)?;
+    Ok(anew && used && waits && refused && unread && gone && told)
+}
+
+// Whether a message of the server waits in the client for a longer buffer.
+fn waits_unread(alloc: Global, client: &mut Driver, server: &mut Driver) -> Result<bool, Fail> {
+    let accepted = write(server, b"unread")?;
+    settle(alloc, client, server, 0)?;
+    Ok(reads(alloc, client, 5, ReadAnswer::NoRoom { length: 6 })? && accepted)
+}
+
+// Whether the end of stream 1 is told: its last counters, the end of the peer's half, and then that of the own one.
+fn is_end_told(driver: &mut Driver) -> Result<bool, Error> {
+    let mut told = Told::Nothing;
+    for _ in 0..1000_u32 {
+        let Some(event) = driver.poll_event()? else {
+            break;
+        };
+        told = told.after(&event);
+    }
+    Ok(told == Told::Reset)
+}
+
 // Whether each side counts a message of ten bytes that goes from the client to the server, and its chunks.
 fn is_counted(alloc: Global, client: &mut Driver, server: &mut Driver) -> Result<bool, Fail> {
     let initial = client.rto_ms() == 3000;
@@ -262,6 +332,14 @@ fn data_that_is_lost_comes_again(rt: HostRuntime) -> Result<(), Fail> {
 fn nothing_is_written_once_finished_or_closed(rt: HostRuntime) -> Result<(), Fail> {
     for scene in [Scene::Finish, Scene::Close] {
         assert!(rt; played(rt.alloc(), scene)?);
+    }
+    Ok(())
+}
+
+#[test]
+fn a_stream_ends_at_both_sides(rt: HostRuntime) -> Result<(), Fail> {
+    for of_both_halves in [false, true] {
+        assert!(rt; played(rt.alloc(), Scene::End { of_both_halves })?);
     }
     Ok(())
 }

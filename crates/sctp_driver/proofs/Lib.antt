@@ -2,3 +2,4 @@ mod CutsLeft
 mod MadeDrivers
 mod PollsAsked
 mod TimersMet
+mod Unchanged

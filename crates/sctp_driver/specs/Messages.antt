@@ -5,7 +5,7 @@ use Rattle.sctp_wire_types.specs.declared.error.Error.{Error}
 use Rattle.sctp_wire_types.specs.declared.error.Error.TheVariants as errors
 use Rattle.sctp_wire_types.specs.declared.ids.PayloadProtocolIdentifier.TheVariants as kinds
 use Rattle.sctp_receive_queues.specs.Messages.{ReceivedMessage, bytes_left}
-use Rattle.sctp_assoc.specs.Calls.{read_exhausts, read_from_stream, refusal_to_read}
+use Rattle.sctp_assoc.specs.Calls.{read_from_stream, read_takes_memory, refusal_to_read}
 use Rattle.sctp_assoc.specs.Shown.{HasFailed, Shown, answers_of}
 use Rattle.sctp_driver.specs.declared.messages.ReadAnswer.{ReadAnswer}
 use Rattle.sctp_driver.specs.declared.messages.ReadAnswer.TheVariants as answers
@@ -22,6 +22,14 @@ kept_of id m = record { stream = id; payload_type = m.payload_type; bytes = byte
 -- where the first message of this stream stands
 abbrev pub index_of : ℕ → List KeptMessage → Option ℕ
 index_of id kept = position (λ (m : KeptMessage). m.stream == id) kept
+
+abbrev pub without_message_at : Option ℕ → List KeptMessage → List KeptMessage
+without_message_at None kept = kept
+without_message_at (Some index) kept = remove kept index
+
+-- the message of this stream is no longer kept
+abbrev pub without_message_of : ℕ → List KeptMessage → List KeptMessage
+without_message_of id kept = without_message_at (index_of id kept) kept
 
 abbrev pub no_message : KeptMessage
 no_message = record { stream = 0; payload_type = kinds.Unknown; bytes = [] }
@@ -67,12 +75,13 @@ abbrev pub Reads : Driving → ℕ → List ℕ → ReadAnswer → Driving → L
 Reads d id buffer answer e filled =
     Gives id d.kept buffer answer e.kept filled × (e ≡ record d { kept = e.kept })
 
--- the association refused the read with nothing changed, or it left the receive buffer exhausted, and memory was
--- refused for the close: the association failed
+-- the association refused the read with nothing changed; or the read was to close it or to end a generation of the
+-- stream, and memory was refused for that: the association failed
 abbrev pub StopsRead : Shown → ℕ → Error → Shown → Type 0
 StopsRead a id error b =
     ((refusal_to_read a id ≡ Some error) × (b ≡ a))
-    ⊎ ((read_exhausts a id ≡ true) × (error ≡ errors.ErrNoMemory) × HasFailed (answers_of a) b)
+    ⊎ ((refusal_to_read a id ≡ None) × (read_takes_memory a id ≡ true) × (error ≡ errors.ErrNoMemory)
+    × HasFailed (answers_of a) b)
 
 -- memory was refused: with nothing changed, or when the message was kept, whole
 abbrev pub LacksMemory : Driving → ℕ → Error → Driving → Type 0

@@ -12,11 +12,12 @@ ghost use Rattle.sctp_assoc.specs.Closing.{closed_by, is_closed_state};
 ghost use Rattle.sctp_assoc.specs.Created.{client, create_refusal, created, join_refusal, joined, server};
 ghost use Rattle.sctp_assoc.specs.Gather.{has_something_to_give};
 ghost use Rattle.sctp_assoc.specs.Inbound.{taken_packet};
-ghost use Rattle.sctp_assoc.specs.Timeouts.{after_timeouts, handshake_goes_out_again};
+ghost use Rattle.sctp_assoc.specs.Timeouts.{after_timeouts, timeouts_take_memory};
 ghost use Rattle.sctp_driver.specs.Driving.{RunsOutOfMemory, begun_with, with_association};
 ghost use Rattle.sctp_driver.specs.Sending.{Sends, asked};
 ghost use Rattle.sctp_driver.specs.Tags.{answer_to, begins, judged_packet, packet_in};
 
+use crate::lending;
 use crate::messages::Kept;
 use crate::sending::{PollAnswer, packets_in, take_first};
 use crate::tags::{DatagramAnswer, first_chunk, judge};
@@ -309,7 +310,7 @@ impl Driver {
     /// sections 5.1, 6.2 and 6.3.3). `poll_transmit` gives the packets.
     ///
     /// Errors: `ErrAssociationFailed`, with nothing changed, and `ErrNoMemory` only where INIT or COOKIE ECHO is to go
-    /// out again, after which the association is failed.
+    /// out again or a request to reset streams is given up, after which the association is failed.
     pub fn handle_timeout(&mut self, now: u64) -> Result<(), Error>
         ensures ok { OnOk result
             (self.new ≡ with_association self.old (after_timeouts self.old.association now)) }
@@ -317,10 +318,10 @@ impl Driver {
         ensures refused { IsErrOf result Error.ErrAssociationFailed → self.new ≡ self.old }
         ensures memory { IsErrOf result Error.ErrNoMemory → RunsOutOfMemory self.old self.new }
         ensures again { IsErrOf result Error.ErrNoMemory
-            → handshake_goes_out_again self.old.association now ≡ true }
+            → timeouts_take_memory self.old.association now ≡ true }
         ensures only { OnErr result ((result ≡ Err Error.ErrAssociationFailed) ⊎ (result ≡ Err Error.ErrNoMemory)) }
     {
-        self.association.handle_timeout(Instant::from_nanos(now))
+        lending::meet_timers(&mut self.association, now)
     }
 
     /// Takes out the oldest event; None where none waits. Its one error is `ErrAssociationFailed`, with nothing

@@ -1,16 +1,31 @@
-// Calls of one stream of an association, by the stream's identifier.
-ghost use Rattle.std.specs.Prelude.{◌≡◌, length, IfErr, IfOk, OnErr, OnOk};
+// Calls of an association: of its timers, and of one stream by the stream's identifier.
+ghost use Rattle.std.specs.Prelude.{◌≡◌, ◌↔◌, ◌⊎◌, length, Err, IfErr, IfOk, IfSome, IsErrOf, OnErr, OnOk, true};
 ghost use Rattle.sctp_streams.specs.declared.setting.Setting.TheVariants as settings;
 ghost use Rattle.sctp_streams.specs.Stream.{params_of};
 ghost use Rattle.sctp_assoc.specs.Calls.{Refuses, RefusesOrLacksMemory, accepted_stream, adjusted, open_refusal};
-ghost use Rattle.sctp_assoc.specs.Calls.{opened, read_from_stream, refusal_to_write, stream_refusal, written};
+ghost use Rattle.sctp_assoc.specs.Calls.{opened, read_from_stream, refusal_to_write, stop_takes_memory};
+ghost use Rattle.sctp_assoc.specs.Calls.{stopped, stream_refusal, written};
+ghost use Rattle.sctp_assoc.specs.Shown.{HasFailed, answers_of};
+ghost use Rattle.sctp_assoc.specs.Timeouts.{after_timeouts, timeouts_take_memory};
 ghost use Rattle.sctp_driver.specs.Messages.{StopsRead};
-ghost use Rattle.sctp_driver.specs.Streams.{asked_of, buffered_on};
+ghost use Rattle.sctp_driver.specs.Streams.{asked_of, buffered_on, refusal_to_stop, stream_closed};
 
 use sctp_assoc::{
-    Association, Chunks, DataChannelStats, Error, PayloadProtocolIdentifier, ReliabilityType,
-    StreamId,
+    Association, Chunks, DataChannelStats, Error, Instant, PayloadProtocolIdentifier,
+    ReliabilityType, StreamId,
 };
+
+// Does what the timers ask for that expired by this moment, in nanoseconds.
+pub(crate) fn meet_timers(association: &mut Association, now: u64) -> Result<(), Error>
+    ensures ok { OnOk result (association.new ≡ after_timeouts association.old now) }
+    ensures failed { IsErrOf result Error.ErrAssociationFailed ↔ (association.old.failed ≡ true) }
+    ensures refused { IsErrOf result Error.ErrAssociationFailed → association.new ≡ association.old }
+    ensures memory { IsErrOf result Error.ErrNoMemory → HasFailed (answers_of association.old) association.new }
+    ensures again { IsErrOf result Error.ErrNoMemory → timeouts_take_memory association.old now ≡ true }
+    ensures only { OnErr result ((result ≡ Err Error.ErrAssociationFailed) ⊎ (result ≡ Err Error.ErrNoMemory)) }
+{
+    association.handle_timeout(Instant::from_nanos(now))
+}
 
 pub(crate) fn open_stream(
     association: &mut Association,
@@ -69,6 +84,28 @@ pub(crate) fn finish(association: &mut Association, id: StreamId) -> Result<(), 
 {
     let mut stream = association.stream(id)?;
     stream.finish()
+}
+
+pub(crate) fn stop(association: &mut Association, id: StreamId) -> Result<(), Error>
+    ensures refused { RefusesOrLacksMemory result (refusal_to_stop association.old id) }
+    ensures ok { OnOk result (association.new ≡ stopped association.old id) }
+    ensures unchanged { IfSome (refusal_to_stop association.old id) (λ error. association.new ≡ association.old) }
+    ensures memory { IsErrOf result Error.ErrNoMemory → HasFailed (answers_of association.old) association.new }
+    ensures grows { IsErrOf result Error.ErrNoMemory → stop_takes_memory association.old id ≡ true }
+{
+    let mut stream = association.stream(id)?;
+    stream.stop()
+}
+
+pub(crate) fn close_stream(association: &mut Association, id: StreamId) -> Result<(), Error>
+    ensures refused { RefusesOrLacksMemory result (refusal_to_stop association.old id) }
+    ensures ok { OnOk result (association.new ≡ stream_closed association.old id) }
+    ensures unchanged { IfSome (refusal_to_stop association.old id) (λ error. association.new ≡ association.old) }
+    ensures memory { IsErrOf result Error.ErrNoMemory → HasFailed (answers_of association.old) association.new }
+    ensures grows { IsErrOf result Error.ErrNoMemory → stop_takes_memory association.old id ≡ true }
+{
+    let mut stream = association.stream(id)?;
+    stream.close()
 }
 
 pub(crate) fn set_reliability_params(

@@ -6,10 +6,13 @@
 //!
 //! 1. If `poll_timeout` answers a moment that is not after `now`, call `handle_timeout`.
 //! 2. If a datagram came, hand it to `handle_datagram`. One that is no packet, or is not for this association, is left.
-//! 3. Call `poll_event` until it answers None. On `StreamEvent::Readable` call `read` until it answers `Nothing`.
+//! 3. Call `poll_event` until it answers None. On `StreamEvent::Readable` call `read` until it answers `Nothing` or the
+//!    stream is gone.
 //! 4. Call `poll_transmit` until it answers `Nothing`, and send each datagram that it gives. Where it gives messages
 //!    up, a stream may fall to its low mark: the next turn's `poll_event` tells, or one right behind it.
 //! 5. Sleep until the moment that `poll_timeout` answers, or until a datagram comes.
+//!
+//! A stream ends where either side stops or closes it (`stop`, `close_stream`): both are told so, and can open it anew.
 //!
 //! Moments are nanoseconds from one that the user chooses. Each call is safe in each state and at each moment. What
 //! it refuses it refuses by name, and the page of each call says what is left then.
@@ -26,7 +29,7 @@ pub use driver::Driver;
 pub use messages::ReadAnswer;
 pub use sctp_assoc::{
     AssociationStats, ChunkInit, DataChannelStats, Error, Event, PayloadProtocolIdentifier,
-    ReliabilityType, StreamEvent, TransportConfig, token,
+    ReliabilityType, StreamEvent, StreamResetError, TransportConfig, token,
 };
 pub use sending::PollAnswer;
 pub use tags::DatagramAnswer;

@@ -2,6 +2,7 @@
 ghost use Rattle.std.specs.Prelude.{◌≡◌, ◌++◌, ◌<◌, [], length, Err, IfOk, IfSome, OnErr, OnOk};
 ghost use Rattle.sctp_receive_queues.specs.Messages.{bytes_left};
 ghost use Rattle.sctp_driver.specs.Messages.{Gives, index_of, kept_of, message_at, put_front};
+ghost use Rattle.sctp_driver.specs.Messages.{without_message_of};
 
 use crate::sending::fill;
 use bytes::{Bytes, BytesMut};
@@ -164,6 +165,15 @@ pub(crate) fn find(kept: &VecDeque<Kept>, stream: StreamId) -> Option<usize>
     ensures bound { IfSome result (λ index. index < length kept.now.items) }
 {
     kept.iter().position(|message| message.stream() == stream)
+}
+
+/// Drops the message of this stream, if there is one.
+pub(crate) fn forget(kept: &mut VecDeque<Kept>, stream: StreamId)
+    ensures { kept.new.items ≡ without_message_of stream kept.old.items }
+{
+    if let Some(index) = find(kept, stream) {
+        kept.remove(index);
+    }
 }
 
 /// Gives the first message of this stream where the buffer has room for it. Where memory is refused it stays.

@@ -1,16 +1,17 @@
 // The calls of a driver's streams, each named by its identifier.
-ghost use Rattle.std.specs.Prelude.{◌≡◌, length, IfErr, IfOk, OnErr, OnOk};
+ghost use Rattle.std.specs.Prelude.{◌≡◌, length, IfErr, IfOk, IfSome, IsErrOf, OnErr, OnOk, true};
 ghost use Rattle.sctp_streams.specs.declared.setting.Setting.TheVariants as settings;
 ghost use Rattle.sctp_streams.specs.Stream.{params_of};
 ghost use Rattle.sctp_assoc.specs.Calls.{Refuses, RefusesOrLacksMemory, accepted_stream, adjusted, open_refusal};
-ghost use Rattle.sctp_assoc.specs.Calls.{opened, refusal_to_write, stream_refusal, written};
-ghost use Rattle.sctp_driver.specs.Driving.{with_association};
+ghost use Rattle.sctp_assoc.specs.Calls.{opened, refusal_to_write, stop_takes_memory, stopped, stream_refusal};
+ghost use Rattle.sctp_assoc.specs.Calls.{written};
+ghost use Rattle.sctp_driver.specs.Driving.{RunsOutOfMemory, with_association};
 ghost use Rattle.sctp_driver.specs.Messages.{Reads, ReadFails, with_message};
-ghost use Rattle.sctp_driver.specs.Streams.{asked_of, buffered_on};
+ghost use Rattle.sctp_driver.specs.Streams.{asked_of, buffered_on, refusal_to_stop, stream_closed, with_stopped};
 
 use crate::driver::Driver;
 use crate::lending;
-use crate::messages::{Kept, ReadAnswer, find, give};
+use crate::messages::{Kept, ReadAnswer, find, forget, give};
 use sctp_assoc::{DataChannelStats, Error, PayloadProtocolIdentifier, ReliabilityType, StreamId};
 
 impl Driver {
@@ -18,7 +19,8 @@ impl Driver {
     /// sent for it: the peer sees the stream with its first DATA.
     ///
     /// Refused, in this order with nothing changed: `ErrAssociationFailed`; `ErrStreamAlreadyExist`, also where the
-    /// peer opened it; `ErrStreamCreateFailed` where no generation is left; `ErrNoMemory`.
+    /// peer opened it; `ErrStreamResetPending` where a reset of it is open or failed; `ErrStreamCreateFailed` where no
+    /// generation is left; `ErrNoMemory`.
     pub fn open_stream(
         &mut self,
         id: StreamId,
@@ -45,7 +47,8 @@ impl Driver {
     /// are copied; they go out with `poll_transmit`, as the windows allow.
     ///
     /// Refused, in this order with nothing changed: `ErrAssociationFailed`; `ErrStreamNotExisted`; `ErrStreamClosed`
-    /// where its write half is closed; `ErrPayloadDataStateNotExist` outside Established; `ErrEmptyMessage`;
+    /// where its write half is closed; `ErrPayloadDataStateNotExist` outside Established; `ErrStreamResetPending` where
+    /// a reset of it is open or failed, or the peer ended it and it is not read to its end; `ErrEmptyMessage`;
     /// `ErrOutboundPacketTooLarge` for a message that is longer than `max_send_message_size`; `ErrNoMemory`.
     pub fn write(
         &mut self,
@@ -65,11 +68,13 @@ impl Driver {
 
     /// Copies the next message of a stream to the front of the buffer, whole. Where the buffer is shorter the message
     /// stays, and `NoRoom` says how long it is; a later read with a longer buffer gives it, also after a loss of the
-    /// association. After `StreamEvent::Readable` read until it answers `Nothing`.
+    /// association. After `StreamEvent::Readable` read until it answers `Nothing`, or until the stream is gone: where
+    /// the peer ended it, it may end with its last message. A message that waits for a longer buffer counts as read.
     ///
     /// Refused, in this order: `ErrAssociationFailed`, `ErrStreamNotExisted` and `ErrStreamClosed` (its read half is
     /// closed), with nothing changed, and only where no message of the stream waits in the driver; `ErrNoMemory`, which
-    /// leaves the message to be read, or the association failed where the read was to close it.
+    /// leaves the message to be read, or the association failed where the read was to close it or to end a generation
+    /// of the stream.
     pub fn read(&mut self, id: StreamId, buffer: &mut [u8]) -> Result<ReadAnswer, Error>
         ensures ok { IfOk result
             (λ answer. Reads (with_message self.old id) id buffer.old answer self.new buffer.new) }
@@ -107,6 +112,41 @@ impl Driver {
         ensures err { OnErr result (self.new ≡ self.old) }
     {
         lending::finish(&mut self.association, id)
+    }
+
+    /// Closes the read half of a stream and asks for a reset of it (RFC 6525 section 5.1, RFC 8831 section 6.7): from
+    /// then on a read is refused as `ErrStreamClosed` and a write as `ErrStreamResetPending`, and a message that waits
+    /// for a longer buffer is dropped. What was accepted goes out, and then the request. Once the peer has reset its
+    /// half, too, `StreamEvent::Finished` and `StreamEvent::ResetComplete` tell the end, and the stream can be opened
+    /// anew. Where the read half is closed already, nothing is asked for.
+    ///
+    /// Refused, in this order with nothing changed: `ErrAssociationFailed`, `ErrStreamNotExisted`;
+    /// `ErrResetPacketInStateNotExist` outside Established, unless the peer ended the stream and messages of it are
+    /// still to be read. `ErrNoMemory` leaves the association failed.
+    pub fn stop(&mut self, id: StreamId) -> Result<(), Error>
+        ensures refused { RefusesOrLacksMemory result (refusal_to_stop self.old.association id) }
+        ensures ok { OnOk result (self.new ≡ with_stopped self.old id (stopped self.old.association id)) }
+        ensures unchanged { IfSome (refusal_to_stop self.old.association id) (λ error. self.new ≡ self.old) }
+        ensures memory { IsErrOf result Error.ErrNoMemory → RunsOutOfMemory self.old self.new }
+        ensures grows { IsErrOf result Error.ErrNoMemory → stop_takes_memory self.old.association id ≡ true }
+    {
+        lending::stop(&mut self.association, id)?;
+        forget(&mut self.kept, id);
+        Ok(())
+    }
+
+    /// Closes both halves of a stream: the write half as `finish` does, and then the read half as `stop` does. Refused
+    /// as `stop` is.
+    pub fn close_stream(&mut self, id: StreamId) -> Result<(), Error>
+        ensures refused { RefusesOrLacksMemory result (refusal_to_stop self.old.association id) }
+        ensures ok { OnOk result (self.new ≡ with_stopped self.old id (stream_closed self.old.association id)) }
+        ensures unchanged { IfSome (refusal_to_stop self.old.association id) (λ error. self.new ≡ self.old) }
+        ensures memory { IsErrOf result Error.ErrNoMemory → RunsOutOfMemory self.old self.new }
+        ensures grows { IsErrOf result Error.ErrNoMemory → stop_takes_memory self.old.association id ≡ true }
+    {
+        lending::close_stream(&mut self.association, id)?;
+        forget(&mut self.kept, id);
+        Ok(())
     }
 
     /// Sets how messages of a stream are sent that are written from now on: in order or not, and how long each is

@@ -1,0 +1,13 @@
+use Rattle.std.proofs.Common.{sym}
+use Rattle.sctp_driver.specs.Streams.{refusal_to_stop}
+use Rattle.sctp_driver.proofs.Unchanged.{unchanged_beside}
+use Rattle.sctp_driver.proofs.driver.Driver.close_stream.Goals as goal
+
+pub returns-in_err-close_stream-clause-unchanged : goal.returns-in_err-close_stream-clause-unchanged
+returns-in_err-close_stream-clause-unchanged c =
+    rw (← c.self.view_is) (unchanged_beside (refusal_to_stop c.self.inside.association c.args.id) (record {
+      association = c.self.inside.association;
+      own_tag = c.self.inside.own_tag;
+      waiting = c.self.inside.waiting.items;
+      kept = c.self.inside.kept.items;
+    }) c.close_stream.new.association c.close_stream.ensures.unchanged)
