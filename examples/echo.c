@@ -1,6 +1,7 @@
 /*
  * Messages that come back, over UDP (RFC 6951): a server that echoes, and a client that sends COUNT messages of 1 to
- * 8,192 bytes and looks at what comes back. It is the guide to sctp_assoc.h.
+ * 8,192 bytes, looks at what comes back, and then closes the stream, which ends at both sides. It is the guide to
+ * sctp_assoc.h.
  *
  *   cc -O2 -Iinclude -o echo examples/echo.c "$(./library)"
  *   ./echo server 9899                    serves one client at a time: the one whose INIT came last
@@ -25,7 +26,7 @@ static sctp_assoc slot = SCTP_ASSOC_EMPTY;
 static sctp_assoc_config config;
 static struct sockaddr_in peer;
 static int udp;
-static bool is_client;
+static bool is_client, is_reset;
 static unsigned long count, sent, echoed;
 
 static void stop(const char *why, unsigned number) {
@@ -70,18 +71,33 @@ static void send_more(void) {
         done(sctp_assoc_write(&slot, STREAM, SCTP_ASSOC_PPID_OF_STREAM, bytes, message(sent, bytes)));
 }
 
-/* A server sends each message back; a client looks at it. */
+/* A server sends a message back, unless the stream has ended meanwhile. */
+static void send_back(uint16_t stream, uint32_t type, const uint8_t *bytes, size_t length) {
+    sctp_assoc_code code = sctp_assoc_write(&slot, stream, type, bytes, length);
+    if (code != SCTP_ASSOC_RESET_PENDING && code != SCTP_ASSOC_NO_STREAM)
+        done(code);
+}
+
+/* A stream that ended is read no more. */
+static bool read_one(uint16_t stream, uint8_t *bytes, size_t room, size_t *length, uint32_t *type) {
+    sctp_assoc_code code = sctp_assoc_read(&slot, stream, bytes, room, length, type);
+    return code != SCTP_ASSOC_NO_STREAM && done(code);
+}
+
+/* A server sends each message back; a client looks at it, and closes the stream behind the last one. */
 static void read_all(uint16_t stream) {
     static uint8_t bytes[65536], wanted[8192];
     size_t length;
     uint32_t type;
-    while (done(sctp_assoc_read(&slot, stream, bytes, sizeof bytes, &length, &type))) {
+    while (read_one(stream, bytes, sizeof bytes, &length, &type)) {
         if (!is_client)
-            done(sctp_assoc_write(&slot, stream, type, bytes, length));
+            send_back(stream, type, bytes, length);
         else if (message(echoed++, wanted) != length || memcmp(wanted, bytes, length) != 0)
             stop("another message came back than that with the number", (unsigned)echoed - 1);
     }
-    if (is_client)
+    if (is_client && echoed == count)
+        done(sctp_assoc_close_stream(&slot, stream));
+    else if (is_client)
         send_more();
 }
 
@@ -92,7 +108,12 @@ static void take_events(void) {
             done(sctp_assoc_open_stream(&slot, STREAM, SCTP_ASSOC_PPID_BINARY));
             send_more();
         } else if (event.kind == SCTP_ASSOC_EVENT_READABLE) {
-            read_all(event.stream);
+            if (!is_client || echoed < count)
+                read_all(event.stream);
+        } else if (event.kind == SCTP_ASSOC_EVENT_RESET_COMPLETE) {
+            is_reset = true;
+        } else if (event.kind == SCTP_ASSOC_EVENT_RESET_FAILED && is_client) {
+            stop("the stream was not reset for the reason", event.reason);
         } else if (event.kind == SCTP_ASSOC_EVENT_LOST || event.kind == SCTP_ASSOC_EVENT_HANDSHAKE_FAILED) {
             if (is_client)
                 stop("the association ended for the reason", event.reason);
@@ -159,12 +180,12 @@ int main(int argc, char **argv) {
         if (inet_pton(AF_INET, argv[2], &peer.sin_addr) != 1)
             stop("no IPv4 address in word", 2);
     }
-    for (begin(); !is_client || echoed < count;) {
+    for (begin(); !is_client || (count > 0 && !is_reset);) {
         send_all();
         wait_for_either();
         receive_all();
         take_events();
     }
-    printf("%lu messages came back\n", echoed);
+    printf("%lu messages came back, and the stream ended at both sides\n", echoed);
     return done(sctp_assoc_free(&slot)) ? 0 : 1;
 }

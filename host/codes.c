@@ -29,6 +29,8 @@ static void empty_slot(void) {
     CHECK(sctp_assoc_write(&none, 1, 53, bytes, 1) == SCTP_ASSOC_EMPTY_SLOT);
     CHECK(sctp_assoc_read(&none, 1, bytes, sizeof bytes, &length, &number) == SCTP_ASSOC_EMPTY_SLOT);
     CHECK(sctp_assoc_finish(&none, 1) == SCTP_ASSOC_EMPTY_SLOT);
+    CHECK(sctp_assoc_stop(&none, 1) == SCTP_ASSOC_EMPTY_SLOT);
+    CHECK(sctp_assoc_close_stream(&none, 1) == SCTP_ASSOC_EMPTY_SLOT);
     CHECK(sctp_assoc_set_reliability(&none, 1, false, 0, 0) == SCTP_ASSOC_EMPTY_SLOT);
     CHECK(sctp_assoc_buffered_amount(&none, 1, &length) == SCTP_ASSOC_EMPTY_SLOT);
     CHECK(!none.at && !none.live);
@@ -59,6 +61,8 @@ static void refused_streams(void) {
     CHECK(sctp_assoc_write(&ends[0], 1, 53, bytes, 1) == SCTP_ASSOC_NO_STREAM);
     CHECK(sctp_assoc_read(&ends[0], 1, bytes, sizeof bytes, &length, &number) == SCTP_ASSOC_NO_STREAM);
     CHECK(sctp_assoc_finish(&ends[0], 1) == SCTP_ASSOC_NO_STREAM);
+    CHECK(sctp_assoc_stop(&ends[0], 1) == SCTP_ASSOC_NO_STREAM);
+    CHECK(sctp_assoc_close_stream(&ends[0], 1) == SCTP_ASSOC_NO_STREAM);
     CHECK(sctp_assoc_set_reliability(&ends[0], 1, true, 0, 0) == SCTP_ASSOC_NO_STREAM);
     CHECK(sctp_assoc_buffered_amount(&ends[0], 1, &length) == SCTP_ASSOC_NO_STREAM);
     CHECK(done(sctp_assoc_open_stream(&ends[0], 1, SCTP_ASSOC_PPID_BINARY)));
@@ -106,6 +110,8 @@ static void repeated_init(void) {
     CHECK(sctp_assoc_write(&ends[0], 1, 53, bytes, 1) == SCTP_ASSOC_NO_STREAM);
     CHECK(done(sctp_assoc_open_stream(&ends[0], 1, 53)));
     CHECK(sctp_assoc_write(&ends[0], 1, 53, bytes, 1) == SCTP_ASSOC_NOT_ESTABLISHED);
+    CHECK(sctp_assoc_stop(&ends[0], 1) == SCTP_ASSOC_CANNOT_RESET);
+    CHECK(sctp_assoc_close_stream(&ends[0], 1) == SCTP_ASSOC_CANNOT_RESET);
     CHECK(done(sctp_assoc_is_closed(&ends[0], &answer)) && !answer);
     CHECK(done(sctp_assoc_is_closed(&ends[1], &answer)) && answer);
     CHECK(done(sctp_assoc_poll_transmit(&ends[0], 0, init, sizeof init, &init_length)));
@@ -163,6 +169,8 @@ static void out_of_memory(void) {
     CHECK(sctp_assoc_write(&ends[0], 2, 53, bytes, 1) == SCTP_ASSOC_FAILED);
     CHECK(sctp_assoc_read(&ends[0], 2, bytes, sizeof bytes, &length, &number) == SCTP_ASSOC_FAILED);
     CHECK(sctp_assoc_finish(&ends[0], 2) == SCTP_ASSOC_FAILED);
+    CHECK(sctp_assoc_stop(&ends[0], 2) == SCTP_ASSOC_FAILED);
+    CHECK(sctp_assoc_close_stream(&ends[0], 2) == SCTP_ASSOC_FAILED);
     CHECK(sctp_assoc_set_reliability(&ends[0], 2, true, 0, 0) == SCTP_ASSOC_FAILED);
     CHECK(sctp_assoc_buffered_amount(&ends[0], 2, &length) == SCTP_ASSOC_FAILED);
     CHECK(sctp_assoc_close(&ends[0]) == SCTP_ASSOC_FAILED);

@@ -1,5 +1,6 @@
 /* usrsctp over UDP (RFC 6951), beside examples/echo.c: a server that echoes, or a client that sends COUNT messages of 1
- * to 8,192 bytes, looks at what comes back and shuts the association down. LOSS of 1,000 datagrams are lost, each way.
+ * to 8,192 bytes, looks at what comes back, resets the stream and shuts the association down. The server resets its half
+ * of a stream once the peer reset the other one (RFC 8831 section 6.7). LOSS of 1,000 datagrams are lost, each way.
  *
  *   usrsctp_echo server PORT LOSS
  *   usrsctp_echo client PORT LOSS COUNT     to PORT at 127.0.0.1
@@ -36,6 +37,7 @@ static char link_name; /* its address names the link to usrsctp */
 static int udp, loss;
 static struct sockaddr_in peer;
 static bool is_client, is_up, is_over;
+static bool peer_half_is_reset, own_half_is_reset, reset_is_due; /* of STREAM */
 static unsigned long count, sent, echoed;
 static struct message *waiting, **waiting_end = &waiting;
 static uint8_t coming[MAX_MESSAGE];
@@ -93,6 +95,14 @@ static void on_message(uint16_t stream) {
     waiting_end = &back->next;
 }
 
+static void on_reset(uint16_t flags) {
+    if (flags & (SCTP_STREAM_RESET_DENIED | SCTP_STREAM_RESET_FAILED))
+        stop("a reset failed");
+    peer_half_is_reset |= (flags & SCTP_STREAM_RESET_INCOMING_SSN) != 0;
+    own_half_is_reset |= (flags & SCTP_STREAM_RESET_OUTGOING_SSN) != 0;
+    reset_is_due |= !is_client && (flags & SCTP_STREAM_RESET_INCOMING_SSN);
+}
+
 static int on_receive(struct socket *socket, union sctp_sockstore from, void *data, size_t length,
                       struct sctp_rcvinfo info, int flags, void *none) {
     (void)socket, (void)from, (void)none;
@@ -103,6 +113,8 @@ static int on_receive(struct socket *socket, union sctp_sockstore from, void *da
         if (told->sn_header.sn_type == SCTP_ASSOC_CHANGE) {
             is_up = told->sn_assoc_change.sac_state == SCTP_COMM_UP;
             is_over = !is_up;
+        } else if (told->sn_header.sn_type == SCTP_STREAM_RESET_EVENT) {
+            on_reset(told->sn_strreset_event.strreset_flags);
         }
     } else {
         if (came + length > sizeof coming)
@@ -121,8 +133,12 @@ static int on_receive(struct socket *socket, union sctp_sockstore from, void *da
 static struct socket *new_socket(void) {
     struct socket *made = usrsctp_socket(AF_CONN, SOCK_STREAM, IPPROTO_SCTP, on_receive, NULL, 0, NULL);
     struct sctp_event change = {.se_assoc_id = SCTP_ALL_ASSOC, .se_on = 1, .se_type = SCTP_ASSOC_CHANGE};
+    struct sctp_event reset = {.se_assoc_id = SCTP_ALL_ASSOC, .se_on = 1, .se_type = SCTP_STREAM_RESET_EVENT};
+    struct sctp_assoc_value resets = {.assoc_id = SCTP_ALL_ASSOC, .assoc_value = SCTP_ENABLE_RESET_STREAM_REQ};
     struct sockaddr_conn own = {.sconn_family = AF_CONN, .sconn_port = htons(PORT), .sconn_addr = &link_name};
     if (!made || usrsctp_setsockopt(made, IPPROTO_SCTP, SCTP_EVENT, &change, sizeof change) < 0 ||
+        usrsctp_setsockopt(made, IPPROTO_SCTP, SCTP_EVENT, &reset, sizeof reset) < 0 ||
+        usrsctp_setsockopt(made, IPPROTO_SCTP, SCTP_ENABLE_STREAM_RESET, &resets, sizeof resets) < 0 ||
         usrsctp_bind(made, (struct sockaddr *)&own, sizeof own) < 0)
         stop("usrsctp_socket");
     usrsctp_set_non_blocking(made, 1);
@@ -152,6 +168,18 @@ static void send_what_waits(struct socket *socket) {
             waiting_end = &waiting;
         free(done);
     }
+}
+
+/* Asks for a reset of the own half of the stream. Where an earlier request is open it stays due. */
+static void reset_stream(struct socket *socket) {
+    _Alignas(struct sctp_reset_streams) uint8_t room[sizeof(struct sctp_reset_streams) + sizeof(uint16_t)] = {0};
+    struct sctp_reset_streams *which = (struct sctp_reset_streams *)room;
+    which->srs_flags = SCTP_STREAM_RESET_OUTGOING;
+    which->srs_number_streams = 1;
+    which->srs_stream_list[0] = STREAM;
+    reset_is_due = usrsctp_setsockopt(socket, IPPROTO_SCTP, SCTP_RESET_STREAMS, which, sizeof room) < 0;
+    if (reset_is_due && errno != EALREADY && errno != EAGAIN)
+        stop("usrsctp_setsockopt");
 }
 
 /* Hands in what came within some milliseconds, and the time that passed. */
@@ -185,6 +213,8 @@ static void serve(void) {
             usrsctp_set_non_blocking(accepted, 1);
         if (accepted)
             send_what_waits(accepted);
+        if (accepted && reset_is_due && !waiting)
+            reset_stream(accepted);
     }
 }
 
@@ -198,11 +228,16 @@ static int be_client(void) {
         if (is_up)
             send_what_waits(socket);
     }
+    for (reset_is_due = true; !(peer_half_is_reset && own_half_is_reset) && !is_over; go_on())
+        if (reset_is_due)
+            reset_stream(socket);
+    bool is_reset = peer_half_is_reset && own_half_is_reset;
     usrsctp_shutdown(socket, SHUT_WR);
     for (int i = 0; i < 100 && !is_over; i++)
         go_on();
-    printf("usrsctp: %lu messages came back%s\n", echoed, is_over ? ", and the association is over" : "");
-    return echoed == count ? 0 : 1;
+    printf("usrsctp: %lu messages came back%s%s\n", echoed, is_reset ? ", the stream ended at both sides" : "",
+           is_over ? ", and the association is over" : "");
+    return echoed == count && is_reset ? 0 : 1;
 }
 
 int main(int argc, char **argv) {

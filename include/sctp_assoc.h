@@ -9,7 +9,7 @@
  *   1. if sctp_assoc_poll_timeout gives a moment that isn't after now: sctp_assoc_handle_timeout;
  *   2. if a datagram came: sctp_assoc_handle_datagram;
  *   3. sctp_assoc_poll_event until it answers SCTP_ASSOC_NOTHING; at SCTP_ASSOC_EVENT_READABLE sctp_assoc_read until it
- *      does so too;
+ *      does so too, or the stream is gone;
  *   4. sctp_assoc_poll_transmit until it answers SCTP_ASSOC_NOTHING, and send each datagram; do so also after each
  *      datagram that was handed in and after each write, since no timer runs for what waits to go out; where it may
  *      give messages up (sctp_assoc_set_reliability), poll for events behind it, too;
@@ -70,15 +70,18 @@ typedef uint32_t sctp_assoc_code;
 /* The buffer is too short. What is next stays, and `length` says how long it is, or `count` how many there are. */
 #define SCTP_ASSOC_NO_ROOM 4
 
-/* Refusals. Nothing changed. */
+/* Refusals. Nothing changed. A stream that SCTP_ASSOC_RESET_PENDING is about can be opened and written again once
+ * SCTP_ASSOC_EVENT_FINISHED and SCTP_ASSOC_EVENT_RESET_COMPLETE told its end. */
 #define SCTP_ASSOC_BAD_PAYLOAD_SIZE 6       /* max_payload_size isn't in 1 to 65,519 */
 #define SCTP_ASSOC_BAD_INITIAL_TSN 7        /* the initial TSN is 0 */
 #define SCTP_ASSOC_BAD_TOKEN 8              /* a token has a tag 0, a number of streams 0 or a window below 1500 */
 #define SCTP_ASSOC_FAILED 10                /* an earlier call found no memory in its middle; the association is over */
 #define SCTP_ASSOC_STREAM_EXISTS 11         /* this side or the peer opened the stream already */
+#define SCTP_ASSOC_RESET_PENDING 12         /* a reset of the stream is open or failed, or its rest is to be read */
 #define SCTP_ASSOC_NO_STREAM_LEFT 13        /* 2^64 streams were opened; none can be any more */
 #define SCTP_ASSOC_NO_STREAM 14             /* there is no such stream */
 #define SCTP_ASSOC_NOT_ESTABLISHED 16       /* messages are written in Established alone (RFC 4960 section 4) */
+#define SCTP_ASSOC_CANNOT_RESET 17          /* the reset of a stream is asked for in Established alone */
 #define SCTP_ASSOC_STREAM_CLOSED 26         /* this half of the stream is closed */
 #define SCTP_ASSOC_MESSAGE_TOO_LONG 27      /* the message is longer than max_send_message_size */
 #define SCTP_ASSOC_EMPTY_MESSAGE 28         /* a message has one byte at least */
@@ -196,9 +199,9 @@ sctp_assoc_code sctp_assoc_handle_timeout(sctp_assoc *slot, uint64_t now);
 #define SCTP_ASSOC_EVENT_BUFFERED_LOW 8         /* the buffered amount of `stream` fell to its low mark or below, by a
                                                  * datagram or by what sctp_assoc_poll_transmit gave up */
 #define SCTP_ASSOC_EVENT_BUFFERED_HIGH 9        /* a write took it to the high mark or above */
-#define SCTP_ASSOC_EVENT_FINISHED 10            /* not told so far: the peer ended its half of `stream` */
-#define SCTP_ASSOC_EVENT_RESET_COMPLETE 11      /* not told so far: the reset of `stream` ended in success */
-#define SCTP_ASSOC_EVENT_RESET_FAILED 12        /* not told so far: the reset of `stream` failed */
+#define SCTP_ASSOC_EVENT_FINISHED 10            /* the peer ended its half of `stream`, and all before that was read */
+#define SCTP_ASSOC_EVENT_RESET_COMPLETE 11      /* both halves of `stream` are reset: it can be opened anew */
+#define SCTP_ASSOC_EVENT_RESET_FAILED 12        /* the own half of `stream` wasn't reset; `reason` */
 #define SCTP_ASSOC_EVENT_OTHER 13               /* not told so far: an event that this header has no name for */
 
 #define SCTP_ASSOC_REASON_NONE 0
@@ -207,6 +210,8 @@ sctp_assoc_code sctp_assoc_handle_timeout(sctp_assoc *slot, uint64_t now);
 #define SCTP_ASSOC_REASON_CLOSED 3              /* of LOST: sctp_assoc_close, an ABORT or another fault of the peer */
 #define SCTP_ASSOC_REASON_BUFFER_EXHAUSTED 4    /* of LOST: the receive buffer is full of what can never be read */
 #define SCTP_ASSOC_REASON_OTHER 5               /* not told so far */
+#define SCTP_ASSOC_REASON_RESET_DENIED 6        /* of RESET_FAILED: the peer denied it (RFC 6525 section 4.4) */
+#define SCTP_ASSOC_REASON_RESET_FAILED 7        /* of RESET_FAILED: the peer reported an error, or didn't answer */
 
 /* Messages and bytes of a stream under the payload types of WebRTC application data (51, 53, 56, 57) alone. A number
  * that reaches UINT64_MAX stays there. */
@@ -273,7 +278,7 @@ sctp_assoc_code sctp_assoc_rto(sctp_assoc *slot, uint64_t *ms);
 
 /* Makes a stream on this side, whose messages have this payload protocol identifier where a write names none. Nothing
  * is sent: the peer sees the stream by its first message. Codes: DONE, EMPTY_SLOT, FAILED, STREAM_EXISTS,
- * NO_STREAM_LEFT, NO_MEMORY (nothing changed). */
+ * RESET_PENDING, NO_STREAM_LEFT, NO_MEMORY (nothing changed). */
 sctp_assoc_code sctp_assoc_open_stream(sctp_assoc *slot, uint16_t stream, uint32_t payload_type);
 
 /* Takes out the identifier of the oldest stream that the peer opened and that wasn't accepted yet. It needs no
@@ -281,19 +286,32 @@ sctp_assoc_code sctp_assoc_open_stream(sctp_assoc *slot, uint16_t stream, uint32
 sctp_assoc_code sctp_assoc_accept_stream(sctp_assoc *slot, uint16_t *stream);
 
 /* Accepts one message, which goes out with sctp_assoc_poll_transmit as the windows allow. Codes: DONE, EMPTY_SLOT,
- * FAILED, NO_STREAM, STREAM_CLOSED, NOT_ESTABLISHED, EMPTY_MESSAGE, MESSAGE_TOO_LONG, NO_MEMORY (nothing changed). */
+ * FAILED, NO_STREAM, STREAM_CLOSED, NOT_ESTABLISHED, RESET_PENDING, EMPTY_MESSAGE, MESSAGE_TOO_LONG, NO_MEMORY
+ * (nothing changed). */
 sctp_assoc_code sctp_assoc_write(sctp_assoc *slot, uint16_t stream, uint32_t payload_type, const uint8_t *message,
                                  size_t length);
 
 /* Copies the next message of a stream, whole, to the front of the buffer, and writes its length and its payload
- * protocol identifier. At NO_ROOM the message stays, and `length` says how long it is. Codes: DONE, EMPTY_SLOT,
- * NOTHING, NO_ROOM, FAILED, NO_STREAM, STREAM_CLOSED, NO_MEMORY (the message stays, or the association has failed). */
+ * protocol identifier. At NO_ROOM the message stays, and `length` says how long it is. Where the peer ended its half,
+ * the stream may end with its last message: then there is NO_STREAM behind it. Codes: DONE, EMPTY_SLOT, NOTHING,
+ * NO_ROOM, FAILED, NO_STREAM, STREAM_CLOSED, NO_MEMORY (the message stays, or the association has failed). */
 sctp_assoc_code sctp_assoc_read(sctp_assoc *slot, uint16_t stream, uint8_t *buffer, size_t room, size_t *length,
                                 uint32_t *payload_type);
 
 /* Closes the write half of a stream. What was accepted goes out as before; the peer isn't told. Codes: DONE,
  * EMPTY_SLOT, FAILED, NO_STREAM. */
 sctp_assoc_code sctp_assoc_finish(sctp_assoc *slot, uint16_t stream);
+
+/* Closes the read half of a stream and asks for a reset of it (RFC 6525, RFC 8831 section 6.7). What was accepted goes
+ * out first; then the peer is asked to reset its half, too. Nothing of the stream can be read or written any more, and
+ * a message that didn't fit a buffer is dropped. Its end is told by SCTP_ASSOC_EVENT_STREAM_ENDED, _FINISHED and behind
+ * that _RESET_COMPLETE, at the peer, too. Where the read half is closed already, nothing changes. Codes: DONE,
+ * EMPTY_SLOT, FAILED, NO_STREAM, CANNOT_RESET, NO_MEMORY (the association has failed). */
+sctp_assoc_code sctp_assoc_stop(sctp_assoc *slot, uint16_t stream);
+
+/* Closes both halves of a stream, first as sctp_assoc_finish and then as sctp_assoc_stop does. Codes: those of
+ * sctp_assoc_stop. */
+sctp_assoc_code sctp_assoc_close_stream(sctp_assoc *slot, uint16_t stream);
 
 /* How long a message is sent again (RFC 3758 section 4.1); any other number is SCTP_ASSOC_RELIABLE. */
 #define SCTP_ASSOC_RELIABLE 0 /* until it is acknowledged */

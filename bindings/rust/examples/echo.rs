@@ -1,9 +1,9 @@
 //! Messages that come back, over UDP (RFC 6951): a server that echoes, and a client that sends COUNT messages of 1 to
-//! 8,192 bytes and looks at what comes back.
+//! 8,192 bytes, looks at what comes back, and then closes the stream, which ends at both sides.
 //!
 //!     cargo run --example echo -- server 9899              serves one client at a time: the one whose INIT came last
 //!     cargo run --example echo -- client 127.0.0.1:9899 100
-use sctp_assoc::{Association, Config, Event, Identity, PayloadType};
+use sctp_assoc::{Association, Config, Event, Identity, PayloadType, Stream};
 use std::error::Error;
 use std::fs::File;
 use std::io::{ErrorKind, Read};
@@ -29,6 +29,7 @@ struct Client {
     count: usize,
     sent: usize,
     echoed: usize,
+    is_reset: bool,
 }
 
 fn identity() -> Result<Identity> {
@@ -47,7 +48,27 @@ fn message(number: usize) -> Vec<u8> {
     (number..number + length).map(|byte| byte as u8).collect()
 }
 
+/// The next message. A stream that ended is read no more.
+fn read(stream: &mut Stream<'_>) -> Result<Option<(PayloadType, Vec<u8>)>> {
+    match stream.read_vec() {
+        Err(sctp_assoc::Error::NoStream) => Ok(None),
+        answer => Ok(answer?),
+    }
+}
+
+/// A message goes back, unless the stream has ended meanwhile.
+fn send_back(stream: &mut Stream<'_>, payload_type: PayloadType, bytes: &[u8]) -> Result<()> {
+    match stream.write_as(payload_type, bytes) {
+        Err(sctp_assoc::Error::ResetPending | sctp_assoc::Error::NoStream) => Ok(()),
+        answer => Ok(answer?),
+    }
+}
+
 impl Client {
+    fn has_all(&self) -> bool {
+        self.echoed == self.count
+    }
+
     fn send_more(&mut self, association: &mut Association) -> Result<()> {
         while self.sent < self.count.min(self.echoed + ON_THE_WAY) {
             association.stream(STREAM).write(&message(self.sent))?;
@@ -59,7 +80,7 @@ impl Client {
 
 impl End {
     fn run(&mut self) -> Result<()> {
-        while self.client.as_ref().map_or(true, |client| client.echoed < client.count) {
+        while self.client.as_ref().map_or(true, |client| client.count > 0 && !client.is_reset) {
             self.send_all()?;
             self.wait()?;
             self.take_events()?;
@@ -113,7 +134,10 @@ impl End {
                     self.association.open_stream(STREAM, PayloadType::Binary)?;
                     client.send_more(&mut self.association)?;
                 }
+                (Event::Readable { .. }, Some(client)) if client.has_all() => {}
                 (Event::Readable { stream }, _) => self.read_all(stream)?,
+                (Event::ResetComplete { .. }, Some(client)) => client.is_reset = true,
+                (Event::ResetFailed { .. }, Some(_)) => return Err(format!("no end came: {event:?}").into()),
                 (Event::Lost { .. } | Event::HandshakeFailed { .. }, Some(_)) => {
                     return Err(format!("the association ended: {event:?}").into());
                 }
@@ -124,17 +148,18 @@ impl End {
         Ok(())
     }
 
-    /// A server sends each message back; a client looks at it.
+    /// A server sends each message back; a client looks at it, and closes the stream behind the last one.
     fn read_all(&mut self, id: u16) -> Result<()> {
         let mut stream = self.association.stream(id);
-        while let Some((payload_type, bytes)) = stream.read_vec()? {
+        while let Some((payload_type, bytes)) = read(&mut stream)? {
             match &mut self.client {
-                None => stream.write_as(payload_type, &bytes)?,
+                None => send_back(&mut stream, payload_type, &bytes)?,
                 Some(client) if bytes == message(client.echoed) => client.echoed += 1,
                 Some(_) => return Err("another message came back".into()),
             }
         }
         match &mut self.client {
+            Some(client) if client.has_all() => Ok(stream.close()?),
             Some(client) => client.send_more(&mut self.association),
             None => Ok(()),
         }
@@ -153,13 +178,13 @@ fn main() -> Result<()> {
             udp: UdpSocket::bind("0.0.0.0:0")?,
             peer: Some(peer.parse()?),
             association: Association::client(&Config::default(), &identity()?, Instant::now())?,
-            client: Some(Client { count: count.parse()?, sent: 0, echoed: 0 }),
+            client: Some(Client { count: count.parse()?, sent: 0, echoed: 0, is_reset: false }),
         },
         _ => return Err("usage: echo server PORT | echo client ADDRESS:PORT COUNT".into()),
     };
     end.run()?;
     if let Some(client) = end.client {
-        println!("{} messages came back", client.echoed);
+        println!("{} messages came back, and the stream ended at both sides", client.echoed);
     }
     Ok(())
 }

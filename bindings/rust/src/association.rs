@@ -248,7 +248,7 @@ impl Association {
     /// Makes a stream on this side. What is written on it carries this payload type where a write names none. Nothing
     /// is sent for it: the peer sees the stream by its first message.
     ///
-    /// Errors: `Failed`, `StreamExists` (also where the peer opened it), `NoStreamLeft`, `NoMemory`.
+    /// Errors: `Failed`, `StreamExists` (also where the peer opened it), `ResetPending`, `NoStreamLeft`, `NoMemory`.
     pub fn open_stream(&mut self, id: u16, payload_type: PayloadType) -> Result<Stream<'_>, Error> {
         // SAFETY: the slot holds an association that nobody else uses now.
         done(unsafe { sys::sctp_assoc_open_stream(self.slot.get(), id, payload_type.number()) })?;

@@ -23,12 +23,17 @@ pub enum Error {
     Failed,
     /// This side or the peer opened the stream already.
     StreamExists,
+    /// A reset of the stream is open or failed, or its rest is to be read. Once its end was told
+    /// ([`Event::ResetComplete`](crate::Event::ResetComplete)) it can be opened and written again.
+    ResetPending,
     /// 2^64 streams were opened, and none can be any more.
     NoStreamLeft,
     /// There is no such stream.
     NoStream,
     /// Messages are written while the association is established, and at no other time.
     NotEstablished,
+    /// The reset of a stream is asked for while the association is established, and at no other time.
+    CannotReset,
     /// This half of the stream is closed.
     StreamClosed,
     /// The message is longer than `max_send_message_size`.
@@ -50,9 +55,11 @@ impl Error {
             8 => Error::BadToken,
             10 => Error::Failed,
             11 => Error::StreamExists,
+            12 => Error::ResetPending,
             13 => Error::NoStreamLeft,
             14 => Error::NoStream,
             16 => Error::NotEstablished,
+            17 => Error::CannotReset,
             26 => Error::StreamClosed,
             27 => Error::MessageTooLong,
             28 => Error::EmptyMessage,
@@ -71,9 +78,11 @@ impl fmt::Display for Error {
             Error::BadToken => f.write_str("a token is refused"),
             Error::Failed => f.write_str("an earlier call failed the association"),
             Error::StreamExists => f.write_str("the stream exists already"),
+            Error::ResetPending => f.write_str("a reset of the stream is open"),
             Error::NoStreamLeft => f.write_str("no stream can be opened any more"),
             Error::NoStream => f.write_str("there is no such stream"),
             Error::NotEstablished => f.write_str("the association is not established"),
+            Error::CannotReset => f.write_str("no stream is reset outside an established association"),
             Error::StreamClosed => f.write_str("this half of the stream is closed"),
             Error::MessageTooLong => f.write_str("the message is too long"),
             Error::EmptyMessage => f.write_str("the message is empty"),

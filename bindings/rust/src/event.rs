@@ -46,6 +46,23 @@ pub enum Event {
         /// The stream's identifier.
         stream: u16,
     },
+    /// The peer ended its half of a stream, and all that it sent before was read.
+    Finished {
+        /// The stream's identifier.
+        stream: u16,
+    },
+    /// Both halves of a stream are reset: it can be opened anew.
+    ResetComplete {
+        /// The stream's identifier.
+        stream: u16,
+    },
+    /// The own half of a stream was not reset.
+    ResetFailed {
+        /// The stream's identifier.
+        stream: u16,
+        /// Why.
+        reason: Reason,
+    },
     /// An event that has no name here, by its number in `sctp_assoc.h`; none of these is told so far.
     Other {
         /// The number of its kind.
@@ -55,7 +72,7 @@ pub enum Event {
     },
 }
 
-/// Why an association ended, or never began.
+/// Why an association ended or never began, or why the reset of a stream failed.
 #[derive(Clone, Copy, Debug, PartialEq, Eq)]
 #[non_exhaustive]
 pub enum Reason {
@@ -67,6 +84,10 @@ pub enum Reason {
     Closed,
     /// The receive buffer is full of what can never be read.
     BufferExhausted,
+    /// The peer denied the reset of a stream (RFC 6525 section 4.4).
+    ResetDenied,
+    /// The peer reported an error for the reset of a stream, or did not answer.
+    ResetFailed,
     /// Another reason; none of these is told so far.
     Other,
 }
@@ -98,6 +119,9 @@ impl Event {
             7 => Event::Readable { stream },
             8 => Event::BufferedAmountLow { stream },
             9 => Event::BufferedAmountHigh { stream },
+            10 => Event::Finished { stream },
+            11 => Event::ResetComplete { stream },
+            12 => Event::ResetFailed { stream, reason: Reason::of(told.reason) },
             kind => Event::Other { kind, stream },
         }
     }
@@ -110,6 +134,8 @@ impl Reason {
             2 => Reason::NoCookieAck,
             3 => Reason::Closed,
             4 => Reason::BufferExhausted,
+            6 => Reason::ResetDenied,
+            7 => Reason::ResetFailed,
             _ => Reason::Other,
         }
     }

@@ -27,7 +27,8 @@ impl Stream<'_> {
     /// Accepts one message under the payload type that the stream was opened with. It goes out with
     /// [`poll_transmit`](Association::poll_transmit), as the windows allow.
     ///
-    /// Errors: `Failed`, `NoStream`, `StreamClosed`, `NotEstablished`, `EmptyMessage`, `MessageTooLong`, `NoMemory`.
+    /// Errors: `Failed`, `NoStream`, `StreamClosed`, `NotEstablished`, `ResetPending`, `EmptyMessage`,
+    /// `MessageTooLong`, `NoMemory`.
     pub fn write(&mut self, message: &[u8]) -> Result<(), Error> {
         self.write_raw(sys::PPID_OF_STREAM, message)
     }
@@ -43,7 +44,8 @@ impl Stream<'_> {
         done(unsafe { sys::sctp_assoc_write(slot, self.id, payload_type, message.as_ptr(), message.len()) })
     }
 
-    /// Copies the next message to the front of the buffer. None where none is ready.
+    /// Copies the next message to the front of the buffer. None where none is ready. Where the peer ended its half, the
+    /// stream may end with its last message: then there is `NoStream` behind it.
     ///
     /// Errors: `NoRoom` where the buffer is shorter than the message, which stays; `Failed`, `NoStream`,
     /// `StreamClosed`; `NoMemory`, where the message stays or the association failed.
@@ -80,6 +82,26 @@ impl Stream<'_> {
     pub fn finish(&mut self) -> Result<(), Error> {
         // SAFETY: the slot holds an association that nobody else uses now.
         done(unsafe { sys::sctp_assoc_finish(self.association.slot.get(), self.id) })
+    }
+
+    /// Closes the read half and asks for a reset of the stream (RFC 6525, RFC 8831 section 6.7). What was accepted goes
+    /// out first; then the peer is asked to reset its half, too. Nothing can be read or written any more, and a message
+    /// that did not fit a buffer is dropped. [`Event::StreamEnded`](crate::Event::StreamEnded),
+    /// [`Event::Finished`](crate::Event::Finished) and [`Event::ResetComplete`](crate::Event::ResetComplete) tell the
+    /// end, at the peer, too. Where the read half is closed already, nothing changes.
+    ///
+    /// Errors: `Failed`, `NoStream`, `CannotReset`; `NoMemory`, where the association failed.
+    pub fn stop(&mut self) -> Result<(), Error> {
+        // SAFETY: the slot holds an association that nobody else uses now.
+        done(unsafe { sys::sctp_assoc_stop(self.association.slot.get(), self.id) })
+    }
+
+    /// Closes both halves: first as [`finish`](Stream::finish), and then as [`stop`](Stream::stop) does.
+    ///
+    /// Errors: those of `stop`.
+    pub fn close(&mut self) -> Result<(), Error> {
+        // SAFETY: the slot holds an association that nobody else uses now.
+        done(unsafe { sys::sctp_assoc_close_stream(self.association.slot.get(), self.id) })
     }
 
     /// Sets how messages are sent that are written from now on: in order or not, and how long they are sent again. A

@@ -153,6 +153,8 @@ extern "C" {
         payload_type: *mut u32,
     ) -> u32;
     pub(crate) fn sctp_assoc_finish(slot: *mut Slot, stream: u16) -> u32;
+    pub(crate) fn sctp_assoc_stop(slot: *mut Slot, stream: u16) -> u32;
+    pub(crate) fn sctp_assoc_close_stream(slot: *mut Slot, stream: u16) -> u32;
     pub(crate) fn sctp_assoc_set_reliability(
         slot: *mut Slot,
         stream: u16,

@@ -125,6 +125,7 @@ fn handshakes() -> Result<(), Error> {
     let now = link.now;
     let [client, server] = &mut link.ends;
     assert_eq!(client.open_stream(1, PayloadType::Binary)?.write(b"x"), Err(Error::NotEstablished));
+    assert_eq!(client.stream(1).stop(), Err(Error::CannotReset));
     assert!(!client.is_closed() && server.is_closed());
     let mut buffer = [0; 1500];
     let init = client.poll_transmit(now, &mut buffer)?.expect("an INIT is due").to_vec();

@@ -1,3 +1,4 @@
+mod DriversLeft
 mod AsBox
 mod Listings
 mod Refusals

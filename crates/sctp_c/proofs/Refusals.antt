@@ -211,6 +211,13 @@ pub when_memory : {T : Type 0} (answer : Result T Error) (P : Type 0)
 when_memory (Ok answer) P so same = absurd (omega (arith, same))
 when_memory (Err e) P so same = so (ap Err (memory_code e same))
 
+-- a call that is refused by a rule changes nothing
+pub when_unchanged : {T : Type 0} (answer : Result T Error) (refusal : Option Error) (P : Type 0)
+    → RefusesOrLacksMemory answer refusal → IfSome refusal (λ e. P) → code_of answer ≢ 0 → code_of answer ≢ 2 → P
+when_unchanged (Ok answer) refusal P same holds undone lacks = absurd (undone refl)
+when_unchanged (Err e) None P same holds undone lacks = absurd (lacks (ap refusal_code same))
+when_unchanged (Err e) (Some f) P same holds undone lacks = holds
+
 pub when_failed : {T : Type 0} (answer : Result T Error) (P : Type 0)
     → (answer ≡ Err errors.ErrAssociationFailed → P) → code_of answer ≡ 10 → P
 when_failed (Ok answer) P so same = absurd (omega (arith, same))

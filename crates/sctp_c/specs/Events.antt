@@ -3,6 +3,8 @@ use Rattle.std.specs.Prelude.{◌≡◌, ℕ, Option, Some, None}
 use Rattle.sctp_wire_types.specs.declared.error.Error.TheVariants as errors
 use Rattle.sctp_wire_types.specs.declared.event.StreamEvent.{StreamEvent}
 use Rattle.sctp_wire_types.specs.declared.event.StreamEvent.TheVariants as happenings
+use Rattle.sctp_wire_types.specs.declared.event.StreamResetError.{StreamResetError}
+use Rattle.sctp_wire_types.specs.declared.event.StreamResetError.TheVariants as failures
 use Rattle.sctp_streams.specs.declared.event.AssociationError.{AssociationError}
 use Rattle.sctp_streams.specs.declared.event.AssociationError.TheVariants as reasons
 use Rattle.sctp_streams.specs.declared.event.Event.{Event}
@@ -17,6 +19,11 @@ reason_number (reasons.HandshakeFailed errors.ErrHandshakeCookieEcho) = 2
 reason_number reasons.AssociationClosed = 3
 reason_number reasons.ReceiveBufferExhausted = 4
 reason_number reason = 5
+
+-- how the reset of a stream failed
+abbrev pub failure_number : StreamResetError → ℕ
+failure_number failures.Denied = 6
+failure_number failures.Failed = 7
 
 abbrev pub no_counters : Counters
 no_counters = record { messages_sent = 0; bytes_sent = 0; messages_received = 0; bytes_received = 0 }
@@ -40,7 +47,7 @@ happening (happenings.BufferedAmountLow id) = event_with 8 0 id
 happening (happenings.BufferedAmountHigh id) = event_with 9 0 id
 happening (happenings.Finished id) = event_with 10 0 id
 happening (happenings.ResetComplete id) = event_with 11 0 id
-happening (happenings.ResetFailed id reason) = event_with 12 5 id
+happening (happenings.ResetFailed id reason) = event_with 12 (failure_number reason) id
 happening other = event_with 13 0 0
 
 abbrev pub told_of : Event → Told

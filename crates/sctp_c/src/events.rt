@@ -3,12 +3,13 @@ ghost use Rattle.std.specs.Prelude.{◌≡◌, ◌≢◌, None};
 ghost use Rattle.sctp_streams.specs.declared.event.Event.TheVariants as events;
 ghost use Rattle.sctp_assoc.specs.Calls.{event_polled};
 ghost use Rattle.sctp_driver.specs.Driving.{with_association};
-ghost use Rattle.sctp_c.specs.Events.{counters_of, event_with, happening, reason_number, told_of, Tells};
+ghost use Rattle.sctp_c.specs.Events.{counters_of, event_with, failure_number, happening, reason_number};
+ghost use Rattle.sctp_c.specs.Events.{told_of, Tells};
 ghost use Rattle.sctp_c.specs.Slots.{OnAny};
 
 use crate::codes::{DONE, EMPTY_SLOT, NOTHING, refusal_code};
 use crate::slot::Slot;
-use sctp_assoc::{AssociationError, DataChannelStats};
+use sctp_assoc::{AssociationError, DataChannelStats, StreamResetError};
 use sctp_driver::{Error, Event, StreamEvent};
 use std::alloc::Global;
 
@@ -70,6 +71,10 @@ const BUFFER_EXHAUSTED: u32 = 4;
 
 const OTHER_REASON: u32 = 5;
 
+const RESET_DENIED: u32 = 6;
+
+const RESET_FAILED_OTHERWISE: u32 = 7;
+
 fn reason_of(reason: AssociationError) -> u32
     ensures { result ≡ reason_number reason }
 {
@@ -79,6 +84,15 @@ fn reason_of(reason: AssociationError) -> u32
         AssociationError::AssociationClosed => CLOSED,
         AssociationError::ReceiveBufferExhausted => BUFFER_EXHAUSTED,
         _ => OTHER_REASON,
+    }
+}
+
+fn failure_of(failure: StreamResetError) -> u32
+    ensures { result ≡ failure_number failure }
+{
+    match failure {
+        StreamResetError::Denied => RESET_DENIED,
+        StreamResetError::Failed => RESET_FAILED_OTHERWISE,
     }
 }
 
@@ -131,7 +145,7 @@ fn stream_event(event: StreamEvent) -> Told
         StreamEvent::BufferedAmountHigh { id } => event_of(BUFFERED_HIGH, NO_REASON, id),
         StreamEvent::Finished { id } => event_of(FINISHED, NO_REASON, id),
         StreamEvent::ResetComplete { id } => event_of(RESET_COMPLETE, NO_REASON, id),
-        StreamEvent::ResetFailed { id, .. } => event_of(RESET_FAILED, OTHER_REASON, id),
+        StreamEvent::ResetFailed { id, reason } => event_of(RESET_FAILED, failure_of(reason), id),
         _ => event_of(OTHER, NO_REASON, 0),
     }
 }

@@ -4,9 +4,10 @@ ghost use Rattle.sctp_wire_types.specs.Ids.{identifier_of};
 ghost use Rattle.sctp_streams.specs.declared.setting.Setting.TheVariants as settings;
 ghost use Rattle.sctp_streams.specs.Stream.{params_of};
 ghost use Rattle.sctp_assoc.specs.Calls.{accepted_stream, adjusted, open_refusal, opened, refusal_to_write};
-ghost use Rattle.sctp_assoc.specs.Calls.{stream_refusal, written};
-ghost use Rattle.sctp_driver.specs.Driving.{with_association};
+ghost use Rattle.sctp_assoc.specs.Calls.{stopped, stream_refusal, written};
+ghost use Rattle.sctp_driver.specs.Driving.{RunsOutOfMemory, with_association};
 ghost use Rattle.sctp_driver.specs.Messages.{Reads, with_message};
+ghost use Rattle.sctp_driver.specs.Streams.{refusal_to_stop, stream_closed, with_stopped};
 ghost use Rattle.sctp_c.specs.Codes.{answer_in, code_of, code_with, found_by};
 ghost use Rattle.sctp_c.specs.Codes.{payload_type_by, read_by, read_code, reliability_by};
 ghost use Rattle.sctp_c.specs.Slots.{OnAny, OnHeld, RefusesBy, RefusesOrLacksMemoryBy};
@@ -173,6 +174,44 @@ pub extern "C" fn sctp_assoc_finish(slot: &mut Slot, alloc: Global, stream: u16)
         return EMPTY_SLOT;
     };
     let answer = driver.finish(stream);
+    slot.put(driver);
+    code_of(answer)
+}
+
+/// Closes the read half of a stream, and asks for a reset of it.
+#[unsafe(no_mangle)]
+#[tactic(auto, using(crate::proofs::Refusals::of_refusal_or_memory, crate::proofs::Refusals::when_done, crate::proofs::Refusals::when_memory, crate::proofs::Refusals::when_unchanged))]
+pub extern "C" fn sctp_assoc_stop(slot: &mut Slot, alloc: Global, stream: u16) -> u32
+    ensures code { RefusesOrLacksMemoryBy (λ d. refusal_to_stop d.association stream)
+        slot.old.handle.driver result }
+    ensures done { result ≡ 0 → OnHeld slot.old.handle.driver slot.new.handle.driver
+        (λ d e. e ≡ with_stopped d stream (stopped d.association stream)) }
+    ensures left { result ≢ 0 → result ≢ 2 → slot.new.handle.driver ≡ slot.old.handle.driver }
+    ensures memory { result ≡ 2 → OnHeld slot.old.handle.driver slot.new.handle.driver (λ d e. RunsOutOfMemory d e) }
+{
+    let Some(mut driver) = slot.take(alloc) else {
+        return EMPTY_SLOT;
+    };
+    let answer = driver.stop(stream);
+    slot.put(driver);
+    code_of(answer)
+}
+
+/// Closes both halves of a stream.
+#[unsafe(no_mangle)]
+#[tactic(auto, using(crate::proofs::Refusals::of_refusal_or_memory, crate::proofs::Refusals::when_done, crate::proofs::Refusals::when_memory, crate::proofs::Refusals::when_unchanged))]
+pub extern "C" fn sctp_assoc_close_stream(slot: &mut Slot, alloc: Global, stream: u16) -> u32
+    ensures code { RefusesOrLacksMemoryBy (λ d. refusal_to_stop d.association stream)
+        slot.old.handle.driver result }
+    ensures done { result ≡ 0 → OnHeld slot.old.handle.driver slot.new.handle.driver
+        (λ d e. e ≡ with_stopped d stream (stream_closed d.association stream)) }
+    ensures left { result ≢ 0 → result ≢ 2 → slot.new.handle.driver ≡ slot.old.handle.driver }
+    ensures memory { result ≡ 2 → OnHeld slot.old.handle.driver slot.new.handle.driver (λ d e. RunsOutOfMemory d e) }
+{
+    let Some(mut driver) = slot.take(alloc) else {
+        return EMPTY_SLOT;
+    };
+    let answer = driver.close_stream(stream);
     slot.put(driver);
     code_of(answer)
 }

@@ -1,0 +1,152 @@
+/* The reset of a stream (RFC 6525), which a stop or a close asks for: it ends the stream at both sides, which are told,
+ * and it can be opened anew. Requests that the peer denies or does not answer, and want of memory. */
+#include "support.h"
+
+#define STREAM 7
+
+static sctp_assoc ends[2];
+static uint8_t bytes[PAYLOAD_SIZE + 28];
+static size_t length;
+static uint32_t type;
+static sctp_assoc_event event;
+
+/* Carries datagrams both ways, and lets time pass, until nothing is due any more. */
+static void settle(void) {
+    for (uint64_t now = 0; now < 10000 * MS; now += 100 * MS)
+        for (int end = 0; end < 2; end++) {
+            CHECK(done(sctp_assoc_handle_timeout(&ends[end], now)));
+            pass_on(&ends[end], &ends[!end], now);
+        }
+}
+
+static void carry(int from, uint32_t size) {
+    fill(bytes, size, size);
+    CHECK(done(sctp_assoc_write(&ends[from], STREAM, SCTP_ASSOC_PPID_BINARY, bytes, size)));
+    settle();
+}
+
+static void begin(void) {
+    sctp_assoc_config config = default_config();
+    shake_hands(ends, &config, 0);
+    CHECK(done(sctp_assoc_open_stream(&ends[0], STREAM, SCTP_ASSOC_PPID_BINARY)));
+}
+
+/* The next event of this kind at an end; all before it are passed over. */
+static bool take_event(int end, uint32_t kind) {
+    while (done(sctp_assoc_poll_event(&ends[end], &event)))
+        if (event.kind == kind)
+            return event.stream == STREAM;
+    return false;
+}
+
+/* An end is told once that the stream is over, with its last counters, and has it no more. */
+static void is_over(int end, uint64_t messages_sent, uint64_t messages_received) {
+    uint16_t ids[1];
+    size_t count;
+    unsigned ended = 0, finished = 0, reset = 0;
+    while (done(sctp_assoc_poll_event(&ends[end], &event))) {
+        ended += event.kind == SCTP_ASSOC_EVENT_STREAM_ENDED && event.stream == STREAM &&
+                 event.counters.messages_sent == messages_sent && event.counters.messages_received == messages_received;
+        finished += event.kind == SCTP_ASSOC_EVENT_FINISHED && event.stream == STREAM;
+        reset += event.kind == SCTP_ASSOC_EVENT_RESET_COMPLETE && event.stream == STREAM && finished == 1;
+    }
+    CHECK(ended == 1 && finished == 1 && reset == 1);
+    CHECK(done(sctp_assoc_stream_ids(&ends[end], ids, 1, &count)) && count == 0);
+}
+
+/* The stream is used both ways, and ends with a message that waits for a longer buffer. */
+static void ended_by(sctp_assoc_code (*call)(sctp_assoc *, uint16_t), sctp_assoc_code refused) {
+    carry(0, 10);
+    CHECK(done(sctp_assoc_read(&ends[1], STREAM, bytes, sizeof bytes, &length, &type)) && length == 10);
+    carry(1, 20);
+    CHECK(sctp_assoc_read(&ends[0], STREAM, bytes, 19, &length, &type) == SCTP_ASSOC_NO_ROOM && length == 20);
+    CHECK(done(call(&ends[0], STREAM)));
+    CHECK(done(call(&ends[0], STREAM)));
+    CHECK(sctp_assoc_read(&ends[0], STREAM, bytes, sizeof bytes, &length, &type) == SCTP_ASSOC_STREAM_CLOSED);
+    CHECK(sctp_assoc_write(&ends[0], STREAM, SCTP_ASSOC_PPID_BINARY, bytes, 1) == refused);
+    settle();
+    is_over(0, 1, 1);
+    is_over(1, 1, 1);
+    CHECK(sctp_assoc_read(&ends[1], STREAM, bytes, sizeof bytes, &length, &type) == SCTP_ASSOC_NO_STREAM);
+    CHECK(done(sctp_assoc_open_stream(&ends[0], STREAM, SCTP_ASSOC_PPID_BINARY)));
+}
+
+/* What the peer sent before the end can be read, and the end is told behind it. */
+static void read_to_the_end(void) {
+    begin();
+    carry(0, 30);
+    CHECK(done(sctp_assoc_stop(&ends[0], STREAM)));
+    settle();
+    CHECK(take_event(1, SCTP_ASSOC_EVENT_READABLE));
+    CHECK(!done(sctp_assoc_poll_event(&ends[1], &event)));
+    CHECK(sctp_assoc_write(&ends[1], STREAM, SCTP_ASSOC_PPID_BINARY, bytes, 1) == SCTP_ASSOC_RESET_PENDING);
+    CHECK(done(sctp_assoc_read(&ends[1], STREAM, bytes, sizeof bytes, &length, &type)) && length == 30);
+    is_over(1, 0, 1);
+    settle();
+    is_over(0, 1, 0);
+    free_both(ends);
+}
+
+static uint32_t checksum(const uint8_t *packet, size_t size) {
+    uint32_t sum = UINT32_MAX; /* CRC32c, with the field of the sum as 0 (RFC 4960 appendix B) */
+    for (size_t i = 0; i < size; i++) {
+        sum ^= i >= 8 && i < 12 ? 0 : packet[i];
+        for (int bit = 0; bit < 8; bit++)
+            sum = sum >> 1 ^ (sum & 1 ? 0x82f63b78 : 0);
+    }
+    return ~sum;
+}
+
+/* The response of the peer, RE-CONFIG with one parameter (RFC 6525 section 4.4), is changed into one that denies. */
+static void denied(void) {
+    uint32_t fate;
+    begin();
+    CHECK(done(sctp_assoc_stop(&ends[0], STREAM)));
+    pass_on(&ends[0], &ends[1], 0);
+    CHECK(done(sctp_assoc_poll_transmit(&ends[1], 0, bytes, sizeof bytes, &length)));
+    CHECK(length == 28 && bytes[12] == 130 && bytes[17] == 16);
+    bytes[27] = 2;
+    uint32_t sum = checksum(bytes, length);
+    for (int i = 0; i < 4; i++)
+        bytes[8 + i] = (uint8_t)(sum >> (8 * i));
+    CHECK(done(sctp_assoc_handle_datagram(&ends[0], 0, bytes, length, &fate)) && fate == SCTP_ASSOC_TAKEN);
+    CHECK(take_event(0, SCTP_ASSOC_EVENT_RESET_FAILED) && event.reason == SCTP_ASSOC_REASON_RESET_DENIED);
+    CHECK(sctp_assoc_write(&ends[0], STREAM, SCTP_ASSOC_PPID_BINARY, bytes, 1) == SCTP_ASSOC_RESET_PENDING);
+    free_both(ends);
+}
+
+static void not_answered(void) {
+    uint64_t moment = 0;
+    begin();
+    CHECK(done(sctp_assoc_stop(&ends[0], STREAM)));
+    do {
+        CHECK(done(sctp_assoc_handle_timeout(&ends[0], moment)));
+        while (done(sctp_assoc_poll_transmit(&ends[0], moment, bytes, sizeof bytes, &length)))
+            ;
+    } while (done(sctp_assoc_poll_timeout(&ends[0], &moment)));
+    CHECK(take_event(0, SCTP_ASSOC_EVENT_RESET_FAILED) && event.reason == SCTP_ASSOC_REASON_RESET_FAILED);
+    free_both(ends);
+}
+
+static void out_of_memory(void) {
+    bool answer;
+    begin();
+    refused_from = growths + 1, refused_to = UINT64_MAX;
+    CHECK(sctp_assoc_close_stream(&ends[0], STREAM) == SCTP_ASSOC_NO_MEMORY);
+    refused_from = refused_to = 0;
+    CHECK(done(sctp_assoc_is_failed(&ends[0], &answer)) && answer);
+    free_both(ends);
+}
+
+int main(void) {
+    begin();
+    ended_by(sctp_assoc_stop, SCTP_ASSOC_RESET_PENDING);
+    ended_by(sctp_assoc_close_stream, SCTP_ASSOC_STREAM_CLOSED);
+    free_both(ends);
+    read_to_the_end();
+    denied();
+    not_answered();
+    out_of_memory();
+    puts("resets: ok");
+    return 0;
+}
