@@ -5,3 +5,7 @@ pub mod PerformedBeside
 pub mod ReadBeside
 pub mod AnsweredBeside
 pub mod OthersStay
+pub mod ListsOver
+pub mod GenerationsOver
+pub mod OwnOver
+pub mod KeptOver

@@ -6,3 +6,4 @@ pub mod Answers
 pub mod Telling
 pub mod Resets
 pub mod Concerned
+pub mod Within

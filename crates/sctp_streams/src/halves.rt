@@ -6,7 +6,7 @@ ghost use Rattle.sctp_streams.specs.Stream.{params_of, without_read_half, withou
 use sctp_wire_types::{Policy, ReliabilityType};
 
 /// Which halves of a stream are open. The numbers are those of the ported crate: 1 for the read half, 2 for the write
-/// half. `Stream::finish` closes the write half; no call closes the read half so far.
+/// half. `Stream::finish` closes the write half, `Stream::stop` the read half, and `Stream::close` both.
 #[derive(Clone, Copy, Debug, PartialEq, Eq)]
 pub enum RecvSendState {
     Closed = 0,

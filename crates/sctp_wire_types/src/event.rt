@@ -1,15 +1,14 @@
 // What an application is told of its streams.
 use crate::StreamId;
 
-/// How the reset of a stream failed (RFC 6525 section 4.4). No stream is reset so far.
+/// How the reset of a stream failed (RFC 6525 section 4.4).
 #[derive(Clone, Copy, Debug, PartialEq, Eq)]
 pub enum StreamResetError {
     Denied,
     Failed,
 }
 
-/// Something that happened on a stream. So far an association tells `Opened`, `Readable`,
-/// `BufferedAmountLow` and `BufferedAmountHigh`.
+/// Something that happened on a stream. An association tells all of these but `Writable`, `Stopped` and `Available`.
 #[derive(Clone, Copy, Debug, PartialEq, Eq)]
 pub enum StreamEvent {
     /// DATA came for a stream that was not there, and made it.
