@@ -44,6 +44,7 @@ use Rattle.sctp_directions.specs.Acts.{Act, History, all_data_given}
 use Rattle.sctp_assoc.specs.Leads.{Binds, Leads, parts}
 use Rattle.sctp_reset_requests.specs.Own.{OwnView}
 use Rattle.sctp_resets.specs.Resets.{is_hidden, refusal_of}
+use Rattle.sctp_resets.specs.Within.{OwnOver, ParamOver}
 use Rattle.sctp_streams.specs.declared.setting.Setting.TheVariants as settings
 use Rattle.sctp_assoc.specs.Calls.{adjusted, holds_of, is_beginning, is_cookie_wait, is_established, read_exhausts, stopped_open}
 use Rattle.sctp_assoc.specs.Closing.{is_closed_state, is_exhausted}
@@ -51,7 +52,7 @@ use Rattle.sctp_assoc.specs.Chunks.{counted_data, deferred_where_admitted, on_ch
 use Rattle.sctp_assoc.specs.Chunks.{taken_where_admitted}
 use Rattle.sctp_assoc.specs.ResetActs.{acts_of_draining, acts_of_keeping, acts_of_kept_skips, acts_of_reconfig}
 use Rattle.sctp_assoc.specs.ResetActs.{acts_of_settling}
-use Rattle.std.specs.List.{filter, position_or_len}
+use Rattle.std.specs.List.{AllByRecursion, filter, position_or_len}
 use Rattle.sctp_wire.specs.DataPackets.{all_of, data_fits, datagrams_of}
 use Rattle.sctp_assoc.specs.Gather.{AckIsReadAgain, AreControlReadAgain, AreReadAgain, IsReadAgain, both_of}
 use Rattle.sctp_assoc.specs.Gather.{control_polled, data_polled, fast_polled, forward_chunk, is_due, late_abandoned}
@@ -379,6 +380,8 @@ pub record Polls (xs : List Act) (forwards : Bool) (a : Shown) (h : History) (b 
   -- the requests to reset streams that go out behind them: none where this side asks for nothing
   pub requests : List ParamOutgoingResetRequest
   pub quiet : AsksForNothing a.resets.own → requests ≡ []
+  -- and all of them are of streams past their span where all that this side asks for is
+  pub asked : (over : ℕ → Bool) → OwnOver over a.resets.own → AllByRecursion (ParamOver over) requests
   pub said : packets ≡ packets_given a bundles requests forwards b
   pub data_again : is_established a.state ≡ true → AreReadAgain (header_of a.handshake) bundles
   pub ack_again : is_established a.state ≡ true → AckIsReadAgain a

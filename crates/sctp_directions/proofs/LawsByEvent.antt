@@ -1,13 +1,14 @@
 -- What each event of a direction between associations leaves, and what it keeps.
 use Rattle.std.proofs.Common.{◌≡◌, ◌⊎◌, refl, sym, ap, ◌∙◌, subst, ⊎_elim, inl, inr, ℕ, zero, suc, ◌≤◌}
-use Rattle.std.proofs.Common.{arith, Bool, true, eqb, if◌then◌else◌, length, List, [], ◌∷◌, ◌++◌, Option, Some, None}
+use Rattle.std.proofs.Common.{arith, Bool, true, false, eqb, if◌then◌else◌, length, List, [], ◌∷◌, ◌++◌, Option, Some, None}
 use Rattle.std.specs.Prelude.{◌==◌, slice_get}
-use Rattle.std.proofs.lemmas.Bool.{cases_eq, cond-false, cond-true, eq-eqb, ne_eqb}
+use Rattle.std.proofs.lemmas.Bool.{cases_eq, cond-false, cond-true, eq-eqb, ne_eqb, true≢false}
 use Rattle.std.proofs.lemmas.List.{append-nil, length-append}
 use Rattle.sctp_model.specs.Messages.{Message}
 use Rattle.sctp_model.specs.Packets.{Data, Forward, mem}
 use Rattle.sctp_model.specs.Machine.{Direction, Event, Sender, acknowledged_by, forward_of, happens, put}
 use Rattle.sctp_model.specs.Invariants.{Invariant}
+use Rattle.sctp_model.specs.Safe.{IsWithin}
 use Rattle.sctp_model.proofs.PlansGrow.{at_put, off_put}
 use Rattle.sctp_model.proofs.SenderEvents.{keeps_drop, keeps_pass_over}
 use Rattle.sctp_model.proofs.OffsetsAssigned.{keeps_go_on}
@@ -18,11 +19,10 @@ use Rattle.sctp_fit.proofs.MessagesAccepted.{happens_write, kept_as_written}
 use Rattle.sctp_directions.specs.Events.{AcceptsAMessage, Assigns, Brings, BringsForward, GivesAMessage}
 use Rattle.sctp_directions.specs.Events.{IsForwardWithin, IsOfReceiving, IsOfSending, IsReceived, IsSentOn}
 use Rattle.sctp_directions.specs.Events.{MakesAForward}
-use Rattle.sctp_directions.specs.Plain.{IsPlain}
 use Rattle.sctp_directions.specs.Laws.{AbandonmentsAssignOneOffset, ClosedReceiversAreNotOpen, EventsKeepTheLimits}
-use Rattle.sctp_directions.specs.Laws.{FreshDirectionsArePlain, OnlyBeginningsAssign, OnlyForwardMadeGivesForwards}
+use Rattle.sctp_directions.specs.Laws.{FreshDirectionsAreWithin, OnlyBeginningsAssign, OnlyForwardMadeGivesForwards}
 use Rattle.sctp_directions.specs.Laws.{OnlyForwardsPassOver, OnlyReadsGiveMessages, OnlyWhatIsBroughtIsTakenIn}
-use Rattle.sctp_directions.specs.Laws.{OnlyWritesAccept, PlainEventsKeepItPlain, ReceiversEventsAreReceived}
+use Rattle.sctp_directions.specs.Laws.{OnlyWritesAccept, ReceiversEventsAreReceived}
 use Rattle.sctp_directions.specs.Laws.{SendersEventsAreSent, SendersEventsKeepTheInvariant, WritesAreAcceptedLast}
 use Rattle.sctp_directions.proofs.ReceiverCases.{close_passes, close_received, close_takes, closed, data_cases}
 use Rattle.sctp_directions.proofs.ReceiverCases.{data_passes, data_received, data_takes, forward_cases, forward_passes}
@@ -354,35 +354,18 @@ closed_receivers_are_not_open = closed
 
 -- What is kept
 
--- a direction is plain where the spans are those of a plain one
-plain_by : (w v : Direction) → v.over ≡ w.over → IsPlain w → IsPlain v
-plain_by w v e h = record { span = λ s. ap (λ (f : ℕ → Bool). f s) e ∙ h.span s }
-
-sending_plain : (w : Direction) (e : Event) → IsOfSending e → IsPlain w → IsPlain (happens w e)
-sending_plain w e at h = plain_by w (happens w e) (senders_events_are_sent w e at).0.over h
-
-receiving_plain : (w : Direction) (e : Event) → IsOfReceiving e → IsPlain w → IsPlain (happens w e)
-receiving_plain w e at h = plain_by w (happens w e) (receivers_events_are_received w e at).over h
-
-pub plain_events_keep_it_plain : PlainEventsKeepItPlain
-plain_events_keep_it_plain w (Event.Write s m) e h = sending_plain w (Event.Write s m) tt h
-plain_events_keep_it_plain w (Event.PassOver s) e h = sending_plain w (Event.PassOver s) tt h
-plain_events_keep_it_plain w (Event.Drop s i) e h = sending_plain w (Event.Drop s i) tt h
-plain_events_keep_it_plain w (Event.Begin s i any) e h = sending_plain w (Event.Begin s i any) tt h
-plain_events_keep_it_plain w Event.GoOn e h = sending_plain w Event.GoOn tt h
-plain_events_keep_it_plain w (Event.Resend o) e h = sending_plain w (Event.Resend o) tt h
-plain_events_keep_it_plain w (Event.Abandon s i) e h = sending_plain w (Event.Abandon s i) tt h
-plain_events_keep_it_plain w (Event.SackComes k) e h = sending_plain w (Event.SackComes k) tt h
-plain_events_keep_it_plain w Event.ForwardMade e h = sending_plain w Event.ForwardMade tt h
-plain_events_keep_it_plain w (Event.DataComes k) e h = receiving_plain w (Event.DataComes k) tt h
-plain_events_keep_it_plain w Event.SackMade e h = receiving_plain w Event.SackMade tt h
-plain_events_keep_it_plain w (Event.ForwardComes k) e h = receiving_plain w (Event.ForwardComes k) tt h
-plain_events_keep_it_plain w (Event.Open s) e h = receiving_plain w (Event.Open s) tt h
-plain_events_keep_it_plain w (Event.Read s) e h = receiving_plain w (Event.Read s) tt h
-plain_events_keep_it_plain w Event.Close e h = receiving_plain w Event.Close tt h
-plain_events_keep_it_plain w (Event.End s) e h = absurd e
-plain_events_keep_it_plain w (Event.Restart s) e h = absurd e
-plain_events_keep_it_plain w (Event.Replace s q) e h = absurd e
+-- the limits are those of streams within their span, and the end of a span leaves all else
+within_end : (w : Direction) (s : ℕ) → IsWithin w → IsWithin (happens w (Event.End s))
+unfolding happens
+within_end w s h = record {
+  offsets = h.offsets;
+  flight = h.flight;
+  unread = λ t v. h.unread t (not_ended (t == s) (w.over t) v);
+}
+  where
+    not_ended : (ends before : Bool) → (if ends then true else before) ≡ false → before ≡ false
+    not_ended true before e = absurd (true≢false e)
+    not_ended false before e = e
 
 pub events_keep_the_limits : EventsKeepTheLimits
 events_keep_the_limits w (Event.Write s m) e h = absurd e
@@ -400,13 +383,11 @@ events_keep_the_limits w (Event.ForwardComes k) e h = within_forward w k h
 events_keep_the_limits w (Event.Open s) e h = within_open w s h
 events_keep_the_limits w (Event.Read s) e h = absurd e
 events_keep_the_limits w Event.Close e h = within_close w h
-events_keep_the_limits w (Event.End s) e h = absurd e
+events_keep_the_limits w (Event.End s) e h = within_end w s h
 events_keep_the_limits w (Event.Restart s) e h = absurd e
 events_keep_the_limits w (Event.Replace s q) e h = absurd e
 
 -- Nothing happened yet.
-pub fresh_directions_are_plain : FreshDirectionsArePlain
-fresh_directions_are_plain size = (
-  record { span = λ s. refl },
-  record { offsets = omega arith; flight = omega arith; unread = λ s. omega arith },
-)
+pub fresh_directions_are_within : FreshDirectionsAreWithin
+fresh_directions_are_within size =
+    record { offsets = omega arith; flight = omega arith; unread = λ s v. omega arith }

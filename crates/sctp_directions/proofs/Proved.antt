@@ -17,11 +17,11 @@ pub use Rattle.sctp_directions.proofs.IncomingBeside.{own_acts_leave_what_comes}
 pub use Rattle.sctp_directions.proofs.InitialTsns.{acts_keep_the_initial_tsns}
 pub use Rattle.sctp_directions.proofs.PeerKnown.{peer_known_is_no_event}
 pub use Rattle.sctp_directions.proofs.LawsByEvent.{abandonments_assign_one_offset, closed_receivers_are_not_open}
-pub use Rattle.sctp_directions.proofs.LawsByEvent.{events_keep_the_limits, fresh_directions_are_plain}
+pub use Rattle.sctp_directions.proofs.LawsByEvent.{events_keep_the_limits, fresh_directions_are_within}
 pub use Rattle.sctp_directions.proofs.LawsByEvent.{only_beginnings_assign, only_forward_made_gives_forwards}
 pub use Rattle.sctp_directions.proofs.LawsByEvent.{only_forwards_pass_over, only_reads_give_messages}
 pub use Rattle.sctp_directions.proofs.LawsByEvent.{only_what_is_brought_is_taken_in}
-pub use Rattle.sctp_directions.proofs.LawsByEvent.{only_writes_accept, plain_events_keep_it_plain}
+pub use Rattle.sctp_directions.proofs.LawsByEvent.{only_writes_accept}
 pub use Rattle.sctp_directions.proofs.LawsByEvent.{receivers_events_are_received, senders_events_are_sent}
 pub use Rattle.sctp_directions.proofs.LawsByEvent.{senders_events_keep_the_invariant, writes_are_accepted_last}
 pub use Rattle.sctp_directions.proofs.AcceptedCounted.{accepted_messages_are_counted, nothing_is_accepted_at_first}

@@ -175,26 +175,28 @@ close_passes w = refl
 -- The limits
 
 -- the limits are kept where the sender and what was read stay
-within_by : (w v : Direction) → v.sender ≡ w.sender → v.reads ≡ w.reads → IsWithin w → IsWithin v
-within_by w v sender reads h = record {
+within_by : (w v : Direction) → v.sender ≡ w.sender → v.reads ≡ w.reads → v.over ≡ w.over → IsWithin w → IsWithin v
+within_by w v sender reads over h = record {
   offsets = subst (λ z. length z.plan.places < 2 ^ 31) (sym sender) h.offsets;
   flight = subst (λ z. length z.plan.places < z.reach + 16384) (sym sender) h.flight;
-  unread = λ s. subst₂ (λ y z. unread y.plan s (z s) < 32768) (sym sender) (sym reads) (h.unread s);
+  unread =
+      λ s e. subst₂ (λ y z. unread y.plan s (z s) < 32768) (sym sender) (sym reads)
+      (h.unread s (ap (λ f. f s) (sym over) ∙ e));
 }
 
 -- the numbers stay within their limits where DATA comes
 pub within_data : (w : Direction) (k : ℕ) → IsWithin w → IsWithin (happens w (Event.DataComes k))
 within_data w k h =
-    data_cases IsWithin w k h (λ d e. within_by w (record w { receiver = took w.receiver d }) refl refl h)
+    data_cases IsWithin w k h (λ d e. within_by w (record w { receiver = took w.receiver d }) refl refl refl h)
 
 -- the numbers stay within their limits where a FORWARD TSN comes
 pub within_forward : (w : Direction) (k : ℕ) → IsWithin w → IsWithin (happens w (Event.ForwardComes k))
-within_forward w k h = forward_cases IsWithin w k h (λ f e. within_by w (passes w f) refl refl h)
+within_forward w k h = forward_cases IsWithin w k h (λ f e. within_by w (passes w f) refl refl refl h)
 
 -- the numbers stay within their limits where a SACK is made
 pub within_sack : (w : Direction) → IsWithin w → IsWithin (happens w Event.SackMade)
 unfolding happens
-within_sack w h = within_by w (record w { sacks = w.sacks ++ sack_of w.receiver ∷ [] }) refl refl h
+within_sack w h = within_by w (record w { sacks = w.sacks ++ sack_of w.receiver ∷ [] }) refl refl refl h
 
 -- the numbers stay within their limits where a stream is opened
 pub within_open : (w : Direction) (s : ℕ) → IsWithin w → IsWithin (happens w (Event.Open s))
@@ -202,12 +204,12 @@ unfolding happens
 within_open w s h =
     within_by w
     (record w { receiver = record w.receiver { queues = put w.receiver.queues s (opened (w.receiver.queues s)) } }) refl
-    refl h
+    refl refl h
 
 -- the numbers stay within their limits where the receiver closes
 pub within_close : (w : Direction) → IsWithin w → IsWithin (happens w Event.Close)
 unfolding happens
-within_close w h = within_by w (record w { receiver = record w.receiver { is_open = false } }) refl refl h
+within_close w h = within_by w (record w { receiver = record w.receiver { is_open = false } }) refl refl refl h
 
 -- the numbers stay within their limits where a message is dropped
 pub within_drop : (w : Direction) (s i : ℕ) → IsWithin w → IsWithin (happens w (Event.Drop s i))

@@ -93,23 +93,5 @@ KeepsWithin Event.SackMade = ⊤
 KeepsWithin (Event.ForwardComes k) = ⊤
 KeepsWithin (Event.Open s) = ⊤
 KeepsWithin Event.Close = ⊤
+KeepsWithin (Event.End s) = ⊤
 KeepsWithin e = ⊥
-
--- events of a plain direction: all but those of a stream's end and of what may follow that
-abbrev pub IsPlainEvent : Event → Type 0
-IsPlainEvent (Event.Write s m) = ⊤
-IsPlainEvent (Event.PassOver s) = ⊤
-IsPlainEvent (Event.Drop s i) = ⊤
-IsPlainEvent (Event.Begin s i any) = ⊤
-IsPlainEvent Event.GoOn = ⊤
-IsPlainEvent (Event.Resend o) = ⊤
-IsPlainEvent (Event.Abandon s i) = ⊤
-IsPlainEvent (Event.SackComes k) = ⊤
-IsPlainEvent Event.ForwardMade = ⊤
-IsPlainEvent (Event.DataComes k) = ⊤
-IsPlainEvent Event.SackMade = ⊤
-IsPlainEvent (Event.ForwardComes k) = ⊤
-IsPlainEvent (Event.Open s) = ⊤
-IsPlainEvent (Event.Read s) = ⊤
-IsPlainEvent Event.Close = ⊤
-IsPlainEvent e = ⊥

@@ -30,9 +30,8 @@ use Rattle.sctp_directions.specs.Acts.{Act, Can, IsKeptInOrder, IsOfItsOwn, IsOf
 use Rattle.sctp_directions.specs.Acts.{SetsReliability, data_given, done, done_all, offset_in, reach_in, receiving}
 use Rattle.sctp_directions.specs.Acts.{sending, type_on}
 use Rattle.sctp_directions.specs.Events.{AcceptsAMessage, Assigns, Brings, BringsForward, GivesAMessage}
-use Rattle.sctp_directions.specs.Events.{IsForwardWithin, IsOfReceiving, IsOfSending, IsPlainEvent, IsReceived}
+use Rattle.sctp_directions.specs.Events.{IsForwardWithin, IsOfReceiving, IsOfSending, IsReceived}
 use Rattle.sctp_directions.specs.Events.{IsSentOn, KeepsWithin, MakesAForward}
-use Rattle.sctp_directions.specs.Plain.{IsPlain}
 use Rattle.sctp_directions.specs.Reports.{SaysWhatWasTaken}
 use Rattle.sctp_directions.specs.Said.{IsForwardMade, IsMade}
 
@@ -275,11 +274,8 @@ OnlyReadsGiveMessages =
 abbrev pub ClosedReceiversAreNotOpen : Type 0
 ClosedReceiversAreNotOpen = (w : Direction) → (happens w Event.Close).receiver.is_open ≡ false
 
--- A direction stays plain. It stays within the limits where a message is dropped, a SACK, a FORWARD TSN or DATA comes,
--- a SACK or a FORWARD TSN is made, a stream is opened or the receiver closes.
-abbrev pub PlainEventsKeepItPlain : Type 0
-PlainEventsKeepItPlain = (w : Direction) (e : Event) → IsPlainEvent e → IsPlain w → IsPlain (happens w e)
-
+-- A direction stays within the limits where a message is dropped, a SACK, a FORWARD TSN or DATA comes, a SACK or a
+-- FORWARD TSN is made, a stream is opened, the receiver closes or the span of a stream ends.
 abbrev pub EventsKeepTheLimits : Type 0
 EventsKeepTheLimits = (w : Direction) (e : Event) → KeepsWithin e → IsWithin w → IsWithin (happens w e)
 
@@ -307,6 +303,6 @@ AcceptedMessagesAreCounted = (n k id : ℕ) (w v : Direction) → v.sender.plan.
     ≤ all_pieces w.sender.plan.size (w.sender.plan.accepted id) + k
     → HasAccepted n w → HasAccepted (n + k) v
 
--- A direction in which nothing happened is plain.
-abbrev pub FreshDirectionsArePlain : Type 0
-FreshDirectionsArePlain = (size : ℕ) → IsPlain (fresh size) × IsWithin (fresh size)
+-- A direction in which nothing happened is within the limits.
+abbrev pub FreshDirectionsAreWithin : Type 0
+FreshDirectionsAreWithin = (size : ℕ) → IsWithin (fresh size)

@@ -1,5 +1,4 @@
 pub mod Acts
-pub mod Plain
 pub mod Reports
 pub mod Said
 pub mod Between

@@ -5,7 +5,7 @@
 ghost use Rattle.sctp_directions.specs.Laws.{AbandonmentsAssignOneOffset, AcceptedMessagesAreCounted};
 ghost use Rattle.sctp_directions.specs.Laws.{ActsKeepTheInitialTsns, ClosedReceiversAreNotOpen, EventsKeepTheLimits};
 ghost use Rattle.sctp_directions.specs.Laws.{ForwardsItTakesCome, ForwardsPassOverTheFront};
-ghost use Rattle.sctp_directions.specs.Laws.{FreshDirectionsArePlain, ItsAbandonmentsAreAlike};
+ghost use Rattle.sctp_directions.specs.Laws.{FreshDirectionsAreWithin, ItsAbandonmentsAreAlike};
 ghost use Rattle.sctp_directions.specs.Laws.{ItsAcknowledgementsAreAlike, ItsDropsAreAlike, ItsForwardsSayTheSame};
 ghost use Rattle.sctp_directions.specs.Laws.{ItsMarksAreNoEvents, ItsPiecesAreGiven, ItsSpansEnd};
 ghost use Rattle.sctp_directions.specs.Laws.{ItsStartsAreNoEvents, SpansOfWhatComesEnd, WhatItDefersComes};
@@ -14,7 +14,7 @@ ghost use Rattle.sctp_directions.specs.Laws.{ItsTailsAreAbandonedAlike, ItsWrite
 ghost use Rattle.sctp_directions.specs.Laws.{OnlyBeginningsAssign, OnlyForwardMadeGivesForwards, OnlyForwardsPassOver};
 ghost use Rattle.sctp_directions.specs.Laws.{OnlyReadsGiveMessages, OnlySettingsLoosen, OnlyWhatIsBroughtIsTakenIn};
 ghost use Rattle.sctp_directions.specs.Laws.{OnlyWritesAccept, OwnActsLeaveWhatComes, PeerKnownIsNoEvent};
-ghost use Rattle.sctp_directions.specs.Laws.{PiecesAreCounted, PlainEventsKeepItPlain, ReceiversEventsAreReceived};
+ghost use Rattle.sctp_directions.specs.Laws.{PiecesAreCounted, ReceiversEventsAreReceived};
 ghost use Rattle.sctp_directions.specs.Laws.{ReportsSayWhatWasTaken, SacksMeanTheSame, SendersEventsAreSent};
 ghost use Rattle.sctp_directions.specs.Laws.{SendersEventsKeepTheInvariant, SettingsAreNoEvents};
 ghost use Rattle.sctp_directions.specs.Laws.{ShortMessagesAreOnePiece, WhatComesLeavesItsOwn, WhatItTakesInComes};
@@ -87,9 +87,8 @@ pub fn accepted_messages_are_counted()
     ensures counted { AcceptedMessagesAreCounted }
 {}
 
-/// A direction in which nothing happened is plain, and events of a plain direction keep it so.
-pub fn directions_stay_plain()
-    ensures fresh { FreshDirectionsArePlain }
-    ensures plain { PlainEventsKeepItPlain }
+/// A direction in which nothing happened is within the limits, and many events keep it so.
+pub fn directions_stay_within()
+    ensures fresh { FreshDirectionsAreWithin }
     ensures limits { EventsKeepTheLimits }
 {}

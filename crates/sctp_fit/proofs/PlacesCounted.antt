@@ -186,7 +186,7 @@ few_pieces_stay_within n w few a inv =
     record {
       offsets = omega arith;
       flight = omega arith;
-      unread = λ s.
+      unread = λ s v.
           let all = messages_counted n w s a inv in
           let rest = ordered_below (drop (read_end w.sender.plan 0 (w.reads s)) (w.sender.plan.accepted s)) in
           let short = length-drop (read_end w.sender.plan 0 (w.reads s)) (w.sender.plan.accepted s) in

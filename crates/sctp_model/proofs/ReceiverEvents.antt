@@ -190,7 +190,7 @@ keeps_data_comes w d piece new l h = record {
       (λ k. stream_pushed p w.sender.gone w.sender.current (w.sender.next s) (w.sender.ssn s) w.receiver.taken
       w.receiver.passed (w.skipped s) s d
       h.planned piece (here s true e k) unknown (let a = reach_from w.receiver in omega (arith, past))
-      (live (w.receiver.queues s)) (w.reads s) (l.unread s)
+      (live (w.receiver.queues s)) (w.reads s) (l.unread s v)
       (h.streams s v))
       (λ k. stream_settled p w.over w.sender.gone w.sender.current (w.sender.next s) (w.sender.ssn s) w.receiver.taken
       w.receiver.passed (w.skipped s) s (live (w.receiver.queues s)) (w.reads s) d
@@ -261,7 +261,7 @@ keeps_forward_comes w f t far l h = record {
   streams =
       λ s v. stream_forwarded h.planned v h.sending t account h.tails
       (let b = reach_from w.receiver in omega arith)
-      (let a = l.flight in let b = h.behind in omega arith) (l.unread s)
+      (let a = l.flight in let b = h.behind in omega arith) (l.unread s v)
       (w.receiver.queues s) (h.streams s v);
 }
   where
@@ -371,7 +371,8 @@ keeps_read w s q t is e l h =
     (subst (λ z. StreamWith w w.sender.ssn w.receiver.taken w.receiver.passed (w.skipped z) z t.rest
     (w.reads s ++ t.got ∷ [])) (sym a)
     (stream_read t
-    h.planned (subst (λ z. w.over z ≡ false) a v) h.sending (λ o m. (h.taken o m).0) (l.unread s)
+    h.planned (subst (λ z. w.over z ≡ false) a v) h.sending (λ o m. (h.taken o m).0)
+    (l.unread s (subst (λ z. w.over z ≡ false) a v))
     (subst (λ z. StreamWith w w.sender.ssn w.receiver.taken w.receiver.passed (w.skipped s) s (live z) (w.reads s)) is
     (h.streams s (subst (λ z. w.over z ≡ false) a v))) e))))
     (λ (ne : r ≡ s → ⊥).

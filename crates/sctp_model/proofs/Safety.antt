@@ -277,7 +277,7 @@ the_invariant_is_enough w l h s v = record {
     end_of : IsDrained p gone current (w.sender.next s) (w.sender.ssn s) taken passed skipped s (w.reads s) end
     end_of =
         drained h.planned v h.sending (λ o m. (h.taken o m).0) (waiting q) q
-        (w.reads s) (l.unread s) (omega arith) stream
+        (w.reads s) (l.unread s v) (omega arith) stream
 
     none : IsKeptReliable p s → NoneGone gone s
     none kr i = false_from_ne_true _ (λ (g : gone s i ≡ true).

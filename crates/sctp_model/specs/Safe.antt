@@ -138,11 +138,11 @@ read_ssn p found (g ∷ gs) = read_ssn p (if g.ordered then suc (ssn_of p g) els
 abbrev pub unread : Plan → ℕ → List Got → ℕ
 unread p s gots = count_ordered (drop (read_end p 0 gots) (p.accepted s))
 
--- The numbers that wrap are far from meeting themselves.
+-- The numbers that wrap are far from meeting themselves; on streams within their span those of messages, too.
 pub record IsWithin (w : Direction) : Type 0 where
   pub offsets : length w.sender.plan.places < 2 ^ 31
   pub flight : length w.sender.plan.places < w.sender.reach + 16384
-  pub unread : (s : ℕ) → unread w.sender.plan s (w.reads s) < 32768
+  pub unread : (s : ℕ) → w.over s ≡ false → unread w.sender.plan s (w.reads s) < 32768
 
 -- After each event so far.
 abbrev pub StaysWithin : Direction → List Event → Type 0

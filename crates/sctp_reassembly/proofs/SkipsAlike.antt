@@ -152,14 +152,14 @@ the_invariant_gives_the_window w l i s v =
     let p = w.sender.plan in
     let h = (i.streams s v).ordered in
     let low = read_ssn p 0 (w.reads s) in
-    let a = window_next p s low (read_end p 0 (w.reads s)) (w.sender.next s) (w.sender.ssn s) h.gap (l.unread s) in
+    let a = window_next p s low (read_end p 0 (w.reads s)) (w.sender.next s) (w.sender.ssn s) h.gap (l.unread s v) in
     let b = h.begun in (
       h.cursor,
       record {
         held = h.held;
         near = all_weaker _ _ (live (w.receiver.queues s)).ordered (λ d x. near_by p low d x.1)
             (near_all w.receiver.taken low (read_end p 0 (w.reads s))
-            i.planned (live (w.receiver.queues s)).ordered h.held h.link (l.unread s));
+            i.planned (live (w.receiver.queues s)).ordered h.held h.link (l.unread s v));
         is = h.is;
         above = h.above;
         until = omega arith;
