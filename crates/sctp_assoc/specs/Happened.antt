@@ -1,7 +1,7 @@
 -- What each call does to the two directions.
 use Rattle.std.specs.Prelude.{◌≡◌, ℕ, zero, suc, Bool, true, false, List, [], ◌∷◌, ◌++◌, ◌&&◌, ◌+◌, ◌-◌, ◌==◌}
 use Rattle.std.specs.Prelude.{if◌then◌else◌, not, is_some, length, nat_lt, find, Option, Some, None, Result, Ok}
-use Rattle.std.specs.Prelude.{Err}
+use Rattle.std.specs.Prelude.{Err, ◌⊎◌, slice_get}
 use Rattle.sctp_wire_types.specs.declared.error.Error.{Error}
 use Rattle.sctp_wire_types.specs.declared.chunk.Chunk.{Chunk}
 use Rattle.sctp_wire_types.specs.declared.chunk.Chunk.TheVariants as chunks
@@ -13,6 +13,7 @@ use Rattle.sctp_wire_types.specs.declared.chunk.SkippedStream.{SkippedStream}
 use Rattle.sctp_wire_types.specs.declared.packet.CommonHeader.{CommonHeader}
 use Rattle.sctp_wire_types.specs.Checks.{checked_chunk}
 use Rattle.sctp_wire.specs.declared.packet.Packet.{Packet}
+use Rattle.sctp_wire.specs.Packets.{packet_at}
 use Rattle.sctp_parts.specs.declared.timer.Timer.TheVariants as names
 use Rattle.sctp_parts.specs.Timers.{expiry_of}
 use Rattle.sctp_outbound_queue.specs.declared.message.InFlight.{InFlight}
@@ -56,7 +57,10 @@ use Rattle.std.specs.List.{AllByRecursion, filter, position_or_len}
 use Rattle.sctp_wire.specs.DataPackets.{all_of, data_fits, datagrams_of}
 use Rattle.sctp_assoc.specs.Gather.{AckIsReadAgain, AreControlReadAgain, AreReadAgain, IsReadAgain, both_of}
 use Rattle.sctp_assoc.specs.Gather.{control_polled, data_polled, fast_polled, forward_chunk, is_due, late_abandoned}
-use Rattle.sctp_assoc.specs.Gather.{late_dropped, marks_polled, packet_bytes, sack_packet, spent_abandoned}
+use Rattle.sctp_assoc.specs.Gather.{late_dropped, marks_polled, packet_bytes, sack_packet, single_chunk_packet}
+use Rattle.sctp_assoc.specs.Gather.{spent_abandoned}
+use Rattle.sctp_assoc.specs.declared.control.Control.TheVariants as controls
+use Rattle.sctp_assoc.specs.declared.control.ControlPacket.{ControlPacket}
 use Rattle.sctp_wire_types.specs.declared.param.Param.TheVariants as params
 use Rattle.sctp_wire_types.specs.declared.param.ParamOutgoingResetRequest.{ParamOutgoingResetRequest}
 use Rattle.sctp_assoc.specs.Resets.{reconfig_of}
@@ -364,6 +368,24 @@ abbrev pub packets_given : Shown → List (List ChunkPayloadData) → List Param
 packets_given a bundles requests forwards b =
     (control_polled a).1 ++ exchange_given a bundles requests forwards b
 
+-- a request, where it is spelled, is read again
+abbrev pub IsRequestReadAgain : CommonHeader → ParamOutgoingResetRequest → Type 0
+IsRequestReadAgain header request = IsReadAgain header (reconfig_of (params.OutgoingResetRequest request))
+
+-- a datagram of a request to reset streams that are among those that this side asked for, which is read again as that
+abbrev pub IsRequestOf : CommonHeader → OwnView → List ℕ → Type 0
+IsRequestOf header own bytes =
+    (request : ParamOutgoingResetRequest)
+    × (packet_at bytes ≡ Ok (single_chunk_packet header (reconfig_of (params.OutgoingResetRequest request))))
+    × ((over : ℕ → Bool) → OwnOver over own → ParamOver over request)
+
+-- a datagram that went out before any DATA: one of a packet that waited, or such a request
+abbrev pub IsOfControl : Shown → List ℕ → Type 0
+IsOfControl a bytes =
+    ((k : ℕ) × (c : ControlPacket) × (slice_get a.control k ≡ Some (controls.Packet c))
+    × (packet_bytes c.header c.chunk ≡ bytes ∷ []))
+    ⊎ IsRequestOf (header_of a.handshake) a.resets.own bytes
+
 -- of this side no stream is to be reset, and no request is open
 abbrev pub AsksForNothing : OwnView → Type 0
 AsksForNothing o = (o.waiting ≡ []) × (o.queued ≡ []) × (o.active ≡ None)
@@ -382,6 +404,7 @@ pub record Polls (xs : List Act) (forwards : Bool) (a : Shown) (h : History) (b 
   pub quiet : AsksForNothing a.resets.own → requests ≡ []
   -- and all of them are of streams past their span where all that this side asks for is
   pub asked : (over : ℕ → Bool) → OwnOver over a.resets.own → AllByRecursion (ParamOver over) requests
+  pub requests_again : AllByRecursion (IsRequestReadAgain (header_of a.handshake)) requests
   pub said : packets ≡ packets_given a bundles requests forwards b
   pub data_again : is_established a.state ≡ true → AreReadAgain (header_of a.handshake) bundles
   pub ack_again : is_established a.state ≡ true → AckIsReadAgain a
@@ -391,6 +414,7 @@ pub record Polls (xs : List Act) (forwards : Bool) (a : Shown) (h : History) (b 
 -- what it was.
 pub record PollsOn (xs : List Act) (forwards : Bool) (a b : Shown) (packets : List (List ℕ)) : Type 0 where
   pub control_again : AreControlReadAgain a.control
+  pub control_said : AllByRecursion (IsOfControl a) (control_polled a).1
   pub from : (h : History) → Binds a h → Polls xs forwards a h b packets
 
 -- the retransmission timer, where it expired by a moment and is within its limit

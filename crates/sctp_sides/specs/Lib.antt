@@ -4,6 +4,7 @@ pub mod Laws
 pub mod Lifetimes
 pub mod Meeting
 pub mod NoReset
+pub mod PastSpan
 pub mod OneSide
 pub mod SideLaws
 pub mod Witnesses

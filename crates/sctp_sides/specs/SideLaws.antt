@@ -1,6 +1,6 @@
 -- What calls leave of an association beside its directions, and of which acts they are made: for whoever builds on it.
 use Rattle.std.specs.Prelude.{◌≡◌, ◌⊎◌, ◌<◌, ◌≤◌, ℕ, ◌+◌, ◌%◌, ◌^◌, Bool, true, false, List, [], ◌∷◌, ◌++◌, length}
-use Rattle.std.specs.Prelude.{slice_get, if◌then◌else◌, Option, Some, None, ⊤}
+use Rattle.std.specs.Prelude.{slice_get, if◌then◌else◌, Option, Some, None, ⊤, ◌==◌}
 use Rattle.std.specs.List.{AllByRecursion}
 use Rattle.sctp_serial.specs.Serial.{tsn_gt, tsn}
 use Rattle.sctp_wire_types.specs.declared.chunk.Chunk.{Chunk}
@@ -9,6 +9,7 @@ use Rattle.sctp_wire_types.specs.declared.chunk.ChunkForwardTsn.{ChunkForwardTsn
 use Rattle.sctp_wire_types.specs.declared.chunk.ChunkIForwardTsn.{ChunkIForwardTsn}
 use Rattle.sctp_wire_types.specs.declared.chunk.ChunkInit.{ChunkInit}
 use Rattle.sctp_wire_types.specs.declared.chunk.ChunkPayloadData.{ChunkPayloadData}
+use Rattle.sctp_wire_types.specs.declared.chunk.ChunkReconfig.{ChunkReconfig}
 use Rattle.sctp_wire_types.specs.declared.chunk.ChunkSelectiveAck.{ChunkSelectiveAck}
 use Rattle.sctp_wire_types.specs.declared.chunk.SkippedStream.{SkippedStream}
 use Rattle.sctp_wire_types.specs.declared.ids.PayloadProtocolIdentifier.{PayloadProtocolIdentifier}
@@ -30,7 +31,7 @@ use Rattle.sctp_fit.specs.Incoming.{tsn_before}
 use Rattle.sctp_assoc.specs.Calls.{event_polled, is_established, open_refusal, opened}
 use Rattle.sctp_assoc.specs.Closing.{closed_by, exhausted, is_closed_state}
 use Rattle.sctp_assoc.specs.Calls.{accepted_stream, adjusted, drained_behind, read_exhausts, read_from_stream}
-use Rattle.sctp_assoc.specs.Calls.{stream_refusal}
+use Rattle.sctp_assoc.specs.Calls.{stop_refusal, stopped, stopped_open, stream_refusal}
 use Rattle.sctp_assoc.specs.Calls.{with_max_send_message_size}
 use Rattle.sctp_assoc.specs.Calls.{write_refusal, written}
 use Rattle.sctp_assoc.specs.Chunks.{after_packet, ended, on_chunk}
@@ -40,12 +41,15 @@ use Rattle.sctp_assoc.specs.Inbound.{taken_packet}
 use Rattle.sctp_sides.specs.Meeting.{Greets, GreetsOn, HasCome, IsEstablished, IsNoEarlier, IsTruthful, Stage, stage_of}
 use Rattle.sctp_assoc.specs.Gather.{AreControlReadAgain, WaitPlainly, is_due, polled, without_control}
 use Rattle.sctp_directions.specs.Reports.{SaysWhatWasTaken}
+use Rattle.sctp_assoc.specs.ResetActs.{acts_of_draining}
 use Rattle.sctp_assoc.specs.Shown.{Shown, uses_forward_tsn}
 use Rattle.sctp_assoc.specs.Skipping.{skips_of}
 use Rattle.sctp_assoc.specs.Timeouts.{after_timeouts}
 use Rattle.sctp_assoc.specs.declared.control.Control.TheVariants as controls
 use Rattle.sctp_assoc.specs.declared.control.ControlPacket.{ControlPacket}
+use Rattle.sctp_resets.specs.Within.{ResetsOver}
 use Rattle.sctp_sides.specs.NoReset.{HasNoReset, IsNoReconfig, control_packets}
+use Rattle.sctp_sides.specs.PastSpan.{AsksPast, EndsPast, ResetsPast, ResetsPastOnly}
 
 -- Status
 
@@ -108,6 +112,40 @@ pub record ReadsOn (a : Shown) (id : ℕ) : Type 0 where
 
 abbrev pub ReadsKeepTheStatus : Type 0
 ReadsKeepTheStatus = (a : Shown) (id : ℕ) → ReadsOn a id
+
+-- Up to there it leads on by the read and by the ends of generations that are read to their end.
+abbrev pub ReadsLeadOn : Type 0
+ReadsLeadOn =
+    (a : Shown) (id : ℕ) → LeadsOn (Act.WasRead id ∷ acts_of_draining a id (read_in a.streams id).0) a (with_read a id)
+
+-- Where resets concern streams past their span alone, these ends are of such streams, and no more are concerned.
+abbrev pub ReadsEndPast : Type 0
+ReadsEndPast = (over : ℕ → Bool) (a : Shown) (id : ℕ) → ResetsPastOnly over a
+    → AllByRecursion (EndsPast over) (acts_of_draining a id (read_in a.streams id).0)
+    × ResetsPastOnly over (with_read a id)
+
+-- A stop of a stream ends its span and leaves the status, unless it leaves the receive buffer exhausted, and then that
+-- is what closes. Where the read half is closed already nothing changes.
+pub record StopsOn (a : Shown) (id : ℕ) : Type 0 where
+  pub same : IsSameStatus a (stopped_open a id)
+  pub leads : LeadsOn (Act.SpansEnded (id ∷ []) (stopped_open a id).streams ∷ []) a (stopped_open a id)
+  pub others : (s : ℕ) → (s == id) ≡ false → stream_at (stopped_open a id).streams s ≡ stream_at a.streams s
+  pub either : (stopped a id ≡ a)
+      ⊎ ((stopped a id ≡ stopped_open a id) ⊎ (stopped a id ≡ exhausted (stopped_open a id)))
+
+abbrev pub StopsKeepTheStatus : Type 0
+StopsKeepTheStatus = (a : Shown) (id : ℕ) → StopsOn a id
+
+-- Before it is seen whether the receive buffer is exhausted, resets concern that stream and no other that is not past
+-- its span.
+abbrev pub OpenStopsResetThatStream : Type 0
+OpenStopsResetThatStream = (over : ℕ → Bool) (a : Shown) (id : ℕ) → over id ≡ true → ResetsPastOnly over a
+    → ResetsPastOnly over (stopped_open a id)
+
+-- Where no reset is under way a stream is stopped in Established alone, or its read half was closed.
+abbrev pub StopsAreInEstablished : Type 0
+StopsAreInEstablished = (a : Shown) (id : ℕ) → HasNoReset a → stop_refusal a id ≡ None
+    → (stopped a id ≡ a) ⊎ (is_established a.state ≡ true)
 
 -- Where no reset is under way, it leaves whatever else but streams, too.
 abbrev pub ReadsChangeStreamsAlone : Type 0
@@ -294,15 +332,39 @@ pub record TakesOnly (a : Shown) (piece : ChunkPayloadData) (acts : List Act) : 
   pub live : stream_at a.streams piece.stream_identifier ≡ Some stream
   pub are : acts ≡ Act.Took piece ∷ []
 
--- it did one of these, or nothing
-abbrev pub IsTaking : Shown → ChunkPayloadData → List Act → Type 0
-IsTaking a piece acts = (acts ≡ []) ⊎ (OpensOnly a piece acts ⊎ (OpensAndTakes a piece acts ⊎ TakesOnly a piece acts))
+-- It was kept apart from its stream, which is past its span.
+pub record DefersOnly (over : ℕ → Bool) (piece : ChunkPayloadData) (acts : List Act) : Type 0 where
+  pub past : over piece.stream_identifier ≡ true
+  pub are : acts ≡ Act.Deferred piece ∷ []
 
--- Where no reset is under way, DATA may make its stream first, and may be taken in; nothing else (RFC 4960 section 6.2).
+-- it did one of these, or nothing
+abbrev pub IsTaking : (ℕ → Bool) → Shown → ChunkPayloadData → List Act → Type 0
+IsTaking over a piece acts =
+    (acts ≡ [])
+    ⊎ (OpensOnly a piece acts ⊎ (OpensAndTakes a piece acts ⊎ (TakesOnly a piece acts ⊎ DefersOnly over piece acts)))
+
+-- Such acts, and behind them ends of spans that were over before.
+pub record WithEndsBehind (over : ℕ → Bool) (Are : List Act → Type 0) (acts : List Act) : Type 0 where
+  pub front : List Act
+  pub front_are : Are front
+  pub behind : List Act
+  pub behind_are : AllByRecursion (EndsPast over) behind
+  pub are : acts ≡ front ++ behind
+
+-- DATA may make its stream first, and may be taken in, or kept apart from a stream past its span; behind that, streams
+-- past their span may change, and nothing else (RFC 4960 section 6.2, RFC 6525 section 5.2.2). That resets concern such
+-- streams alone is said of the association.
 abbrev pub DataOpensOrTakes : Type 0
 DataOpensOrTakes =
-    (a : Shown) (header : CommonHeader) (piece : ChunkPayloadData) → HasNoReset a
-    → IsTaking a piece (acts_of_chunk a header (chunks.Data piece))
+    (over : ℕ → Bool) (a : Shown) (header : CommonHeader) (piece : ChunkPayloadData) → ResetsOver over a.resets
+    → WithEndsBehind over (IsTaking over a piece) (acts_of_chunk a header (chunks.Data piece))
+
+-- A RE-CONFIG that names streams past their span changes such streams alone.
+abbrev pub ReconfigsEndPast : Type 0
+ReconfigsEndPast =
+    (over : ℕ → Bool) (a : Shown) (header : CommonHeader) (reconfig : ChunkReconfig) → ResetsOver over a.resets
+    → ResetsPast over (chunks.Reconfig reconfig)
+    → AllByRecursion (EndsPast over) (acts_of_chunk a header (chunks.Reconfig reconfig))
 
 -- The first pieces in flight are acknowledged, so many that the cumulative TSN ack is the TSN before that of the next
 -- one, and of those behind them the ones that the gap ack blocks name; some may be reported missing.
@@ -359,15 +421,19 @@ GreetingsMakeThePeerKnown = (a : Shown) (header : CommonHeader) (init : ChunkIni
 abbrev pub IsPassingOver : ℕ → List SkippedStream → List Act → Type 0
 IsPassingOver tsn skipped acts = (acts ≡ []) ⊎ (acts ≡ Act.PassedOver tsn skipped ∷ [])
 
--- Where no reset is under way, a FORWARD TSN passes over what it says, or does nothing to the directions (RFC 3758
--- section 3.6); so does an I-FORWARD-TSN, of which the entries of ordered messages count (RFC 8260 section 2.3.1).
+-- A FORWARD TSN passes over what it says, or does nothing to the directions (RFC 3758 section 3.6); so does an
+-- I-FORWARD-TSN, of which the entries of ordered messages count (RFC 8260 section 2.3.1). Behind that, streams past
+-- their span may change.
 abbrev pub ForwardsPassOver : Type 0
-ForwardsPassOver = (a : Shown) (header : CommonHeader) (forward : ChunkForwardTsn) → HasNoReset a
-    → IsPassingOver forward.new_cumulative_tsn forward.streams (acts_of_chunk a header (chunks.ForwardTsn forward))
+ForwardsPassOver =
+    (over : ℕ → Bool) (a : Shown) (header : CommonHeader) (forward : ChunkForwardTsn) → ResetsOver over a.resets
+    → WithEndsBehind over (IsPassingOver forward.new_cumulative_tsn forward.streams)
+    (acts_of_chunk a header (chunks.ForwardTsn forward))
 
 abbrev pub IForwardsPassOver : Type 0
-IForwardsPassOver = (a : Shown) (header : CommonHeader) (forward : ChunkIForwardTsn) → HasNoReset a
-    → IsPassingOver forward.new_cumulative_tsn (skips_of forward.entries)
+IForwardsPassOver =
+    (over : ℕ → Bool) (a : Shown) (header : CommonHeader) (forward : ChunkIForwardTsn) → ResetsOver over a.resets
+    → WithEndsBehind over (IsPassingOver forward.new_cumulative_tsn (skips_of forward.entries))
     (acts_of_chunk a header (chunks.IForwardTsn forward))
 
 -- Where FORWARD TSN isn't in use it does nothing to the directions.
@@ -381,9 +447,10 @@ pub record CouldPassOver (a : Shown) (h : History) (tsn : ℕ) : Type 0 where
   pub ahead : IsAhead h tsn
 
 abbrev pub OnlyForwardsAheadPassOver : Type 0
-OnlyForwardsAheadPassOver = (a : Shown) (h : History) (header : CommonHeader) (forward : ChunkForwardTsn) → Binds a h
+OnlyForwardsAheadPassOver = (a : Shown) (h : History) (header : CommonHeader) (forward : ChunkForwardTsn)
+    (behind : List Act) → Binds a h
     → acts_of_chunk a header (chunks.ForwardTsn forward)
-    ≡ Act.PassedOver forward.new_cumulative_tsn forward.streams ∷ []
+    ≡ Act.PassedOver forward.new_cumulative_tsn forward.streams ∷ behind
     → CouldPassOver a h forward.new_cumulative_tsn
 
 -- none of DATA, SACK, FORWARD TSN and RE-CONFIG, nor one that tells an initial TSN
@@ -465,21 +532,25 @@ IsExchanged acts forwards a b h (chunks.SelectiveAck sack) =
 IsExchanged acts forwards a b h (chunks.ForwardTsn forward) = (forwards ≡ true) × (forward ≡ forward_of b.sender)
 IsExchanged acts forwards a b h chunk = ⊥
 
-abbrev pub IsGivenBy : List Act → Bool → Shown → Shown → History → Chunk → Type 0
-IsGivenBy acts forwards a b h chunk = IsWaitingToGo a chunk ⊎ IsExchanged acts forwards a b h chunk
+-- one of these chunks, one that waited to go out, or a request of this side to reset streams past their span
+abbrev pub IsGivenBy : (ℕ → Bool) → List Act → Bool → Shown → Shown → History → Chunk → Type 0
+IsGivenBy over acts forwards a b h chunk =
+    IsWaitingToGo a chunk ⊎ (IsExchanged acts forwards a b h chunk ⊎ AsksPast over chunk)
 
--- Where no reset is under way, the packets of a poll are of such chunks alone.
+-- The packets of a poll are of such chunks alone, in whatever state, where its resets concern streams past their span
+-- alone.
 abbrev pub PollsSayTheirActs : Type 0
-PollsSayTheirActs = (acts : List Act) (forwards : Bool) (a b : Shown) (h : History) (packets : List (List ℕ))
-    → HasNoReset a → WaitPlainly a → AreControlReadAgain a.control → is_established a.state ≡ true → Binds a h
+PollsSayTheirActs = (over : ℕ → Bool) (acts : List Act) (forwards : Bool) (a b : Shown) (h : History)
+    (packets : List (List ℕ))
+    → ResetsOver over a.resets → WaitPlainly a → AreControlReadAgain a.control → Binds a h
     → Polls acts forwards a h b packets
-    → AllByRecursion (λ (bytes : List ℕ). OfEachChunk (IsGivenBy acts forwards a b h) (taken_packet (packet_at bytes)))
-    packets
+    → AllByRecursion
+    (λ (bytes : List ℕ). OfEachChunk (IsGivenBy over acts forwards a b h) (taken_packet (packet_at bytes))) packets
 
--- None of these chunks is RE-CONFIG then.
+-- None of these chunks is RE-CONFIG where no reset is under way, as none concerns a stream then.
 abbrev pub NoResetGoesOut : Type 0
 NoResetGoesOut = (acts : List Act) (forwards : Bool) (a b : Shown) (h : History) (chunk : Chunk) → HasNoReset a
-    → IsGivenBy acts forwards a b h chunk → IsNoReconfig chunk
+    → IsGivenBy (λ (s : ℕ). false) acts forwards a b h chunk → IsNoReconfig chunk
 
 -- What waits goes out in packets of those chunks alone.
 abbrev pub WhatWaitsGoesOutAsItIs : Type 0

@@ -23,6 +23,14 @@ ghost use Rattle.sctp_sides.specs.NoReset.{ExhaustionBeginsNoReset, JoinedSidesR
 ghost use Rattle.sctp_sides.specs.NoReset.{OpenedStreamsBeginNoReset, OtherChunksBeginNoReset, PacketEndsBeginNoReset};
 ghost use Rattle.sctp_sides.specs.NoReset.{PollsBeginNoReset, ReadsBeginNoReset, SettingsBeginNoReset};
 ghost use Rattle.sctp_sides.specs.NoReset.{TimersBeginNoReset, ToldEventsBeginNoReset, WritesBeginNoReset};
+ghost use Rattle.sctp_sides.specs.PastSpan.{AcceptedStreamsResetNoMore, ChunksResetNoMore, ClosesEndResets};
+ghost use Rattle.sctp_sides.specs.PastSpan.{ClosesResetNoMore, ExhaustionEndsResets, ExhaustionResetsNoMore};
+ghost use Rattle.sctp_sides.specs.PastSpan.{LimitsResetNoMore, MoreArePast, MoreIsAskedPast, NoResetIsPastOnly};
+ghost use Rattle.sctp_sides.specs.PastSpan.{OpenedStreamsResetNoMore, PacketEndsResetNoMore, PollsResetNoMore};
+ghost use Rattle.sctp_sides.specs.PastSpan.{ReadsResetNoMore, SettingsResetNoMore, StopsResetThatStream};
+ghost use Rattle.sctp_sides.specs.PastSpan.{TimersResetNoMore, ToldEventsResetNoMore, WritesResetNoMore};
+ghost use Rattle.sctp_sides.specs.SideLaws.{OpenStopsResetThatStream, ReadsEndPast, ReadsLeadOn, ReconfigsEndPast};
+ghost use Rattle.sctp_sides.specs.SideLaws.{StopsAreInEstablished, StopsKeepTheStatus};
 ghost use Rattle.sctp_sides.specs.Causes.{CausesClose, ClosingPacketsHaveCauses, FaultsAreCauses};
 ghost use Rattle.sctp_sides.specs.Intake.{DataIsTakenIn, LaterDataIsKeptApart, NothingElseIsKeptApart};
 ghost use Rattle.sctp_sides.specs.Intake.{NothingElseIsTakenIn};
@@ -143,6 +151,9 @@ pub fn calls_keep_the_status()
     ensures limits { LimitsKeepTheStatus }
     ensures read { ReadsKeepTheStatus }
     ensures read_plainly { ReadsChangeStreamsAlone }
+    ensures read_on { ReadsLeadOn }
+    ensures stopped { StopsKeepTheStatus }
+    ensures stopped_where { StopsAreInEstablished }
     ensures told { ToldEventsKeepTheStatus }
     ensures timers { TimersKeepTheStatus }
     ensures polled { PollsKeepTheStatus }
@@ -166,6 +177,33 @@ pub fn calls_begin_no_reset()
     ensures polled { PollsBeginNoReset }
     ensures chunks { OtherChunksBeginNoReset }
     ensures ends { PacketEndsBeginNoReset }
+{}
+
+/// Resets of streams that are past their span: an association whose resets concern such streams alone is one after each
+/// call, where no other stream is stopped, and after each chunk, if it is no RE-CONFIG that names another stream. A close
+/// leaves no reset under way.
+pub fn resets_stay_past_the_span()
+    ensures more { MoreArePast }
+    ensures asked { MoreIsAskedPast }
+    ensures none { NoResetIsPastOnly }
+    ensures opened { OpenedStreamsResetNoMore }
+    ensures written { WritesResetNoMore }
+    ensures set { SettingsResetNoMore }
+    ensures limits { LimitsResetNoMore }
+    ensures accepted { AcceptedStreamsResetNoMore }
+    ensures read { ReadsResetNoMore }
+    ensures read_past { ReadsEndPast }
+    ensures told { ToldEventsResetNoMore }
+    ensures closed { ClosesResetNoMore }
+    ensures exhausted { ExhaustionResetsNoMore }
+    ensures stopped { StopsResetThatStream }
+    ensures stopped_open { OpenStopsResetThatStream }
+    ensures timers { TimersResetNoMore }
+    ensures polled { PollsResetNoMore }
+    ensures chunks { ChunksResetNoMore }
+    ensures ends { PacketEndsResetNoMore }
+    ensures over { ClosesEndResets }
+    ensures exhaustion { ExhaustionEndsResets }
 {}
 
 /// Stages: what a side's packets said of its handshake stays so in each later stage (RFC 4960 section 5.1). Where the
@@ -206,6 +244,7 @@ pub fn packets_lead_on()
 /// out.
 pub fn calls_are_made_of_acts()
     ensures data { DataOpensOrTakes }
+    ensures reconfig { ReconfigsEndPast }
     ensures sack { SacksAcknowledge }
     ensures taken { TakenSacksAcknowledge }
     ensures older { OtherSacksDoNothing }
