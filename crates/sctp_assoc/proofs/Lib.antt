@@ -15,6 +15,9 @@ pub mod MarksOutstanding
 mod HiddenData
 mod MemoryTaken
 mod PacketsReadAgain
+mod RequestsReadAgain
+mod RequestsOver
+mod ControlSaid
 pub mod ResetsLeadOn
 pub mod PartsOfPolls
 pub mod PassesOver

@@ -20,6 +20,7 @@ use Rattle.sctp_outbound.specs.Forward.{forward_given, forward_of, gives_forward
 use Rattle.sctp_directions.specs.Acts.{Act, History, Parts, all_data_given, done_all}
 use Rattle.sctp_assoc.specs.Calls.{is_established}
 use Rattle.sctp_assoc.specs.Gather.{AreControlReadAgain, AreReadAgain, ForwardIsReadAgain, IsReadAgain, PollIsReadAgain}
+use Rattle.sctp_assoc.specs.Gather.{AreRequestsReadAgain, ControlRequestsReadAgain, PollRequestsReadAgain}
 use Rattle.sctp_assoc.specs.Gather.{ack_after, ack_polled, after_both, control_polled, data_polled, exchange_polled}
 use Rattle.sctp_assoc.specs.Gather.{forward_after, forward_chunk, forward_polled, forwards_given, is_due, packet_bytes}
 use Rattle.sctp_assoc.specs.Gather.{polled, requests_after, requests_polled, sack_packet, without_control}
@@ -29,6 +30,7 @@ use Rattle.sctp_assoc.specs.Happened.{AsksForNothing, requests_given}
 use Rattle.sctp_assoc.specs.Leads.{Binds, Leads, parts}
 use Rattle.sctp_wire_types.specs.declared.param.ParamOutgoingResetRequest.{ParamOutgoingResetRequest}
 use Rattle.sctp_reset_requests.specs.Own.{OwnView}
+use Rattle.sctp_resets.specs.Within.{OwnOver}
 use Rattle.sctp_assoc.specs.declared.control.Control.{Control}
 use Rattle.sctp_assoc.specs.Resets.{with_reconfig_run}
 use Rattle.sctp_assoc.specs.Shown.{Shown}
@@ -36,6 +38,7 @@ use Rattle.sctp_assoc.proofs.ActsKeepOffsets.{acts_tied, given_append}
 use Rattle.sctp_assoc.proofs.Giving.{Gives}
 use Rattle.sctp_assoc.proofs.Leading.{leads_beside, leads_by, leads_nowhere, leads_on, past_itself}
 use Rattle.sctp_assoc.proofs.MarksOutstanding.{AreMarkedRight, acts_marked}
+use Rattle.sctp_assoc.proofs.ControlSaid.{control_is_said}
 use Rattle.sctp_assoc.proofs.GivenApart.{again_with, control_changes, with_own_control}
 use Rattle.sctp_assoc.proofs.PartsOfPolls.{ack_sender, acked_if, after_ack, after_forward, both_first, both_second}
 use Rattle.sctp_assoc.proofs.PartsOfPolls.{reconfig_run_leaves, requests_leave}
@@ -43,6 +46,8 @@ use Rattle.sctp_assoc.proofs.PolledSteps.{IsSentBeside, data_of_poll, data_poll_
 use Rattle.sctp_assoc.proofs.PolledSteps.{data_poll_stays}
 use Rattle.sctp_assoc.proofs.QuietRequests.{none_requested, own_stays}
 use Rattle.sctp_assoc.proofs.RequestsGiven.{beside_requests, parts_left, requests_of, requests_said}
+use Rattle.sctp_assoc.proofs.RequestsOver.{control_over, requested_over}
+use Rattle.sctp_assoc.proofs.RequestsReadAgain.{requests_again_if}
 use Rattle.sctp_assoc.proofs.WhatCame.{same_held}
 
 abbrev polled_if : Bool → Shown → ℕ → Shown × List (List ℕ)
@@ -330,11 +335,12 @@ forwards_apart a own control now = refl
 module _ (a : Shown) (own : OwnView) (control : List Control) (now : ℕ) (h : History) (given : List (List ℕ))
     (given_is : given ≡ (control_polled a).1) (again : PollIsReadAgain (without_control a) now) (binds : Binds a h)
     (own_is : a.resets.own.queued ≡ [] → own ≡ a.resets.own)
+    (own_over : (over : ℕ → Bool) → OwnOver over a.resets.own → OwnOver over own)
   where
-    polls_with : (b : Shown) → b ≡ with_own_control (without_control a) own control
+    polls_with : (b : Shown) → b ≡ with_own_control (without_control a) own control → PollRequestsReadAgain b now
         → Polls (acts_of_poll b now) (forwards_of_poll b now) a h (with_reconfig_run (exchange_polled b now).0 now)
         (given ++ (exchange_polled b now).1)
-    polls_with b e =
+    polls_with b e requests_again =
         let bound : Binds (with_own_control (without_control a) own control) h = record {
           first = binds.first;
           peer_last_tsn = binds.peer_last_tsn;
@@ -367,6 +373,12 @@ module _ (a : Shown) (own : OwnView) (control : List Control) (now : ℕ) (h : H
           quiet = λ asks_nothing.
               none_requested (is_established b.state) b now
               (subst AsksForNothing (sym (ap (λ (z : Shown). z.resets.own) e ∙ own_is asks_nothing.1)) asks_nothing);
+          asked = λ over asks_past.
+              requested_over over (is_established b.state) b now
+              (subst (OwnOver over) (sym (ap (λ (z : Shown). z.resets.own) e)) (own_over over asks_past));
+          requests_again =
+              subst (λ (k : CommonHeader). AreRequestsReadAgain k requests) header
+              (requests_again_if (is_established b.state) b now requests_again);
           said =
               ap (λ (z : List (List ℕ)). z ++ (exchange_polled b now).1) given_is
               ∙ ap (λ (z : List (List ℕ)). (control_polled a).1 ++ z)
@@ -386,9 +398,10 @@ module _ (a : Shown) (own : OwnView) (control : List Control) (now : ℕ) (h : H
               (forward_again b now said_again c));
         }
 
-polls : (a : Shown) (now : ℕ) (h : History) → PollIsReadAgain (without_control a) now → Binds a h
+polls : (a : Shown) (now : ℕ) (h : History) → PollIsReadAgain (without_control a) now
+    → PollRequestsReadAgain (control_polled a).0 now → Binds a h
     → Polls (acts_of_poll a now) (forwards_of_poll a now) a h (polled a now).0 (polled a now).1
-polls a now h again binds =
+polls a now h again requests_again binds =
     let b : Shown = (control_polled a).0 in
     let own = b.resets.own in
     let control = b.control in
@@ -399,7 +412,9 @@ polls a now h again binds =
     ap (λ (z : Shown). acts_of_poll z now) e ∙ acts_apart a own control now in
     let forwards : forwards_of_poll b now ≡ forwards_of_poll a now =
     ap (λ (z : Shown). forwards_of_poll z now) e ∙ forwards_apart a own control now in
-    let here = polls_with a own control now h given refl again binds (own_stays a) b e in
+    let here =
+    polls_with a own control now h given refl again binds (own_stays a) (λ over w. control_over over a w) b e
+    requests_again in
     let first : (polled a now).0 ≡ with_reconfig_run after.0 now =
     ap (λ (z : Shown). with_reconfig_run z now) (both_first given after) in
     let second : (polled a now).1 ≡ given ++ after.1 = both_second given after in
@@ -411,8 +426,13 @@ polls a now h again binds =
     (given ++ after.1)) acts here)))
 
 pub polls_on : (a b : Shown) (now : ℕ) (packets : List (List ℕ)) → polled a now ≡ (b, packets)
-    → AreControlReadAgain a.control → PollIsReadAgain (without_control a) now
+    → AreControlReadAgain a.control → ControlRequestsReadAgain a → PollIsReadAgain (without_control a) now
+    → PollRequestsReadAgain (control_polled a).0 now
     → PollsOn (acts_of_poll a now) (forwards_of_poll a now) a b packets
-polls_on a b now packets e waiting again =
+polls_on a b now packets e waiting in_front again requests_again =
     rw (ap (λ (x : Shown × List (List ℕ)). x.0) (sym e), ap (λ (x : Shown × List (List ℕ)). x.1) (sym e))
-    (record { control_again = waiting; from = λ h binds. polls a now h again binds })
+    (record {
+      control_again = waiting;
+      control_said = control_is_said a in_front;
+      from = λ h binds. polls a now h again requests_again binds;
+    })

@@ -11,12 +11,12 @@ use Rattle.sctp_resets.specs.Resets.{ResetsView, request_again, request_asked, r
 use Rattle.sctp_assoc.specs.declared.control.Control.{Control}
 use Rattle.sctp_assoc.specs.declared.control.Control.TheVariants as controls
 use Rattle.sctp_assoc.specs.Gather.{after_both, control_polled, data_polled, first_request_behind, first_request_polled}
-use Rattle.sctp_assoc.specs.Gather.{packet_bytes, repeat_polled, request_made, requests_polled, with_control_given}
+use Rattle.sctp_assoc.specs.Gather.{listed, packet_bytes, repeat_polled, request_made, requests_of, requests_polled}
+use Rattle.sctp_assoc.specs.Gather.{with_control_given}
 use Rattle.sctp_assoc.specs.Gather.{with_request_again, with_request_asked, with_request_placed, with_request_sent}
 use Rattle.sctp_assoc.specs.Gather.{without_control}
 use Rattle.sctp_assoc.specs.Happened.{AsksForNothing}
 use Rattle.sctp_assoc.specs.Shown.{Shown}
-use Rattle.sctp_assoc.proofs.RequestsGiven.{listed, requests_of}
 
 nothing_asked_for : (ids : List ℕ) (last : Option ℕ) (o : OwnView) → ids ≡ [] → asked_for ids last o ≡ (o, false)
 nothing_asked_for ids None o e = refl

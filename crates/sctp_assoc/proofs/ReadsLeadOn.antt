@@ -53,7 +53,7 @@ draining_leads_if false a id streams h e binds =
     subst (λ (z : Shown). Leads [] b h z h) (sym (drained_plainly a id streams e)) (leads_nowhere b b h binds refl refl)
 
 -- behind a read that left these streams, generations of its stream end that are read to their end
-draining_leads : (a : Shown) (id : ℕ) (streams : StreamMap) (h : History) → Binds (record a { streams = streams }) h
+pub draining_leads : (a : Shown) (id : ℕ) (streams : StreamMap) (h : History) → Binds (record a { streams = streams }) h
     → Leads (acts_of_draining a id streams) (record a { streams = streams }) h (drained_behind a id streams) h
 draining_leads a id streams h binds = draining_leads_if (is_retiring a.resets id) a id streams h refl binds
 

@@ -1,5 +1,5 @@
 -- The requests to reset streams that a poll gives, and what they leave for the rest of it.
-use Rattle.std.proofs.Common.{◌≡◌, refl, sym, ap, ◌∙◌, ℕ, Bool, true, false, ◌==◌, if◌then◌else◌, length}
+use Rattle.std.proofs.Common.{◌≡◌, refl, sym, ap, ◌∙◌, ℕ, Bool, true, false, ◌==◌, length}
 use Rattle.std.proofs.Common.{List, [], ◌∷◌, ◌++◌, Option, Some, None}
 use Rattle.std.proofs.lemmas.List.{append-nil, append_assoc}
 use Rattle.sctp_wire_types.specs.declared.packet.CommonHeader.{CommonHeader}
@@ -10,7 +10,9 @@ use Rattle.sctp_reset_requests.specs.Own.{OwnView, repeated, sent_first}
 use Rattle.sctp_resets.specs.Resets.{with_own}
 use Rattle.sctp_directions.specs.Acts.{History}
 use Rattle.sctp_assoc.specs.Gather.{first_request_behind, first_request_polled, packet_bytes, repeat_polled}
-use Rattle.sctp_assoc.specs.Gather.{request_made, request_packet, requests_polled, with_request_again}
+use Rattle.sctp_assoc.specs.Gather.{first_listed, listed, request_made, request_packet, requests_polled}
+pub use Rattle.sctp_assoc.specs.Gather.{requests_of}
+use Rattle.sctp_assoc.specs.Gather.{with_request_again}
 use Rattle.sctp_assoc.specs.Gather.{with_request_sent}
 use Rattle.sctp_assoc.specs.Happened.{acks_given, acts_of_ack, requests_given}
 use Rattle.sctp_assoc.specs.Leads.{parts}
@@ -19,19 +21,6 @@ use Rattle.sctp_assoc.specs.Shown.{Shown}
 use Rattle.sctp_assoc.proofs.PacketsReadAgain.{ack_again_before}
 use Rattle.sctp_assoc.proofs.PartsOfPolls.{LeavesTheRest, both_second, first_request_if, requests_made_leave}
 use Rattle.sctp_assoc.proofs.PolledSteps.{IsSentBeside}
-
-abbrev pub listed : Option ParamOutgoingResetRequest → List ParamOutgoingResetRequest
-listed None = []
-listed (Some request) = request ∷ []
-
-abbrev first_listed : Bool → Shown → List ParamOutgoingResetRequest
-first_listed none a = if none then [] else listed (sent_first a.resets.own a.sender.queue).1
-
--- the active request again, and the oldest that was never sent
-abbrev pub requests_of : Shown → List ParamOutgoingResetRequest
-requests_of a =
-    (let b = request_made (repeat_polled a).0 in
-    listed (repeated a.resets.own).1 ++ first_listed (length b.control == 0) b)
 
 given_join : (header : CommonHeader) (xs ys : List ParamOutgoingResetRequest)
     → requests_given header xs ++ requests_given header ys ≡ requests_given header (xs ++ ys)

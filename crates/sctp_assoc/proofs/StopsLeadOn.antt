@@ -16,7 +16,7 @@ use Rattle.sctp_assoc.proofs.ClosesLeadOn.{relieved_leads}
 use Rattle.sctp_assoc.proofs.Leading.{leads_by, leads_nowhere, leads_on, past_itself}
 use Rattle.sctp_resets.proofs.OthersStay.{stopped_reading_stays}
 
-closed_half_stays : (a : Shown) (id : ℕ) → StayBeside (id ∷ []) a.streams (without_read_half_of a id).streams
+pub closed_half_stays : (a : Shown) (id : ℕ) → StayBeside (id ∷ []) a.streams (without_read_half_of a id).streams
 closed_half_stays a id = change_stays (λ s. with_halves s (without_read_half s.halves)) a.streams id
 
 stop_leads_if : (retires : Bool) (x : Beside) (a : Shown) (id : ℕ) (r : ResetsView) (h : History)

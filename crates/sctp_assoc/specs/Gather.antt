@@ -29,6 +29,7 @@ use Rattle.sctp_outbound.specs.Abandonment.{dropped_by, expired_by, expires, giv
 use Rattle.sctp_outbound.specs.Falling.{fell_before, fell_dropped, fell_expired}
 use Rattle.sctp_outbound.specs.Forward.{forward_given, forward_of, gives_forward}
 use Rattle.sctp_outbound.specs.Sender.{after_marked, after_missing, marked_by, missing_by, sent_new}
+use Rattle.sctp_reset_requests.specs.Own.{repeated, sent_first}
 use Rattle.sctp_resets.specs.Resets.{ResetsView, request_again, request_asked, request_sent}
 use Rattle.sctp_outbound_queue.specs.declared.message.Retransmission.{Retransmission}
 use Rattle.sctp_outbound_queue.specs.declared.message.Retransmission.TheVariants as causes
@@ -244,6 +245,21 @@ first_request_behind (a, packets) = after_both packets (first_request_polled (re
 unfoldable pub requests_polled : Shown → Shown × List (List ℕ)
 requests_polled a = first_request_behind (repeat_polled a)
 
+-- a request, if there is one
+abbrev pub listed : Option ParamOutgoingResetRequest → List ParamOutgoingResetRequest
+listed None = []
+listed (Some request) = request ∷ []
+
+-- the oldest that was never sent, where one has its place among what waits and may go out
+abbrev pub first_listed : Bool → Shown → List ParamOutgoingResetRequest
+first_listed none a = if none then [] else listed (sent_first a.resets.own a.sender.queue).1
+
+-- what these say: the active request again, and the oldest that was never sent
+abbrev pub requests_of : Shown → List ParamOutgoingResetRequest
+requests_of a =
+    (let b = request_made (repeat_polled a).0 in
+    listed (repeated a.resets.own).1 ++ first_listed (length b.control == 0) b)
+
 abbrev pub requests_after : Shown × List (List ChunkPayloadData) → Shown × List (List ℕ)
 requests_after (a, bundles) = after_both (datagrams_of (header_of a.handshake) bundles) (requests_polled a)
 
@@ -343,6 +359,13 @@ abbrev pub IsReadAgain : CommonHeader → Chunk → Type 0
 IsReadAgain header chunk =
     (bytes : List ℕ) → packet_bytes header chunk ≡ bytes ∷ [] → packet_at bytes ≡ Ok (single_chunk_packet header chunk)
 
+-- a request to reset streams, where it is spelled, is read again
+abbrev pub IsRequestReadAgain : CommonHeader → ParamOutgoingResetRequest → Type 0
+IsRequestReadAgain header request = IsReadAgain header (reconfig_of (params.OutgoingResetRequest request))
+
+abbrev pub AreRequestsReadAgain : CommonHeader → List ParamOutgoingResetRequest → Type 0
+AreRequestsReadAgain header requests = AllByRecursion (IsRequestReadAgain header) requests
+
 abbrev pub AreReadAgain : CommonHeader → List (List ChunkPayloadData) → Type 0
 AreReadAgain header bundles = AllByRecursion (IsReadBack header) bundles
 
@@ -369,6 +392,21 @@ ControlReadAgain controls.OwnRequest = ⊤
 abbrev pub AreControlReadAgain : List Control → Type 0
 AreControlReadAgain cs = AllByRecursion ControlReadAgain cs
 
+-- so is the request that goes out from a place among what waits, if one does
+abbrev pub GivenRequestReadAgain : Shown → Control → Type 0
+GivenRequestReadAgain a (controls.Packet c) = ⊤
+GivenRequestReadAgain a controls.OwnRequest =
+    AreRequestsReadAgain (header_of a.handshake) (listed (sent_first a.resets.own a.sender.queue).1)
+
+-- and each that goes out while all of this is given, one behind another
+abbrev pub GivenRequestsReadAgain : List Control → Shown × List (List ℕ) → Type 0
+GivenRequestsReadAgain [] x = ⊤
+GivenRequestsReadAgain (c ∷ cs) x = GivenRequestReadAgain x.0 c × GivenRequestsReadAgain cs (with_control_given x c)
+
+-- each that goes out in front of DATA
+abbrev pub ControlRequestsReadAgain : Shown → Type 0
+ControlRequestsReadAgain a = GivenRequestsReadAgain a.control (without_control a, [])
+
 abbrev pub ForwardIsReadAgain : Shown → Type 0
 ForwardIsReadAgain a = gives_forward a.sender ≡ true → IsReadAgain (header_of a.handshake) (forward_chunk a)
 
@@ -381,3 +419,9 @@ ExchangeIsReadAgain a now =
 
 abbrev pub PollIsReadAgain : Shown → ℕ → Type 0
 PollIsReadAgain a now = is_established a.state ≡ true → ExchangeIsReadAgain a now
+
+-- the requests to reset streams that go out behind DATA are read again
+abbrev pub PollRequestsReadAgain : Shown → ℕ → Type 0
+PollRequestsReadAgain a now =
+    is_established a.state ≡ true
+    → AreRequestsReadAgain (header_of a.handshake) (requests_of (data_polled a now).0)

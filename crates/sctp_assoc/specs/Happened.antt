@@ -55,7 +55,9 @@ use Rattle.sctp_assoc.specs.ResetActs.{acts_of_draining, acts_of_keeping, acts_o
 use Rattle.sctp_assoc.specs.ResetActs.{acts_of_settling}
 use Rattle.std.specs.List.{AllByRecursion, filter, position_or_len}
 use Rattle.sctp_wire.specs.DataPackets.{all_of, data_fits, datagrams_of}
-use Rattle.sctp_assoc.specs.Gather.{AckIsReadAgain, AreControlReadAgain, AreReadAgain, IsReadAgain, both_of}
+use Rattle.sctp_assoc.specs.Gather.{AckIsReadAgain, AreControlReadAgain, AreReadAgain, AreRequestsReadAgain}
+use Rattle.sctp_assoc.specs.Gather.{IsReadAgain, both_of}
+pub use Rattle.sctp_assoc.specs.Gather.{IsRequestReadAgain}
 use Rattle.sctp_assoc.specs.Gather.{control_polled, data_polled, fast_polled, forward_chunk, is_due, late_abandoned}
 use Rattle.sctp_assoc.specs.Gather.{late_dropped, marks_polled, packet_bytes, sack_packet, single_chunk_packet}
 use Rattle.sctp_assoc.specs.Gather.{spent_abandoned}
@@ -368,10 +370,6 @@ abbrev pub packets_given : Shown → List (List ChunkPayloadData) → List Param
 packets_given a bundles requests forwards b =
     (control_polled a).1 ++ exchange_given a bundles requests forwards b
 
--- a request, where it is spelled, is read again
-abbrev pub IsRequestReadAgain : CommonHeader → ParamOutgoingResetRequest → Type 0
-IsRequestReadAgain header request = IsReadAgain header (reconfig_of (params.OutgoingResetRequest request))
-
 -- a datagram of a request to reset streams that are among those that this side asked for, which is read again as that
 abbrev pub IsRequestOf : CommonHeader → OwnView → List ℕ → Type 0
 IsRequestOf header own bytes =
@@ -404,7 +402,7 @@ pub record Polls (xs : List Act) (forwards : Bool) (a : Shown) (h : History) (b 
   pub quiet : AsksForNothing a.resets.own → requests ≡ []
   -- and all of them are of streams past their span where all that this side asks for is
   pub asked : (over : ℕ → Bool) → OwnOver over a.resets.own → AllByRecursion (ParamOver over) requests
-  pub requests_again : AllByRecursion (IsRequestReadAgain (header_of a.handshake)) requests
+  pub requests_again : AreRequestsReadAgain (header_of a.handshake) requests
   pub said : packets ≡ packets_given a bundles requests forwards b
   pub data_again : is_established a.state ≡ true → AreReadAgain (header_of a.handshake) bundles
   pub ack_again : is_established a.state ≡ true → AckIsReadAgain a

@@ -9,17 +9,20 @@ ghost use Rattle.sctp_outbound.specs.Falling.{fell_before};
 ghost use Rattle.sctp_outbound.specs.Forward.{gives_forward};
 ghost use Rattle.sctp_assoc.specs.Calls.{is_established};
 ghost use Rattle.sctp_assoc.specs.Gather.{AckIsReadAgain, AreControlReadAgain, AreReadAgain, ExchangeIsReadAgain};
+ghost use Rattle.sctp_assoc.specs.Gather.{AreRequestsReadAgain, ControlRequestsReadAgain, GivenRequestReadAgain};
+ghost use Rattle.sctp_assoc.specs.Gather.{PollRequestsReadAgain, requests_of};
 ghost use Rattle.sctp_assoc.specs.Gather.{ForwardIsReadAgain, IsReadAgain, PollIsReadAgain, ack_after, ack_polled};
 ghost use Rattle.sctp_assoc.specs.Gather.{after_both, after_fast, after_marks, after_new, both_of, bundled};
 ghost use Rattle.sctp_assoc.specs.Gather.{ControlReadAgain, control_polled, data_gives, data_polled};
 ghost use Rattle.sctp_assoc.specs.Gather.{exchange_gives, exchange_polled};
 ghost use Rattle.sctp_assoc.specs.Gather.{fast_fell, fast_gives, fast_sent, forward_after, forward_polled};
-ghost use Rattle.sctp_assoc.specs.Gather.{has_something_to_give, is_due, late_abandoned, late_fell, marks_fell};
+ghost use Rattle.sctp_assoc.specs.Gather.{has_something_to_give, is_due, late_abandoned, late_fell, listed, marks_fell};
 ghost use Rattle.sctp_assoc.specs.Gather.{marks_give, marks_sent, new_fell, new_gives, new_sent};
 ghost use Rattle.sctp_assoc.specs.Gather.{packet_bytes, single_chunk_packet, polled, spent_abandoned};
 ghost use Rattle.sctp_assoc.specs.Gather.{requests_after, with_control_given, with_request_placed, with_t3};
 ghost use Rattle.sctp_assoc.specs.Gather.{without_control};
 ghost use Rattle.sctp_assoc.specs.Shown.{uses_forward_tsn};
+ghost use Rattle.sctp_reset_requests.specs.Own.{sent_first};
 ghost use Rattle.sctp_resets.specs.Resets.{request_sent};
 
 use crate::Association;
@@ -39,7 +42,9 @@ impl Association {
     pub(crate) fn gather(&mut self, now: Instant) -> Result<Vec<Bytes>, AllocError>
         ensures exact { IfOk result (λ packets. polled self.old now ≡ (self.new, packets.items)) }
         ensures control_again { OnOk result (AreControlReadAgain self.old.control) }
+        ensures control_requests { OnOk result (ControlRequestsReadAgain self.old) }
         ensures again { OnOk result (PollIsReadAgain (without_control self.old) now) }
+        ensures requests { OnOk result (PollRequestsReadAgain (control_polled self.old).0 now) }
         ensures grows { OnErr result (has_something_to_give self.old now ≡ true) }
     {
         let mut packets = Vec::new(self.alloc);
@@ -54,6 +59,7 @@ impl Association {
         requires { packets.old.items ≡ [] }
         ensures exact { OnOk result (control_polled self.old ≡ (self.new, packets.new.items)) }
         ensures again { OnOk result (AreControlReadAgain self.old.control) }
+        ensures requests { OnOk result (ControlRequestsReadAgain self.old) }
         ensures grows { OnErr result (nat_lt 0 (length self.old.control) ≡ true) }
     {
         if self.control.is_empty() {
@@ -70,6 +76,7 @@ impl Association {
         ensures exact { OnOk result
             (with_control_given (self.old, packets.old.items) control ≡ (self.new, packets.new.items)) }
         ensures again { OnOk result (ControlReadAgain control) }
+        ensures requests { OnOk result (GivenRequestReadAgain self.old control) }
     {
         match control {
             Control::Packet(packet) => {
@@ -81,8 +88,10 @@ impl Association {
 
     // Sends the oldest request that was never sent; where it may not go out it keeps its place.
     fn give_request(&mut self, packets: &mut Vec<Bytes>) -> Result<(), AllocError>
-        ensures { OnOk result (with_request_placed (self.old, packets.old.items)
+        ensures exact { OnOk result (with_request_placed (self.old, packets.old.items)
             (request_sent self.old.resets self.old.sender.queue) ≡ (self.new, packets.new.items)) }
+        ensures again { OnOk result (AreRequestsReadAgain (header_of self.old.handshake)
+            (listed (sent_first self.old.resets.own self.old.sender.queue).1)) }
     {
         match self.resets.send_first(&self.sender.queue)? {
             Some(param) => self.put_request(packets, param),
@@ -95,6 +104,7 @@ impl Association {
         ensures exact { OnOk result
             (after_both packets.old.items (exchange_polled self.old now) ≡ (self.new, packets.new.items)) }
         ensures again { OnOk result (PollIsReadAgain self.old now) }
+        ensures requests { OnOk result (PollRequestsReadAgain self.old now) }
         ensures grows { OnErr result ((is_established self.old.state && exchange_gives self.old now) ≡ true) }
     {
         if self.state == AssociationState::Established {
@@ -112,6 +122,8 @@ impl Association {
             (after_both packets.old.items (forward_after (ack_after (requests_after (data_polled self.old now))))
             ≡ (self.new, packets.new.items)) }
         ensures again { OnOk result (ExchangeIsReadAgain self.old now) }
+        ensures requests { OnOk result
+            (AreRequestsReadAgain (header_of self.old.handshake) (requests_of (data_polled self.old now).0)) }
         ensures grows { OnErr result (exchange_gives self.old now ≡ true) }
     {
         let data = self.gather_data(now)?;

@@ -1,6 +1,9 @@
 // Stream resets (RFC 6525 section 5, RFC 8831 section 6.7): what RE-CONFIG brings, and which requests go out.
-ghost use Rattle.std.specs.Prelude.{◌≡◌, ◌++◌, IfOk, OnErr, OnOk, is_some, length, nat_lt, true};
+ghost use Rattle.std.specs.Prelude.{◌≡◌, ◌==◌, ◌++◌, IfOk, OnErr, OnOk, is_some, length, nat_lt, true};
 ghost use Rattle.sctp_generations.specs.Generations.{has_skips};
+ghost use Rattle.sctp_inbound.specs.Handshake.{header_of};
+ghost use Rattle.sctp_reset_requests.specs.Own.{repeated};
+ghost use Rattle.sctp_assoc.specs.Gather.{AreRequestsReadAgain, IsRequestReadAgain, first_listed, listed, requests_of};
 ghost use Rattle.sctp_assoc.specs.Gather.{after_both, first_request_polled, repeat_polled, request_made};
 ghost use Rattle.sctp_assoc.specs.Gather.{request_packet, requests_give, requests_polled, requests_wait};
 ghost use Rattle.sctp_assoc.specs.Resets.{after_param, after_reconfig_timer, asking_if, on_reconfig, on_request};
@@ -232,6 +235,7 @@ impl Association {
     ) -> Result<(), AllocError>
         ensures same { OnOk result (self.new ≡ self.old) }
         ensures put { OnOk result (packets.new.items ≡ packets.old.items ++ request_packet self.old param) }
+        ensures again { OnOk result (IsRequestReadAgain (header_of self.old.handshake) param) }
     {
         let header = self.handshake.header();
         put_packet(
@@ -248,6 +252,7 @@ impl Association {
     pub(crate) fn gather_requests(&mut self, packets: &mut Vec<Bytes>) -> Result<(), AllocError>
         ensures exact { OnOk result
             (after_both packets.old.items (requests_polled self.old) ≡ (self.new, packets.new.items)) }
+        ensures again { OnOk result (AreRequestsReadAgain (header_of self.old.handshake) (requests_of self.old)) }
         ensures grows { OnErr result (requests_give self.old ≡ true) }
     {
         self.gather_repeat(packets)?;
@@ -258,6 +263,8 @@ impl Association {
     fn gather_repeat(&mut self, packets: &mut Vec<Bytes>) -> Result<(), AllocError>
         ensures exact { OnOk result
             (after_both packets.old.items (repeat_polled self.old) ≡ (self.new, packets.new.items)) }
+        ensures again { OnOk result
+            (AreRequestsReadAgain (header_of self.old.handshake) (listed (repeated self.old.resets.own).1)) }
         ensures grows { OnErr result (is_some self.old.resets.own.active ≡ true) }
         ensures waiting { OnOk result (self.new.resets.own.waiting ≡ self.old.resets.own.waiting) }
         ensures control { OnOk result (self.new.control ≡ self.old.control) }
@@ -281,6 +288,8 @@ impl Association {
     fn gather_first_request(&mut self, packets: &mut Vec<Bytes>) -> Result<(), AllocError>
         ensures exact { OnOk result
             (after_both packets.old.items (first_request_polled self.old) ≡ (self.new, packets.new.items)) }
+        ensures again { OnOk result (AreRequestsReadAgain (header_of self.old.handshake)
+            (first_listed (length self.old.control == 0) self.old)) }
         ensures grows { OnErr result (nat_lt 0 (length self.old.control) ≡ true) }
     {
         if self.control.is_empty() {

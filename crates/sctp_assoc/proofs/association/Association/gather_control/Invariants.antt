@@ -1,6 +1,7 @@
 use Rattle.std.proofs.Common.{◌≡◌, ◌++◌, fold}
 use Rattle.std.specs.Vec.Iter.{into_iter_items}
-use Rattle.sctp_assoc.specs.Gather.{AreControlReadAgain, control_polled, with_control_given}
+use Rattle.sctp_assoc.specs.Gather.{AreControlReadAgain, ControlRequestsReadAgain, GivenRequestsReadAgain}
+use Rattle.sctp_assoc.specs.Gather.{control_polled, with_control_given}
 use Rattle.sctp_assoc.proofs.association.Association.gather_control.Given as goal
 
 abbrev pub invariant-loop-control : goal.invariant-loop-control
@@ -9,4 +10,6 @@ invariant-loop-control l = record {
       ≡ control_polled l.fn.self;
   all : l.fn.self.control ≡ l.yielded ++ into_iter_items l.control-iterator;
   again : AreControlReadAgain l.yielded;
+  requests : GivenRequestsReadAgain (into_iter_items l.control-iterator) (l.self, l.packets.items)
+      → ControlRequestsReadAgain l.fn.self;
 }

@@ -8,6 +8,7 @@ use Rattle.sctp_assoc.proofs.MemoryTaken.{ack_is_given, data_is_given, forward_i
 use Rattle.sctp_assoc.proofs.MemoryTaken.{requests_are_given}
 use Rattle.sctp_assoc.proofs.PacketsReadAgain.{acked_as, asked_as, exact_of, poll_again}
 use Rattle.sctp_assoc.proofs.PolledSteps.{data_poll_stays}
+use Rattle.sctp_assoc.proofs.RequestsReadAgain.{data_requests_again}
 use Rattle.sctp_assoc.proofs.association.Association.gather_established.Goals as goal
 
 pub returns-clause-exact : goal.returns-clause-exact
@@ -25,6 +26,11 @@ returns-clause-again c =
     c.in_ok-data.ensures.exact c.in_ok-gather_requests.ensures.exact c.in_ok-gather_ack.ensures.exact
     c.in_ok-data.ensures.again c.in_ok-gather_ack.ensures.again
     c.in_ok-gather_forward.ensures.again
+
+pub returns-clause-requests : goal.returns-clause-requests
+returns-clause-requests c =
+    data_requests_again c.args.self.now c.gather_data.new.self c.args.now c.in_ok-data.ensures.exact
+    c.in_ok-gather_requests.ensures.again
 
 pub returns-in_err-data-clause-grows : goal.returns-in_err-data-clause-grows
 returns-in_err-data-clause-grows c =
