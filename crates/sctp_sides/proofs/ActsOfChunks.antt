@@ -1,23 +1,19 @@
--- Of which acts chunks, polls and timeouts are made.
+-- Of which acts chunks, polls and timeouts are made. (Chunks by which spans may end once more are in ActsPast.)
 use Rattle.std.proofs.Common.{◌≡◌, refl, sym, ap, ◌∙◌, subst, ◌⊎◌, ⊎_elim, inl, inr, ℕ, zero, suc, ◌<◌, ◌≤◌, ◌+◌, ◌-◌}
 use Rattle.std.proofs.Common.{◌%◌, ◌^◌, arith, Bool, true, false, eqb, ltb, ◌&&◌, not, if◌then◌else◌, List, []}
-use Rattle.std.proofs.Common.{◌∷◌, ◌++◌, find, length, nat_lt, Option, Some, None, is_some, Result, Ok, Err}
+use Rattle.std.proofs.Common.{◌∷◌, ◌++◌, find, length, Option, Some, None, Result, Ok, Err}
 use Rattle.std.specs.List.{AllByRecursion, position_or_len}
-use Rattle.std.proofs.lemmas.List.{append-nil, append_assoc}
+use Rattle.std.proofs.lemmas.List.{append_assoc}
 use Rattle.std.proofs.lemmas.Bool.{cond-true, eq-eqb, false≢true, le-leb, le-ltb, lt-ltb}
 use Rattle.sctp_wire_types.specs.declared.chunk.Chunk.{Chunk}
 use Rattle.sctp_wire_types.specs.declared.chunk.Chunk.TheVariants as chunks
-use Rattle.sctp_wire_types.specs.declared.chunk.ChunkPayloadData.{ChunkPayloadData}
 use Rattle.sctp_wire_types.specs.declared.chunk.ChunkForwardTsn.{ChunkForwardTsn}
-use Rattle.sctp_wire_types.specs.declared.chunk.ChunkIForwardTsn.{ChunkIForwardTsn}
 use Rattle.sctp_wire_types.specs.declared.chunk.ChunkInit.{ChunkInit}
 use Rattle.sctp_wire_types.specs.declared.packet.CommonHeader.{CommonHeader}
 use Rattle.sctp_wire_types.specs.declared.chunk.ChunkSelectiveAck.{ChunkSelectiveAck}
 use Rattle.sctp_wire_types.specs.declared.chunk.GapAckBlock.{GapAckBlock}
-use Rattle.sctp_wire_types.specs.declared.chunk.SkippedStream.{SkippedStream}
 use Rattle.sctp_received.specs.Received.{is_named}
 use Rattle.sctp_wire_types.specs.declared.error.Error.{Error}
-use Rattle.sctp_wire_types.specs.declared.ids.PayloadProtocolIdentifier.TheVariants as kinds
 use Rattle.sctp_wire_types.specs.Checks.{checked_chunk}
 use Rattle.sctp_serial.specs.Serial.{tsn_gt, tsn_lt, tsn_past, tsn}
 use Rattle.sctp_parts.specs.declared.timer.Timer.TheVariants as names
@@ -25,11 +21,9 @@ use Rattle.sctp_parts.specs.Timers.{expiry_of}
 use Rattle.sctp_outbound_queue.specs.declared.message.InFlight.{InFlight}
 use Rattle.sctp_outbound_queue.specs.Waiting.{Waiting}
 use Rattle.sctp_outbound_queue.specs.Outbound.{pieces_waiting}
-use Rattle.sctp_streams.specs.Stream.{StreamView, fresh_stream}
-use Rattle.sctp_streams.specs.Streams.{StreamMap, generation_left, refusal_in, stream_at}
+use Rattle.sctp_streams.specs.Streams.{StreamMap}
 use Rattle.sctp_inbound.specs.declared.receiver.AckTrigger.TheVariants as triggers
 use Rattle.sctp_inbound.specs.Handshake.{comes_back}
-use Rattle.sctp_inbound.specs.Receiver.{admits, is_new_to}
 use Rattle.sctp_outbound.specs.declared.sender.SackOutcome.{SackOutcome}
 use Rattle.sctp_outbound.specs.declared.sender.SackOutcome.TheVariants as outcomes
 use Rattle.sctp_outbound.specs.declared.sender.Sender.{Sender}
@@ -42,14 +36,12 @@ use Rattle.sctp_directions.specs.Acts.{Act, CanAll, History}
 use Rattle.sctp_assoc.specs.Leads.{Binds, parts}
 use Rattle.sctp_fit.specs.Incoming.{tsn_before}
 use Rattle.sctp_assoc.specs.Calls.{is_beginning, is_cookie_wait, is_established}
-use Rattle.sctp_resets.specs.Resets.{is_hidden}
-use Rattle.sctp_assoc.specs.Chunks.{counted_data, stream_found, taken_in, taken_where_admitted, with_new_stream}
 use Rattle.sctp_assoc.specs.Gather.{both_of, fast_polled, late_abandoned, late_dropped, marks_polled, spent_abandoned}
 use Rattle.sctp_assoc.specs.Happened.{acts_of_abandoning, acts_of_dropping, acts_of_drops, acts_of_expiry}
-use Rattle.sctp_assoc.specs.Happened.{acts_of_fast_poll, acts_of_forward, acts_of_forwarding, acts_of_giving_all_up}
+use Rattle.sctp_assoc.specs.Happened.{acts_of_fast_poll, acts_of_forwarding, acts_of_giving_all_up}
 use Rattle.sctp_assoc.specs.Happened.{acts_of_giving_up, acts_of_late, acts_of_marks_poll, acts_of_spent, acts_of_tail}
 use Rattle.sctp_assoc.specs.Happened.{acts_of_unsent, forwards_of_poll}
-use Rattle.sctp_assoc.specs.Happened.{acts_of_ack, acts_of_checked, acts_of_chunk, acts_of_data_poll, acts_of_found}
+use Rattle.sctp_assoc.specs.Happened.{acts_of_ack, acts_of_checked, acts_of_chunk, acts_of_data_poll}
 use Rattle.sctp_assoc.specs.Happened.{acts_of_missing}
 use Rattle.sctp_outbound.specs.Sacks.{reports_of}
 use Rattle.sctp_outbound.specs.Sender.{fast_room}
@@ -61,120 +53,16 @@ use Rattle.sctp_outbound_queue.specs.Message.{is_expired_unsent, picks, room_tak
 use Rattle.sctp_outbound_queue.specs.declared.message.Retransmission.{Retransmission}
 use Rattle.sctp_outbound_queue.specs.declared.message.Retransmission.TheVariants as causes
 use Rattle.sctp_assoc.specs.Happened.{acts_of_marks, acts_of_new, acts_of_outcome, acts_of_resending, acts_of_sending}
-use Rattle.sctp_assoc.specs.Happened.{acts_of_hidden, acts_of_skips_behind, acts_of_stream, acts_of_taking}
-use Rattle.sctp_assoc.specs.Happened.{acts_of_taking_where_admitted, acts_unless_faulty, acts_unless_refused}
 use Rattle.sctp_assoc.specs.Happened.{first_again, first_sent}
-use Rattle.sctp_assoc.specs.ResetActs.{acts_of_keeping, acts_of_settling}
 use Rattle.sctp_assoc.specs.Timeouts.{after_handshake_timers}
-use Rattle.sctp_sides.specs.SideLaws.{DataOpensOrTakes, ForwardsPassOver, GivesNew, GivesUpOrAgain}
-use Rattle.sctp_sides.specs.SideLaws.{GreetingsMakeThePeerKnown, IForwardsPassOver, IsOther, IsPassingOver, IsPeerKnown}
-use Rattle.sctp_sides.specs.SideLaws.{IsTaking, OnlyForwardsAheadPassOver, UnusedForwardsDoNothing}
+use Rattle.sctp_sides.specs.SideLaws.{GivesNew, GivesUpOrAgain}
+use Rattle.sctp_sides.specs.SideLaws.{GreetingsMakeThePeerKnown, IsOther, IsPeerKnown}
+use Rattle.sctp_sides.specs.SideLaws.{OnlyForwardsAheadPassOver, UnusedForwardsDoNothing}
 use Rattle.sctp_sides.specs.SideLaws.{OtherChunksDoNothing, OtherSacksDoNothing, PollsGiveAndReport, SacksAcknowledge}
 use Rattle.sctp_sides.specs.SideLaws.{TakenSacksAcknowledge, TimeoutsMarkAtMost}
-use Rattle.sctp_assoc.specs.Shown.{Shown, all_waiting, uses_forward_tsn}
-use Rattle.sctp_assoc.specs.Skipping.{skips_of, with_passed, with_skips}
+use Rattle.sctp_assoc.specs.Shown.{Shown, uses_forward_tsn}
 use Rattle.sctp_assoc.proofs.CallsLeadOn.{chunk_leads}
-use Rattle.sctp_fit.proofs.StreamsThere.{at_made}
-use Rattle.sctp_sides.specs.NoReset.{HasNoReset}
-use Rattle.sctp_sides.proofs.BeginsNoReset.{admitted_none, passed_none, same_resets, skipped_none, taken_none}
 use Rattle.sctp_sides.proofs.ForwardKinds.{acts_are_one_of}
-use Rattle.sctp_sides.proofs.WithoutResets.{no_act_of_keeping, no_act_of_kept_skips, no_act_of_settling, none_is_hidden}
-
--- DATA
-
-abbrev taking_if : Bool → Option Error → ChunkPayloadData → List Act
-taking_if credit refusal piece = if credit then acts_unless_refused refusal (Act.Took piece) else []
-
-takes_or_not : (credit : Bool) (refusal : Option Error) (piece : ChunkPayloadData)
-    → (taking_if credit refusal piece ≡ []) ⊎ (taking_if credit refusal piece ≡ Act.Took piece ∷ [])
-takes_or_not true None piece = inr refl
-takes_or_not true (Some fault) piece = inl refl
-takes_or_not false refusal piece = inl refl
-
-no_skips_behind : (x : Shown × Option Error) (id : ℕ) → HasNoReset x.0 → acts_of_skips_behind x id ≡ []
-no_skips_behind (a, None) id n = no_act_of_kept_skips id a n.kept
-no_skips_behind (a, Some fault) id n = refl
-
-nothing_settles : (x : Shown × Option Error) → HasNoReset x.0 → acts_unless_faulty x ≡ []
-nothing_settles (a, None) n = no_act_of_settling a n.in_progress n.kept
-nothing_settles (a, Some fault) n = refl
-
--- where no reset is under way, DATA that comes to its stream is taken in, and does no more
-found_acts_are : (a : Shown) (piece : ChunkPayloadData) → HasNoReset a
-    → acts_of_found (a, true) piece
-    ≡ taking_if (admits a.receiver piece.tsn (all_waiting a))
-    (refusal_in a.streams piece.stream_identifier piece a.receiver.max_receive_message_size) piece
-found_acts_are a piece n =
-    let credit = admits a.receiver piece.tsn (all_waiting a) in
-    let took = acts_of_taking a piece in
-    ap (λ (z : List Act). acts_of_taking_where_admitted a piece ++ z)
-    (nothing_settles (taken_where_admitted a piece) (admitted_none credit a piece n))
-    ∙ append-nil (acts_of_taking_where_admitted a piece)
-    ∙ ap (λ (z : List Act). if credit then took ++ z else [])
-    (no_skips_behind (taken_in a piece) piece.stream_identifier (taken_none a piece n))
-    ∙ ap (λ (z : List Act). if credit then z else []) (append-nil took)
-
-found_acts : (a : Shown) (piece : ChunkPayloadData) → HasNoReset a
-    → (acts_of_found (a, true) piece ≡ []) ⊎ (acts_of_found (a, true) piece ≡ Act.Took piece ∷ [])
-found_acts a piece n =
-    subst (λ (xs : List Act). (xs ≡ []) ⊎ (xs ≡ Act.Took piece ∷ [])) (sym (found_acts_are a piece n))
-    (takes_or_not (admits a.receiver piece.tsn (all_waiting a))
-    (refusal_in a.streams piece.stream_identifier piece a.receiver.max_receive_message_size) piece)
-
-stream_acts : (o : Option StreamView) (left : Bool) (a : Shown) (piece : ChunkPayloadData) → HasNoReset a
-    → stream_at a.streams piece.stream_identifier ≡ o → generation_left a.streams ≡ left
-    → IsTaking a piece (acts_of_stream a piece.stream_identifier
-    ++ acts_of_found (stream_found (counted_data a) piece.stream_identifier) piece)
-unfolding stream_found
-stream_acts (Some t) left a piece n e f =
-    let there : is_some (stream_at a.streams piece.stream_identifier) ≡ true = ap is_some e in
-    let same : HasNoReset (counted_data a) = same_resets a (counted_data a) refl refl n in
-    rw there (⊎_elim (λ (n : acts_of_found (counted_data a, true) piece ≡ []). inl n)
-    (λ (n : acts_of_found (counted_data a, true) piece ≡ Act.Took piece ∷ []).
-    inr (inr (inr (record { stream = t; live = e; are = n })))) (found_acts (counted_data a) piece same))
-stream_acts None false a piece n e f =
-    let there : is_some (stream_at a.streams piece.stream_identifier) ≡ false = ap is_some e in
-    rw (there, f) (inl refl)
-stream_acts None true a piece n e f =
-    let there : is_some (stream_at a.streams piece.stream_identifier) ≡ false = ap is_some e in
-    let id = piece.stream_identifier in
-    let b : Shown = with_new_stream (counted_data a) id in
-    let number = a.sender.queue.next_message_id in
-    let act = Act.Opened id number kinds.Unknown in
-    let made_at = at_made a.streams id number id kinds.Unknown e ∙ cond-true (eqb id id) _ _ (eq-eqb id id refl) in
-    let same : HasNoReset b = same_resets a b refl refl n in
-    rw (there, f) (⊎_elim
-    (λ (n : acts_of_found (b, true) piece ≡ []).
-    inr (inl (record { first = number; kind = kinds.Unknown; none = e; are = ap (λ z. act ∷ z) n })))
-    (λ (n : acts_of_found (b, true) piece ≡ Act.Took piece ∷ []). inr (inr (inl (record {
-      first = number;
-      kind = kinds.Unknown;
-      stream = fresh_stream id a.streams.next_generation number kinds.Unknown;
-      none = e;
-      live = made_at;
-      are = ap (λ z. act ∷ z) n;
-    }))))
-    (found_acts b piece same))
-
-next_acts : (next hidden : Bool) (a : Shown) (piece : ChunkPayloadData) → HasNoReset a → hidden ≡ false
-    → IsTaking a piece (if not next then acts_of_settling (counted_data a) else
-    if hidden then acts_of_hidden (counted_data a) piece else
-    acts_of_stream a piece.stream_identifier
-    ++ acts_of_found (stream_found (counted_data a) piece.stream_identifier) piece)
-next_acts false hidden a piece n e = inl (no_act_of_settling (counted_data a) n.in_progress n.kept)
-next_acts true true a piece n e = absurd (cc)
-next_acts true false a piece n e =
-    stream_acts (stream_at a.streams piece.stream_identifier) (generation_left a.streams) a piece n refl refl
-
-checked_acts : (r : Result (Unit {0}) Error) (a : Shown) (header : CommonHeader) (piece : ChunkPayloadData)
-    → HasNoReset a → IsTaking a piece (acts_of_checked r a header (chunks.Data piece))
-checked_acts (Err fault) a header piece n = inl refl
-checked_acts (Ok done) a header piece n =
-    next_acts (is_new_to a.receiver piece.tsn) (is_hidden a.resets piece.stream_identifier piece.tsn) a piece n
-    (none_is_hidden a.resets piece.stream_identifier piece.tsn n.in_progress n.kept)
-
-pub data_opens_or_takes : DataOpensOrTakes
-data_opens_or_takes a header piece n = checked_acts (checked_chunk (chunks.Data piece)) a header piece n
 
 -- SACK
 
@@ -361,39 +249,6 @@ greetings_make_the_peer_known a header init = (
 
 -- FORWARD TSN
 
-passing_acts : (a : Shown) (tsn : ℕ) (skips : List SkippedStream) → HasNoReset a
-    → acts_of_keeping tsn skips a ++ acts_of_settling (with_passed (with_skips tsn skips a) tsn) ≡ []
-passing_acts a tsn skips n =
-    let b : Shown = with_passed (with_skips tsn skips a) tsn in
-    let after : HasNoReset b = passed_none (with_skips tsn skips a) tsn (skipped_none tsn skips a n) in
-    ap (λ (z : List Act). z ++ acts_of_settling b) (no_act_of_keeping tsn skips a n.kept)
-    ∙ no_act_of_settling b after.in_progress after.kept
-
-forward_acts : (a : Shown) (tsn : ℕ) (skips : List SkippedStream) → HasNoReset a
-    → IsPassingOver tsn skips (acts_of_forward a tsn skips)
-forward_acts a tsn skips n =
-    acts_are_one_of tsn skips (λ b acts. HasNoReset b → IsPassingOver tsn skips acts) (λ b e m. inl refl)
-    (λ b e f m. inl refl)
-    (λ b e f m. inr (ap (λ (z : List Act). Act.PassedOver tsn skips ∷ z) (passing_acts b tsn skips m))) a n
-
-checked_forward : (r : Result (Unit {0}) Error) (a : Shown) (header : CommonHeader) (x : ChunkForwardTsn)
-    → HasNoReset a
-    → IsPassingOver x.new_cumulative_tsn x.streams (acts_of_checked r a header (chunks.ForwardTsn x))
-checked_forward (Err fault) a header x n = inl refl
-checked_forward (Ok done) a header x n = forward_acts a x.new_cumulative_tsn x.streams n
-
-checked_i_forward : (r : Result (Unit {0}) Error) (a : Shown) (header : CommonHeader) (x : ChunkIForwardTsn)
-    → HasNoReset a
-    → IsPassingOver x.new_cumulative_tsn (skips_of x.entries) (acts_of_checked r a header (chunks.IForwardTsn x))
-checked_i_forward (Err fault) a header x n = inl refl
-checked_i_forward (Ok done) a header x n = forward_acts a x.new_cumulative_tsn (skips_of x.entries) n
-
-pub forwards_pass_over : ForwardsPassOver
-forwards_pass_over a header x n = checked_forward (checked_chunk (chunks.ForwardTsn x)) a header x n
-
-pub i_forwards_pass_over : IForwardsPassOver
-i_forwards_pass_over a header x n = checked_i_forward (checked_chunk (chunks.IForwardTsn x)) a header x n
-
 -- one passes over only where it is used, and only what lies ahead
 
 unused_checked : (r : Result (Unit {0}) Error) (a : Shown) (header : CommonHeader) (x : ChunkForwardTsn)
@@ -406,21 +261,27 @@ unused_checked (Ok done) a header x e =
 pub unused_forwards_do_nothing : UnusedForwardsDoNothing
 unused_forwards_do_nothing a header x e = unused_checked (checked_chunk (chunks.ForwardTsn x)) a header x e
 
-no_act_is_none : (act : Act) → [] ≡ act ∷ [] → ⊥
-no_act_is_none act e = false≢true (ap (λ (xs : List Act). nat_lt 0 (length xs)) e)
+-- there is an act
+abbrev does_some : List Act → Bool
+does_some [] = false
+does_some (act ∷ acts) = true
 
-used_from : (uses : Bool) (acts : List Act) (act : Act) → acts ≡ act ∷ [] → (uses ≡ false → acts ≡ []) → uses ≡ true
-used_from true acts act e none = refl
-used_from false acts act e none = absurd (no_act_is_none act (sym (none refl) ∙ e))
+no_act_is_none : (act : Act) (behind : List Act) → [] ≡ act ∷ behind → ⊥
+no_act_is_none act behind e = false≢true (ap does_some e)
+
+used_from : (uses : Bool) (acts : List Act) (act : Act) (behind : List Act) → acts ≡ act ∷ behind
+    → (uses ≡ false → acts ≡ []) → uses ≡ true
+used_from true acts act behind e none = refl
+used_from false acts act behind e none = absurd (no_act_is_none act behind (sym (none refl) ∙ e))
 
 pub only_forwards_ahead_pass_over : OnlyForwardsAheadPassOver
-only_forwards_ahead_pass_over a h header x binds e =
+only_forwards_ahead_pass_over a h header x behind binds e =
     let leads = chunk_leads header (chunks.ForwardTsn x) a triggers.None 0 h binds in
     let can = subst (λ zs. CanAll zs (parts a h)) e leads.1.can in
     record {
       used =
           used_from (uses_forward_tsn a) (acts_of_chunk a header (chunks.ForwardTsn x))
-          (Act.PassedOver x.new_cumulative_tsn x.streams) e (unused_forwards_do_nothing a header x);
+          (Act.PassedOver x.new_cumulative_tsn x.streams) behind e (unused_forwards_do_nothing a header x);
       ahead = can.0;
     }
 

@@ -39,7 +39,8 @@ use Rattle.sctp_sides.proofs.ClosingPackets.{sack_goes_on}
 use Rattle.sctp_sides.proofs.PacketLaws.{exhaustion_closes, faults_close, lost_associations_take_nothing}
 use Rattle.sctp_sides.proofs.PacketsByChunks.{chunks_carry}
 use Rattle.sctp_sides.proofs.Status.{accepted_streams_keep_the_status, limits_keep_the_status}
-use Rattle.sctp_sides.proofs.Status.{opened_streams_keep_the_status, polls_keep_the_status}
+use Rattle.sctp_sides.proofs.Status.{opened_streams_keep_the_status}
+use Rattle.sctp_sides.proofs.StatusOfPolls.{polls_keep_the_status}
 use Rattle.sctp_sides.proofs.Status.{settings_keep_the_status, timers_keep_the_status, told_events_keep_the_status}
 use Rattle.sctp_sides.proofs.Status.{writes_keep_the_status}
 use Rattle.sctp_sides.proofs.TimersRun.{established_begins_no_more, established_shakes_no_hands}

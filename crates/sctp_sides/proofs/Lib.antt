@@ -1,8 +1,10 @@
 mod ActsOfChunks
+mod ActsPast
 mod BeginsNoReset
 mod BlocksWithin
 mod BundleLengths
 mod BundlesFilled
+mod ChunksPast
 mod ClosingCalls
 mod ClosingCauses
 mod ClosingPackets
@@ -27,18 +29,23 @@ mod NothingElseTaken
 mod NothingLate
 mod PacketLaws
 mod PacketsByChunks
+mod PastOnly
 mod PolledPackets
-mod QuietPackets
+mod PastPackets
 mod PollsInTime
 mod PollsLeave
 pub mod Proved
+mod ReconfigStatus
 mod ResetLosses
 mod RequestsTimed
 mod ResetsBeside
+mod ResetsNoMore
 mod Retries
 mod RetriesInPolls
 mod SentCounts
 mod Status
+mod StatusOfPolls
+mod StopsAndReads
 mod TimersOverChunks
 mod TimersOverPolls
 mod TimersOverRuns

@@ -1,26 +1,28 @@
 -- The packets of a poll say what its acts give out.
 use Rattle.std.proofs.Common.{◌≡◌, refl, sym, ap, ◌∙◌, inl, inr, subst, ℕ, suc, Bool, true, false, if◌then◌else◌, List}
 use Rattle.std.specs.Prelude.{⊤}
-use Rattle.std.proofs.Common.{[], ◌∷◌, ◌++◌, Option, Some, None, Result, Ok, Err, is_ok}
+use Rattle.std.proofs.Common.{arith, [], ◌∷◌, ◌++◌, Option, Some, None, Result, Ok, Err, is_ok}
 use Rattle.std.specs.Prelude.{slice_get}
 use Rattle.std.specs.List.{AllByRecursion}
-use Rattle.std.proofs.lemmas.Bool.{cond-false, cond-true}
+use Rattle.std.proofs.lemmas.Bool.{cond-false, false≢true}
 use Rattle.std.proofs.lemmas.List.{append-nil}
 use Rattle.sctp_wire_types.specs.declared.chunk.Chunk.{Chunk}
 use Rattle.sctp_wire_types.specs.declared.chunk.Chunk.TheVariants as chunks
 use Rattle.sctp_wire_types.specs.declared.chunk.ChunkPayloadData.{ChunkPayloadData}
 use Rattle.sctp_wire_types.specs.declared.error.Fault.{Fault}
+use Rattle.sctp_wire_types.specs.declared.param.Param.TheVariants as params
 use Rattle.sctp_wire_types.specs.declared.packet.CommonHeader.{CommonHeader}
 use Rattle.sctp_wire.specs.DataPackets.{IsReadBack, all_of, data_fits, datagrams_of, data_packet}
 use Rattle.sctp_wire_types.specs.declared.param.ParamOutgoingResetRequest.{ParamOutgoingResetRequest}
 use Rattle.sctp_wire.specs.Packets.{checked, packet_at, spelling, written}
 use Rattle.sctp_inbound.specs.Handshake.{header_of}
+use Rattle.sctp_resets.specs.Within.{NamesOver, OwnOver, ParamOver}
 use Rattle.sctp_model.proofs.Lists.{all_back, all_filter, all_front, all_get, all_join, all_map}
 use Rattle.sctp_model.proofs.Lists.{all_weaker}
 use Rattle.sctp_directions.specs.Acts.{Act, History, all_data_given}
 use Rattle.sctp_assoc.specs.Leads.{parts}
 use Rattle.sctp_assoc.specs.Calls.{is_established}
-use Rattle.sctp_assoc.specs.Happened.{acks_given, requests_given}
+use Rattle.sctp_assoc.specs.Happened.{IsOfControl, IsRequestReadAgain, acks_given, exchange_given, requests_given}
 use Rattle.sctp_assoc.specs.Inbound.{taken_packet}
 use Rattle.sctp_assoc.specs.declared.control.Control.{Control}
 use Rattle.sctp_assoc.specs.declared.control.Control.TheVariants as controls
@@ -28,12 +30,13 @@ use Rattle.sctp_assoc.specs.Gather.{AckIsReadAgain, AreControlReadAgain, AreRead
 use Rattle.sctp_assoc.specs.Gather.{IsPlainControl, IsReadAgain, ack_after, after_both, control_polled, data_polled}
 use Rattle.sctp_assoc.specs.Gather.{exchange_after, exchange_polled, forward_after, forward_chunk, is_due}
 use Rattle.sctp_assoc.specs.Gather.{reconfig_run_after, requests_after}
-use Rattle.sctp_assoc.specs.Resets.{with_reconfig_run}
+use Rattle.sctp_assoc.specs.Resets.{reconfig_of, with_reconfig_run}
 use Rattle.sctp_assoc.specs.Gather.{packet_bytes, single_chunk_packet, sack_chunk, sack_packet, spelled}
-use Rattle.sctp_assoc.specs.Gather.{without_control}
+use Rattle.sctp_assoc.specs.Gather.{WaitPlainly, without_control}
 use Rattle.sctp_sides.specs.NoReset.{HasNoReset, IsNoReconfig, IsOfNoReset, control_packets, packets_of_control}
 use Rattle.sctp_sides.specs.SideLaws.{IsExchanged, IsGivenBy, IsWaitingToGo, NoResetGoesOut, OfEachChunk}
 use Rattle.sctp_sides.specs.SideLaws.{PollsOutsideEstablishedGiveWhatWaits, PollsSayTheirActs, WhatWaitsGoesOutAsItIs}
+use Rattle.sctp_sides.specs.PastSpan.{AsksPast}
 use Rattle.sctp_assoc.specs.Shown.{Shown}
 use Rattle.sctp_sides.proofs.WithoutResets.{no_request_is_timed, what_waits_goes_out}
 use Rattle.sctp_sides.proofs.DueSacks.{sacks_say_what_was_taken}
@@ -138,40 +141,86 @@ module _ (a : Shown) (Is : Chunk → Type 0) (so : (chunk : Chunk) → IsWaiting
       all_weaker (λ (c : Control). (k : ℕ) × (slice_get a.control k ≡ Some c)) (WaitsSo Is) a.control
       (λ c there. waits_so c there) (each_there a.control)
 
+-- each request to reset streams goes out in a packet of its own
+abbrev AsksSo : (Chunk → Type 0) → ParamOutgoingResetRequest → Type 0
+AsksSo Is request = Is (reconfig_of (params.OutgoingResetRequest request))
+
+requests_say : (Is : Chunk → Type 0) (header : CommonHeader) (requests : List ParamOutgoingResetRequest)
+    → AllByRecursion (IsRequestReadAgain header) requests → AllByRecursion (AsksSo Is) requests
+    → AreOf Is (requests_given header requests)
+requests_say Is header [] again all = tt
+requests_say Is header (request ∷ requests) (one, more) (is, rest) =
+    let chunk : Chunk = reconfig_of (params.OutgoingResetRequest request) in
+    all_join (λ (bytes : List ℕ). OfEachChunk Is (taken_packet (packet_at bytes))) (packet_bytes header chunk)
+    (requests_given header requests) (one_says Is header chunk one is) (requests_say Is header requests more rest)
+
+-- what goes out before any DATA is of chunks that waited, and of requests of this side
+module _ (over : ℕ → Bool) (a : Shown) (Is : Chunk → Type 0) (waits : (chunk : Chunk) → IsWaitingToGo a chunk → Is chunk)
+    (asks : (chunk : Chunk) → AsksPast over chunk → Is chunk) where
+  of_control_says : OwnOver over a.resets.own → WaitPlainly a → AreControlReadAgain a.control → (bytes : List ℕ)
+      → IsOfControl a bytes → OfEachChunk Is (taken_packet (packet_at bytes))
+  of_control_says past plain again bytes (inl (k, c, there, spelled)) =
+      let is_plain = all_get IsPlainControl a.control k (controls.Packet c) there plain in
+      let read = all_get ControlReadAgain a.control k (controls.Packet c) there again is_plain in
+      (subst (AreOf Is) spelled (one_says Is c.header c.chunk read (waits c.chunk (k, c, there, refl)))).0
+  of_control_says past plain again bytes (inr (request, read, asked)) =
+      let chunk : Chunk = reconfig_of (params.OutgoingResetRequest request) in
+      let packet = single_chunk_packet (header_of a.handshake) chunk in
+      subst (λ z. OfEachChunk Is (taken_packet z)) (sym read)
+      (taken_says (is_ok (checked packet)) Is (header_of a.handshake) chunk (asks chunk (request, refl, asked over past)))
+
+  control_said_says : OwnOver over a.resets.own → WaitPlainly a → AreControlReadAgain a.control
+      → (packets : List (List ℕ)) → AllByRecursion (IsOfControl a) packets → AreOf Is packets
+  control_said_says past plain again packets all =
+      all_weaker (IsOfControl a) (λ (bytes : List ℕ). OfEachChunk Is (taken_packet (packet_at bytes))) packets
+      (of_control_says past plain again) all
+
+  all_ask_so : (requests : List ParamOutgoingResetRequest) → AllByRecursion (ParamOver over) requests
+      → AllByRecursion (AsksSo Is) requests
+  all_ask_so requests all =
+      all_weaker (ParamOver over) (AsksSo Is) requests
+      (λ request past. asks (reconfig_of (params.OutgoingResetRequest request)) (request, refl, past)) all
+
+-- what goes out in Established alone
+given_if : (established : Bool) (Is : Chunk → Type 0) (packets : List (List ℕ))
+    → (established ≡ true → AreOf Is packets) → AreOf Is (if established then packets else [])
+given_if true Is packets says = says refl
+given_if false Is packets says = tt
+
 pub polls_say_their_acts : PollsSayTheirActs
-polls_say_their_acts acts forwards a b h packets =
-    λ none plain again established binds polls.
-    let Is : Chunk → Type 0 = IsGivenBy acts forwards a b h in
+polls_say_their_acts over acts forwards a b h packets =
+    λ past plain again control binds polls.
+    let Is : Chunk → Type 0 = IsGivenBy over acts forwards a b h in
     let Of : List ℕ → Type 0 = λ (bytes : List ℕ). OfEachChunk Is (taken_packet (packet_at bytes)) in
     let header = header_of a.handshake in
     let pieces = datagrams_of header polls.bundles in
+    let requests = requests_given header polls.requests in
     let forward : List (List ℕ) = if forwards then packet_bytes header (forward_chunk b) else [] in
-    let quiet : polls.requests ≡ [] = polls.quiet (none.waiting, none.queued, none.active) in
-    let exchanged =
-    cond-true (is_established a.state) (pieces ++ requests_given header polls.requests ++ acks_given a ++ forward) []
-    established
-    ∙ ap (λ (rs : List ParamOutgoingResetRequest). pieces ++ requests_given header rs ++ acks_given a ++ forward) quiet
-    ∙ ap (λ (z : List (List ℕ)). z ++ acks_given a ++ forward) (append-nil pieces) in
-    let said : packets ≡ control_packets a.control ++ (pieces ++ acks_given a ++ forward) =
-    polls.said
-    ∙ ap (λ (z : List (List ℕ)). (control_polled a).1 ++ z) exchanged
-    ∙ ap (λ (x : Shown × List (List ℕ)). x.1 ++ (pieces ++ acks_given a ++ forward)) (what_waits_goes_out a none) in
+    let waits : (chunk : Chunk) → IsWaitingToGo a chunk → Is chunk = λ chunk there. inl there in
+    let asks : (chunk : Chunk) → AsksPast over chunk → Is chunk = λ chunk asked. inr (inr asked) in
+    let asked : AreOf Is requests =
+    requests_say Is header polls.requests polls.requests_again
+    (all_ask_so over a Is waits asks polls.requests (polls.asked over past.own)) in
+    let exchanged : is_established a.state ≡ true → AreOf Is (pieces ++ requests ++ acks_given a ++ forward) =
+    λ established.
     let IsData : ChunkPayloadData → Type 0 = λ (c : ChunkPayloadData). Is (chunks.Data c) in
     let given =
     all_weaker (λ (c : ChunkPayloadData). (k : ℕ) × (slice_get (all_data_given acts (parts a h)) k ≡ Some c)) IsData
-    (all_data_given acts (parts a h)) (λ c there. inr there) (each_there (all_data_given acts (parts a h))) in
+    (all_data_given acts (parts a h)) (λ c there. inr (inl (established, there)))
+    (each_there (all_data_given acts (parts a h))) in
     let carried : AllByRecursion IsData (all_of polls.bundles) =
     subst (AllByRecursion IsData) (sym polls.joined)
     (all_filter IsData data_fits (all_data_given acts (parts a h)) given) in
-    subst (AreOf Is) (sym said)
-    (all_join Of (control_packets a.control) (pieces ++ acks_given a ++ forward)
-    (waiting_say Is a.control again plain (all_wait_so a Is (λ chunk there. inl there)))
-    (all_join Of (pieces ++ acks_given a) forward
-    (all_join Of pieces (acks_given a)
-    (data_says Is header polls.bundles (polls.data_again established) carried)
+    all_join Of (pieces ++ requests ++ acks_given a) forward
+    (all_join Of (pieces ++ requests) (acks_given a)
+    (all_join Of pieces requests (data_says Is header polls.bundles (polls.data_again established) carried) asked)
     (ack_says (is_due a.receiver.ack_state) Is a refl (polls.ack_again established)
-    (λ due. inr (due, sacks_say_what_was_taken a h binds))))
-    (forward_says forwards Is header b polls.forward_again (λ due. inr (due, refl)))))
+    (λ due. inr (inl (established, (due, sacks_say_what_was_taken a h binds))))))
+    (forward_says forwards Is header b polls.forward_again (λ due. inr (inl (established, (due, refl))))) in
+    subst (AreOf Is) (sym polls.said)
+    (all_join Of (control_polled a).1 (exchange_given a polls.bundles polls.requests forwards b)
+    (control_said_says over a Is waits asks past.own plain again (control_polled a).1 control)
+    (given_if (is_established a.state) Is (pieces ++ requests ++ acks_given a ++ forward) exchanged))
 
 exchange_nothing : (a : Shown) (now : ℕ) → is_established a.state ≡ false → exchange_polled a now ≡ (a, [])
 unfolding exchange_polled
@@ -217,6 +266,14 @@ exchanged_no_reset acts forwards a b h (chunks.Reconfig x) g = absurd g
 exchanged_no_reset acts forwards a b h (chunks.IForwardTsn x) g = tt
 exchanged_no_reset acts forwards a b h (chunks.Other kind flags value) g = tt
 
+-- where no stream is past its span no request can be of such streams alone, as each names some
+none_is_named : (ids : List ℕ) → NamesOver (λ (s : ℕ). false) ids → ⊥
+none_is_named [] names = absurd (omega (arith, names.some))
+none_is_named (id ∷ ids) names = false≢true names.each.0
+
 pub no_reset_goes_out : NoResetGoesOut
 no_reset_goes_out acts forwards a b h chunk none (inl waits) = waiting_no_reset a chunk none waits
-no_reset_goes_out acts forwards a b h chunk none (inr given) = exchanged_no_reset acts forwards a b h chunk given
+no_reset_goes_out acts forwards a b h chunk none (inr (inl given)) =
+    exchanged_no_reset acts forwards a b h chunk given.1
+no_reset_goes_out acts forwards a b h chunk none (inr (inr (request, same, past))) =
+    absurd (none_is_named request.stream_identifiers past)

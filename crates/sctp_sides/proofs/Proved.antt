@@ -5,7 +5,7 @@ pub use Rattle.sctp_sides.proofs.PacketLaws.{lost_associations_take_nothing, no_
 pub use Rattle.sctp_sides.proofs.PacketLaws.{packets_end}
 pub use Rattle.sctp_assoc.proofs.CallsLeadOn.{open_leads_on, poll_leads_on}
 pub use Rattle.sctp_assoc.proofs.ReadsLeadOn.{plain_read_leads, read_leads_on}
-pub use Rattle.sctp_sides.proofs.QuietPackets.{quiet_packets_carry}
+pub use Rattle.sctp_sides.proofs.PastPackets.{past_packets_carry}
 pub use Rattle.sctp_assoc.proofs.CallsLeadOn.{timeouts_lead_on}
 pub use Rattle.sctp_assoc.proofs.CallsLeadOn.{close_leads_on, accept_leads_on, limit_leads_on, setting_leads_on}
 pub use Rattle.sctp_assoc.proofs.CallsLeadOn.{write_leads_on}
@@ -17,16 +17,21 @@ pub use Rattle.sctp_assoc.proofs.PollsLeadOn.{forwardings_are_silent, reports_ar
 pub use Rattle.sctp_sides.proofs.PolledPackets.{polls_outside_established_give_what_waits, polls_say_their_acts}
 pub use Rattle.sctp_sides.proofs.PolledPackets.{no_reset_goes_out, what_waits_goes_out_as_it_is}
 pub use Rattle.sctp_sides.proofs.WithoutResets.{what_waits_goes_out}
-pub use Rattle.sctp_sides.proofs.ActsOfChunks.{data_opens_or_takes, greetings_make_the_peer_known}
-pub use Rattle.sctp_sides.proofs.ActsOfChunks.{forwards_pass_over, i_forwards_pass_over}
+pub use Rattle.sctp_sides.proofs.ActsPast.{data_opens_or_takes, forwards_pass_over, i_forwards_pass_over}
+pub use Rattle.sctp_sides.proofs.ActsPast.{reconfigs_end_past}
+pub use Rattle.sctp_sides.proofs.ActsOfChunks.{greetings_make_the_peer_known}
 pub use Rattle.sctp_sides.proofs.ActsOfChunks.{only_forwards_ahead_pass_over, other_chunks_do_nothing}
 pub use Rattle.sctp_sides.proofs.ActsOfChunks.{unused_forwards_do_nothing}
 pub use Rattle.sctp_sides.proofs.ActsOfChunks.{other_sacks_do_nothing, polls_give_and_report, sacks_acknowledge}
 pub use Rattle.sctp_sides.proofs.ActsOfChunks.{taken_sacks_acknowledge, timeouts_mark_at_most}
-pub use Rattle.sctp_sides.proofs.Status.{opened_streams_keep_the_status, polls_keep_the_status, reads_keep_the_status}
+pub use Rattle.sctp_sides.proofs.Status.{opened_streams_keep_the_status, reads_keep_the_status}
+pub use Rattle.sctp_sides.proofs.ReconfigStatus.{reconfigs_keep_the_status}
+pub use Rattle.sctp_sides.proofs.StatusOfPolls.{polls_keep_the_status}
 pub use Rattle.sctp_sides.proofs.Status.{accepted_streams_keep_the_status, limits_keep_the_status}
 pub use Rattle.sctp_sides.proofs.Status.{reads_change_streams_alone, settings_keep_the_status}
 pub use Rattle.sctp_sides.proofs.Status.{timers_keep_the_status, told_events_keep_the_status, writes_keep_the_status}
+pub use Rattle.sctp_sides.proofs.ChunksPast.{chunks_reset_no_more}
+pub use Rattle.sctp_sides.proofs.StopsAndReads.{reads_lead_on, stops_are_in_established, stops_keep_the_status}
 pub use Rattle.sctp_sides.proofs.ClosingCalls.{accepted_streams_do_not_close, closes_close, settings_do_not_close}
 pub use Rattle.sctp_sides.proofs.HandshakeTruth.{greetings_stay_true}
 pub use Rattle.sctp_sides.proofs.FirstBegunRuns.{created_sides_have_nothing_to_send, joined_sides_have_nothing_to_send}
@@ -38,3 +43,11 @@ pub use Rattle.sctp_sides.proofs.BeginsNoReset.{opened_streams_begin_no_reset, o
 pub use Rattle.sctp_sides.proofs.BeginsNoReset.{packet_ends_begin_no_reset, polls_begin_no_reset, reads_begin_no_reset}
 pub use Rattle.sctp_sides.proofs.BeginsNoReset.{settings_begin_no_reset, timers_begin_no_reset}
 pub use Rattle.sctp_sides.proofs.BeginsNoReset.{told_events_begin_no_reset, writes_begin_no_reset}
+pub use Rattle.sctp_sides.proofs.PastOnly.{more_are_past, more_is_asked_past, no_reset_is_past_only}
+pub use Rattle.sctp_sides.proofs.ResetsNoMore.{accepted_streams_reset_no_more, closes_end_resets}
+pub use Rattle.sctp_sides.proofs.ResetsNoMore.{closes_reset_no_more, exhaustion_ends_resets}
+pub use Rattle.sctp_sides.proofs.ResetsNoMore.{exhaustion_resets_no_more, limits_reset_no_more}
+pub use Rattle.sctp_sides.proofs.ResetsNoMore.{open_stops_reset_that_stream, opened_streams_reset_no_more}
+pub use Rattle.sctp_sides.proofs.ResetsNoMore.{packet_ends_reset_no_more, polls_reset_no_more, reads_end_past}
+pub use Rattle.sctp_sides.proofs.ResetsNoMore.{reads_reset_no_more, settings_reset_no_more, stops_reset_that_stream}
+pub use Rattle.sctp_sides.proofs.ResetsNoMore.{timers_reset_no_more, told_events_reset_no_more, writes_reset_no_more}

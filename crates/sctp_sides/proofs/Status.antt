@@ -1,9 +1,7 @@
 -- Calls leave an association's status as it is: whether it failed, its state, whether it was lost, and its payload
 -- size.
-use Rattle.std.proofs.Common.{◌++◌, ◌≡◌, refl, sym, ap, ◌∙◌, ℕ, zero, suc, Bool, true, false, ◌&&◌, if◌then◌else◌, not}
-use Rattle.std.proofs.Common.{eqb}
-use Rattle.std.proofs.Common.{List, [], ◌∷◌, fold, length, take, Option, Some, None, is_some, Result, Ok, Err}
-use Rattle.std.specs.List.{AllByRecursion}
+use Rattle.std.proofs.Common.{◌++◌, ◌≡◌, refl, sym, ap, ◌∙◌, ℕ, Bool, true, false, ◌&&◌, if◌then◌else◌, not}
+use Rattle.std.proofs.Common.{List, [], ◌∷◌, Option, Some, None, is_some, Result, Ok, Err}
 use Rattle.sctp_wire_types.specs.declared.chunk.Chunk.{Chunk}
 use Rattle.sctp_wire_types.specs.declared.chunk.Chunk.TheVariants as chunks
 use Rattle.sctp_wire_types.specs.declared.chunk.ChunkPayloadData.{ChunkPayloadData}
@@ -13,7 +11,7 @@ use Rattle.sctp_wire_types.specs.declared.packet.CommonHeader.{CommonHeader}
 use Rattle.sctp_wire_types.specs.Checks.{checked_chunk}
 use Rattle.sctp_parts.specs.declared.state.AssociationState.TheVariants as states
 use Rattle.sctp_parts.specs.declared.timer.Timer.TheVariants as names
-use Rattle.sctp_parts.specs.Timers.{expiry_of, started}
+use Rattle.sctp_parts.specs.Timers.{expiry_of}
 use Rattle.sctp_wire_types.specs.declared.chunk.ChunkReconfig.{ChunkReconfig}
 use Rattle.sctp_wire_types.specs.declared.event.StreamResetError.TheVariants as failures
 use Rattle.sctp_wire_types.specs.declared.param.Param.{Param}
@@ -22,7 +20,6 @@ use Rattle.sctp_wire_types.specs.declared.param.ParamOutgoingResetRequest.{Param
 use Rattle.sctp_wire_types.specs.declared.param.ParamReconfigResponse.{ParamReconfigResponse}
 use Rattle.sctp_wire_types.specs.declared.param.ReconfigResult.{ReconfigResult}
 use Rattle.sctp_wire_types.specs.declared.param.ReconfigResult.TheVariants as results
-use Rattle.sctp_wire.specs.DataPackets.{datagrams_of}
 use Rattle.sctp_reset_requests.specs.declared.own_request.OwnRequest.{OwnRequest}
 use Rattle.sctp_reset_requests.specs.Debts.{DebtsView}
 use Rattle.sctp_reset_requests.specs.Own as own_requests
@@ -32,7 +29,7 @@ use Rattle.sctp_resets.specs.declared.performing.Handled.{Handled}
 use Rattle.sctp_resets.specs.declared.performing.Settled.{Settled}
 use Rattle.sctp_resets.specs.Answers.{Answering, answering, failed_each, with_told}
 use Rattle.sctp_resets.specs.Resets.{Beside, ResetsView, Resetting, event_told, given_up, given_up_where, is_hidden}
-use Rattle.sctp_resets.specs.Resets.{is_retiring, refusal_of, request_again, request_asked, request_sent, responded}
+use Rattle.sctp_resets.specs.Resets.{is_retiring, refusal_of, responded}
 use Rattle.sctp_resets.specs.Resets.{skips_done, skips_done_of}
 use Rattle.sctp_resets.specs.Resets as resets
 use Rattle.sctp_assoc.specs.declared.control.Control.{Control}
@@ -41,17 +38,11 @@ use Rattle.sctp_assoc.specs.declared.inbound.Flow.{Flow}
 use Rattle.sctp_assoc.specs.Calls.{drained_behind}
 use Rattle.sctp_assoc.specs.Chunks.{asks, asks_or_faults, deferred_unless, deferred_where_admitted, taken_unless}
 use Rattle.sctp_assoc.specs.Chunks.{taken_where_admitted, then_skips, with_message}
-use Rattle.sctp_assoc.specs.Gather.{IsPlainControl, ack_after, control_polled, exchange_after, first_request_behind}
-use Rattle.sctp_assoc.specs.Gather.{first_request_polled, forward_after, forward_polled, is_due, reconfig_run_after}
-use Rattle.sctp_assoc.specs.Gather.{repeat_polled, request_made, requests_after, requests_polled, with_control_given}
-use Rattle.sctp_assoc.specs.Gather.{with_request_again, with_request_asked, with_request_placed, with_request_sent}
-use Rattle.sctp_assoc.specs.Gather.{without_last}
+use Rattle.sctp_assoc.specs.Gather.{IsPlainControl}
 use Rattle.sctp_assoc.specs.Resets.{after_param, after_reconfig_timer, asking_if, asks_again, behind_first, behind_params}
 use Rattle.sctp_assoc.specs.Resets.{channels_of, gives_up, handled_with, on_reconfig, on_request, on_response}
 use Rattle.sctp_assoc.specs.Resets.{reconfig_expired, responded_with, responding, settled, settled_with, stopped_if}
 use Rattle.sctp_assoc.specs.Resets.{with_answer, with_beside, with_resetting}
-use Rattle.sctp_outbound_queue.specs.Waiting.{Waiting}
-use Rattle.sctp_outbound_queue.specs.Outbound.{pieces_waiting}
 use Rattle.sctp_streams.specs.declared.event.Event.{Event}
 use Rattle.sctp_streams.specs.Stream.{StreamView}
 use Rattle.sctp_streams.specs.Streams.{StreamMap, generation_left, is_readable_in, pushed_in, refusal_in}
@@ -62,12 +53,11 @@ use Rattle.sctp_inbound.specs.Handshake.{comes_back, has_issued, header_of}
 use Rattle.sctp_inbound.specs.Receiver.{admits, is_new_to, taken_to}
 use Rattle.sctp_outbound.specs.declared.sender.SackOutcome.{SackOutcome}
 use Rattle.sctp_outbound.specs.declared.sender.SackOutcome.TheVariants as outcomes
-use Rattle.sctp_outbound.specs.declared.sender.Sender.{Sender}
 use Rattle.sctp_wire_types.specs.declared.chunk.GapAckBlock.{GapAckBlock}
 use Rattle.sctp_assoc.proofs.ActsKeepOffsets.{blocks_size, size_stays}
-use Rattle.sctp_outbound.specs.Sender.{acknowledged, can_send_next, tsns_up_to}
+use Rattle.sctp_outbound.specs.Sender.{acknowledged, tsns_up_to}
 use Rattle.sctp_outbound.specs.Sacks.{before_acknowledging}
-use Rattle.sctp_outbound.specs.Sender.{sack_outcome, sent_new, sent_one, sent_within}
+use Rattle.sctp_outbound.specs.Sender.{sack_outcome}
 use Rattle.sctp_wire_types.specs.declared.ids.PayloadProtocolIdentifier.{PayloadProtocolIdentifier}
 use Rattle.sctp_assoc.specs.Calls.{accepted_from, after_ack_delay, after_t3, event_from, is_beginning, is_cookie_echoed}
 use Rattle.sctp_assoc.specs.Calls.{is_cookie_wait, is_established, retransmits, t3_expired, written_at}
@@ -77,20 +67,17 @@ use Rattle.sctp_assoc.specs.Chunks.{told}
 use Rattle.sctp_assoc.specs.Handshake.{after_t1_init, cookie_queued, echoed, information_returned, init_queued}
 use Rattle.sctp_assoc.specs.Handshake.{on_cookie_ack, on_cookie_echo, on_heartbeat, on_init, on_init_ack, sends_cookie}
 use Rattle.sctp_assoc.specs.Handshake.{sends_init, t1_cookie_expired, t1_init_expired}
-use Rattle.sctp_assoc.specs.Gather.{ack_polled, data_polled, exchange_polled, single_chunk_packet}
-use Rattle.sctp_assoc.specs.Gather.{without_control}
+use Rattle.sctp_assoc.specs.Gather.{single_chunk_packet}
 use Rattle.sctp_assoc.specs.Skipping.{acknowledged_at_once as forward_acknowledged}
 use Rattle.sctp_assoc.specs.Skipping.{asks_behind, on_forward, skips_of, unrecognized_chunk, with_passed, with_skip}
 use Rattle.sctp_assoc.specs.Skipping.{with_skips}
 use Rattle.sctp_wire_types.specs.declared.chunk.SkippedStream.{SkippedStream}
-use Rattle.sctp_outbound.specs.Abandonment.{abandoned_of, first_dropped, tail_given_up}
 use Rattle.sctp_sides.proofs.ForwardKinds.{forward_is_one_of}
-use Rattle.sctp_sides.proofs.GivingUpKeeps.{KeptByPolls, data_poll_kept}
 use Rattle.sctp_sides.proofs.WithoutResets.{nothing_is_drained}
 use Rattle.sctp_assoc.specs.Timeouts.{after_handshake_timers}
 use Rattle.sctp_sides.specs.SideLaws.{IsSameStatus, KeepsWorking, Leaves, LimitsKeepTheStatus}
 use Rattle.sctp_sides.specs.SideLaws.{OpenedStreamsKeepTheStatus}
-use Rattle.sctp_sides.specs.SideLaws.{PollsKeepTheStatus, ReadsChangeStreamsAlone}
+use Rattle.sctp_sides.specs.SideLaws.{ReadsChangeStreamsAlone}
 use Rattle.sctp_sides.specs.SideLaws.{ReadsKeepTheStatus, TimersKeepTheStatus, ToldEventsKeepTheStatus}
 use Rattle.sctp_sides.specs.SideLaws.{AcceptedStreamsKeepTheStatus, SettingsKeepTheStatus, WritesKeepTheStatus}
 use Rattle.sctp_sides.specs.Meeting.{IsTruthful, SaysWhatIsSo, WaitsTruthfully, stage_of}
@@ -99,9 +86,8 @@ use Rattle.sctp_inbound.specs.Greeting.{first_cookie, information_of, init_of}
 use Rattle.sctp_wire_types.specs.declared.chunk.ChunkInit.{ChunkInit}
 use Rattle.sctp_wire_types.specs.declared.chunk.ChunkHeartbeat.{ChunkHeartbeat}
 use Rattle.sctp_wire.specs.Packets.{packet_is_plain}
-use Rattle.sctp_assoc.specs.Shown.{Shown, all_waiting, uses_forward_tsn}
-use Rattle.sctp_assoc.proofs.PartsOfPolls.{both_first}
-use Rattle.sctp_sides.proofs.HandshakeTruth.{keeps_saying, truthful_silent, truthful_still, truthful_still_by}
+use Rattle.sctp_assoc.specs.Shown.{Shown, all_waiting}
+use Rattle.sctp_sides.proofs.HandshakeTruth.{keeps_saying, truthful_still}
 use Rattle.sctp_sides.proofs.HandshakeTruth.{truthful_with}
 use Rattle.sctp_assoc.proofs.StreamReads.{message_given}
 use Rattle.sctp_assoc.specs.Calls.{after_read}
@@ -111,7 +97,7 @@ use Rattle.sctp_streams.specs.Streams.{read_in}
 use Rattle.std.proofs.Common.{subst}
 use Rattle.std.proofs.lemmas.Bool.{true≢false, false≢true}
 
-status_same : (a : Shown) → IsSameStatus a a
+pub status_same : (a : Shown) → IsSameStatus a a
 status_same a = record {
   failed = refl;
   state = refl;
@@ -136,7 +122,7 @@ status_by a b f s l z c h side = record {
   truthful = λ own t. truthful_still own a b t (keeps_saying a b side h) c;
 }
 
-status_on : (a b c : Shown) → IsSameStatus a b → IsSameStatus b c → IsSameStatus a c
+pub status_on : (a b c : Shown) → IsSameStatus a b → IsSameStatus b c → IsSameStatus a c
 status_on a b c x y = record {
   failed = y.failed ∙ x.failed;
   state = y.state ∙ x.state;
@@ -150,7 +136,7 @@ status_on a b c x y = record {
 -- Resets of streams
 
 -- more waits, and is truthful
-more_waits : (a : Shown) (c : Control) → ((own : ℕ) → IsTruthful own a → WaitsTruthfully own (stage_of a) c)
+pub more_waits : (a : Shown) (c : Control) → ((own : ℕ) → IsTruthful own a → WaitsTruthfully own (stage_of a) c)
     → IsPlainControl c → IsSameStatus a (record a { control = a.control ++ c ∷ [] })
 more_waits a c says plain = record {
   failed = refl;
@@ -164,13 +150,13 @@ more_waits a c says plain = record {
       (keeps_saying a (record a { control = a.control ++ c ∷ [] }) refl refl) refl (says own t) plain;
 }
 
-beside_status : (a : Shown) (x : Beside) → IsSameStatus a (with_beside a x)
+pub beside_status : (a : Shown) (x : Beside) → IsSameStatus a (with_beside a x)
 beside_status a (r, m, events) = status_by a _ refl refl refl refl refl refl refl
 
 resetting_status : (a : Shown) (x : Resetting) → IsSameStatus a (with_resetting a x)
 resetting_status a (r, c) = status_by a _ refl refl refl refl refl refl refl
 
-asking_status : (made : Bool) (a : Shown) → IsSameStatus a (asking_if made a)
+pub asking_status : (made : Bool) (a : Shown) → IsSameStatus a (asking_if made a)
 asking_status true a = more_waits a controls.OwnRequest (λ own t. tt) tt
 asking_status false a = status_same a
 
@@ -514,8 +500,7 @@ kind_leaves header (chunks.CookieEcho x) a trigger now =
     refl refl refl
 kind_leaves header chunks.CookieAck a trigger now = cookie_ack_works (is_cookie_echoed a.state) a trigger refl
 kind_leaves header chunks.ShutdownComplete a trigger now = works_same a
-kind_leaves header (chunks.Reconfig x) a trigger now =
-    let same = reconfig_status a x trigger in works_by a _ same.failed same.lost same.size
+kind_leaves header (chunks.Reconfig x) a trigger now = reconfig_status a x trigger
 kind_leaves header (chunks.ForwardTsn x) a trigger now =
     forward_status a x.new_cumulative_tsn x.streams trigger now
 kind_leaves header (chunks.IForwardTsn x) a trigger now =
@@ -536,7 +521,7 @@ same_leaves (chunks.Error x) a = works_same a
 same_leaves (chunks.CookieEcho x) a = works_same a
 same_leaves chunks.CookieAck a = works_same a
 same_leaves chunks.ShutdownComplete a = works_same a
-same_leaves (chunks.Reconfig x) a = works_same a
+same_leaves (chunks.Reconfig x) a = status_same a
 same_leaves (chunks.ForwardTsn x) a = status_same a
 same_leaves (chunks.IForwardTsn x) a = status_same a
 same_leaves (chunks.Other kind flags value) a = works_same a
@@ -551,208 +536,7 @@ pub chunk_leaves : (header : CommonHeader) (c : Chunk) (a : Shown) (trigger : Ac
 unfolding on_chunk
 chunk_leaves header c a trigger now = checked_leaves (checked_chunk c) header c a trigger now
 
--- A poll for packets
-
-sent_one_size : (ms : List Waiting) (s : Sender) (now : ℕ)
-    → (sent_one ms s now).0.max_payload_size ≡ s.max_payload_size
-unfolding sent_one
-sent_one_size [] s now = refl
-sent_one_size (m ∷ ms) s now = refl
-
-sent_within_if : (c : Bool) (x y : Sender × List ChunkPayloadData) (size : ℕ) → x.0.max_payload_size ≡ size
-    → y.0.max_payload_size ≡ size
-    → (if c then x else y).0.max_payload_size ≡ size
-sent_within_if true x y size e f = e
-sent_within_if false x y size e f = f
-
-sent_within_size : (n : ℕ) (s : Sender) (now : ℕ) → (sent_within n s now).0.max_payload_size ≡ s.max_payload_size
-sent_within_size zero s now = refl
-sent_within_size (suc n) s now =
-    let one = sent_one s.queue.pending s now in
-    let rest = sent_within n one.0 now in
-    sent_within_if (can_send_next s) (rest.0, one.1 ++ rest.1) (s, []) s.max_payload_size
-    (sent_within_size n one.0 now ∙ sent_one_size s.queue.pending s now) refl
-
-sent_new_size : (s : Sender) (now : ℕ) → (sent_new s now).0.max_payload_size ≡ s.max_payload_size
-sent_new_size s now =
-    sent_within_if (eqb (length s.queue.in_flight) 0 && not (can_send_next s)) (sent_one s.queue.pending s now)
-    (sent_within (pieces_waiting s.queue.pending) s now) s.max_payload_size
-    (sent_one_size s.queue.pending s now) (sent_within_size (pieces_waiting s.queue.pending) s now)
-
--- what a poll sends and gives up are pieces of the same size
-abbrev HasSize : ℕ → Sender × StreamMap → Type 0
-HasSize n x = x.0.max_payload_size ≡ n
-
-abandoned_size : (n t : ℕ) (x : Sender × StreamMap) → HasSize n x → HasSize n (abandoned_of t x)
-unfolding abandoned_of
-abandoned_size n t (s, m) e = e
-
-tail_size : (n now : ℕ) (x : Sender × StreamMap) → HasSize n x → HasSize n (tail_given_up now x)
-unfolding tail_given_up
-tail_size n now (s, m) e = e
-
-dropped_size : (n now : ℕ) (x : Sender × StreamMap) → HasSize n x → HasSize n (first_dropped now x)
-unfolding first_dropped
-dropped_size n now (s, m) e = e
-
-polls_keep_the_size : (n : ℕ) (uses : Bool) (now : ℕ) → KeptByPolls (HasSize n) uses now
-polls_keep_the_size n uses now = record {
-  given_up = λ used. record {
-    started = λ x e. e;
-    abandoned = abandoned_size n;
-    tail = tail_size n now;
-    dropped = dropped_size n now;
-  };
-  marked = λ x e. e;
-  missing = λ x e. e;
-  new = λ x e. sent_new_size x.0 now ∙ e;
-}
-
-data_polled_status : (a : Shown) (now : ℕ) → IsSameStatus a (data_polled a now).0
-unfolding data_polled
-data_polled_status a now =
-    let size = a.sender.max_payload_size in
-    status_by a _ refl refl refl
-    (data_poll_kept (HasSize size) now a (polls_keep_the_size size (uses_forward_tsn a) now) refl) refl refl refl
-
--- requests to reset streams, and what they leave waiting
-
-fewer_waits : (P : Control → Type 0) (n : ℕ) (cs : List Control) → AllByRecursion P cs → AllByRecursion P (take n cs)
-fewer_waits P zero cs all = tt
-fewer_waits P (suc n) [] all = tt
-fewer_waits P (suc n) (c ∷ cs) (one, rest) = (one, fewer_waits P n cs rest)
-
-again_status : (a : Shown) (x : ResetsView × Option ParamOutgoingResetRequest)
-    → IsSameStatus a (with_request_again a x).0
-again_status a (r, None) = status_by a _ refl refl refl refl refl refl refl
-again_status a (r, Some param) = status_by a _ refl refl refl refl refl refl refl
-
-made_status : (a : Shown) (x : ResetsView × Bool) → IsSameStatus a (with_request_asked a x)
-made_status a (r, made) =
-    status_on a (record a { resets = r }) _ (status_by a (record a { resets = r }) refl refl refl refl refl refl refl)
-    (asking_status made (record a { resets = r }))
-
-sent_status : (a : Shown) (x : ResetsView × Option ParamOutgoingResetRequest) → IsSameStatus a (with_request_sent a x).0
-sent_status a (r, None) = status_by a _ refl refl refl refl refl refl refl
-sent_status a (r, Some param) = record {
-  failed = refl;
-  state = refl;
-  lost = refl;
-  size = refl;
-  side = refl;
-  handshake = refl;
-  truthful = λ own t.
-      truthful_still_by own a (record a { resets = r; control = without_last a.control }) t
-      (keeps_saying a (record a { resets = r; control = without_last a.control }) refl refl)
-      (λ P all. fewer_waits P _ a.control all);
-}
-
-first_request_status : (none : Bool) (a : Shown)
-    → IsSameStatus a (if none then (a, []) else with_request_sent a (request_sent a.resets a.sender.queue)).0
-first_request_status true a = status_same a
-first_request_status false a = sent_status a (request_sent a.resets a.sender.queue)
-
-behind_first_status : (x : Shown × List (List ℕ)) → IsSameStatus x.0 (first_request_behind x).0
-behind_first_status (a, packets) =
-    let b : Shown = request_made a in
-    subst (IsSameStatus a) (sym (both_first packets (first_request_polled b)))
-    (status_on a b _ (made_status a (request_asked a.resets a.sender.queue))
-    (first_request_status (eqb (length b.control) 0) b))
-
-requests_status : (a : Shown) → IsSameStatus a (requests_polled a).0
-unfolding requests_polled
-requests_status a =
-    status_on a (repeat_polled a).0 _ (again_status a (request_again a.resets)) (behind_first_status (repeat_polled a))
-
-requests_after_status : (x : Shown × List (List ChunkPayloadData)) → IsSameStatus x.0 (requests_after x).0
-requests_after_status (a, bundles) =
-    subst (IsSameStatus a) (sym (both_first (datagrams_of (header_of a.handshake) bundles) (requests_polled a)))
-    (requests_status a)
-
--- the acknowledgement and FORWARD TSN
-
-ack_status : (due : Bool) (a : Shown) → is_due a.receiver.ack_state ≡ due → IsSameStatus a (ack_polled a).0
-unfolding ack_polled
-ack_status true a e = rw e (status_by a _ refl refl refl refl refl refl refl)
-ack_status false a e = rw e (status_same a)
-
-ack_after_status : (x : Shown × List (List ℕ)) → IsSameStatus x.0 (ack_after x).0
-ack_after_status (a, packets) =
-    subst (IsSameStatus a) (sym (both_first packets (ack_polled a)))
-    (ack_status (is_due a.receiver.ack_state) a refl)
-
-forward_after_status : (x : Shown × List (List ℕ)) → IsSameStatus x.0 (forward_after x).0
-unfolding forward_polled
-forward_after_status (a, packets) = status_by a _ refl refl refl refl refl refl refl
-
-exchanged_if : (established : Bool) (a : Shown) (now : ℕ) → is_established a.state ≡ established
-    → IsSameStatus a (exchange_polled a now).0
-unfolding exchange_polled
-exchanged_if true a now e =
-    let x = data_polled a now in
-    let y = requests_after x in
-    let z = ack_after y in
-    rw e (status_on a x.0 _ (data_polled_status a now)
-    (status_on x.0 y.0 _ (requests_after_status x)
-    (status_on y.0 z.0 _ (ack_after_status y) (forward_after_status z))))
-exchanged_if false a now e = rw e (status_same a)
-
-without_status : (a : Shown) → IsSameStatus a (without_control a)
-without_status a = record {
-  failed = refl;
-  state = refl;
-  lost = refl;
-  size = refl;
-  side = refl;
-  handshake = refl;
-  truthful = λ own t. truthful_silent own a (without_control a) t (keeps_saying a (without_control a) refl refl) refl;
-}
-
--- what waits, one after another
-
-placed_status : (x : Shown × List (List ℕ)) (y : ResetsView × Option ParamOutgoingResetRequest)
-    → IsSameStatus x.0 (with_request_placed x y).0
-placed_status (a, packets) (r, None) =
-    status_on a (record a { resets = r }) _ (status_by a (record a { resets = r }) refl refl refl refl refl refl refl)
-    (more_waits (record a { resets = r }) controls.OwnRequest (λ own t. tt) tt)
-placed_status (a, packets) (r, Some param) = status_by a _ refl refl refl refl refl refl refl
-
-given_status : (x : Shown × List (List ℕ)) (c : Control) → IsSameStatus x.0 (with_control_given x c).0
-given_status (a, packets) (controls.Packet c) = status_same a
-given_status (a, packets) controls.OwnRequest =
-    placed_status (a, packets) (request_sent a.resets a.sender.queue)
-
-all_given_status : (cs : List Control) (x : Shown × List (List ℕ)) → IsSameStatus x.0 (fold with_control_given x cs).0
-all_given_status [] x = status_same x.0
-all_given_status (c ∷ cs) x =
-    status_on x.0 (with_control_given x c).0 _ (given_status x c) (all_given_status cs (with_control_given x c))
-
-control_status : (a : Shown) → IsSameStatus a (control_polled a).0
-control_status a =
-    status_on a (without_control a) _ (without_status a) (all_given_status a.control (without_control a, []))
-
-exchange_after_status : (x : Shown × List (List ℕ)) (now : ℕ) → IsSameStatus x.0 (exchange_after x now).0
-exchange_after_status (a, packets) now =
-    subst (IsSameStatus a) (sym (both_first packets (exchange_polled a now)))
-    (exchanged_if (is_established a.state) a now refl)
-
-run_status : (runs : Bool) (a b : Shown) → IsSameStatus a b → IsSameStatus a (if runs then b else a)
-run_status true a b same = same
-run_status false a b same = status_same a
-
-run_after_status : (x : Shown × List (List ℕ)) (now : ℕ) → IsSameStatus x.0 (reconfig_run_after x now).0
-run_after_status (a, packets) now =
-    run_status _ a (record a { timers = started names.Reconfig now a.estimate.rto a.timers })
-    (status_by a _ refl refl refl refl refl refl refl)
-
-pub polls_keep_the_status : PollsKeepTheStatus
-polls_keep_the_status a now =
-    let x = control_polled a in
-    let y = exchange_after x now in
-    status_on a x.0 _ (control_status a)
-    (status_on x.0 y.0 _ (exchange_after_status x now) (run_after_status y now))
-
--- The other calls
+-- Calls of the application
 
 pub opened_streams_keep_the_status : OpenedStreamsKeepTheStatus
 opened_streams_keep_the_status a id kind = status_by a _ refl refl refl refl refl refl refl

@@ -2,18 +2,13 @@
 -- still do.
 use Rattle.std.specs.Prelude.{◌≡◌, ℕ, Bool, true, false, List, Option, Some, None, ⊤}
 use Rattle.std.specs.List.{AllByRecursion}
-use Rattle.std.specs.declared.net.ip_addr.IpAddr.{IpAddr}
-use Rattle.std.specs.declared.net.socket_addr.SocketAddr.{SocketAddr}
 use Rattle.sctp_wire_types.specs.declared.chunk.Chunk.{Chunk}
 use Rattle.sctp_wire_types.specs.declared.chunk.Chunk.TheVariants as chunks
-use Rattle.sctp_wire_types.specs.declared.chunk.ChunkInit.{ChunkInit}
-use Rattle.sctp_wire_types.specs.declared.config.ServerConfig.{ServerConfig}
 use Rattle.sctp_wire_types.specs.declared.ids.PayloadProtocolIdentifier.{PayloadProtocolIdentifier}
 use Rattle.sctp_wire_types.specs.declared.packet.CommonHeader.{CommonHeader}
 use Rattle.sctp_wire_types.specs.declared.param.Param.{Param}
 use Rattle.sctp_wire_types.specs.declared.param.Param.TheVariants as params
 use Rattle.sctp_wire_types.specs.declared.param.ParamOutgoingResetRequest.{ParamOutgoingResetRequest}
-use Rattle.sctp_wire_types.specs.Config.{Settings}
 use Rattle.sctp_streams.specs.declared.event.AssociationError.{AssociationError}
 use Rattle.sctp_streams.specs.declared.setting.Setting.{Setting}
 use Rattle.sctp_inbound.specs.declared.receiver.AckTrigger.{AckTrigger}
@@ -25,7 +20,6 @@ use Rattle.sctp_assoc.specs.Calls.{accepted_stream, adjusted, event_polled, open
 use Rattle.sctp_assoc.specs.Calls.{with_max_send_message_size, written}
 use Rattle.sctp_assoc.specs.Chunks.{ended, on_chunk}
 use Rattle.sctp_assoc.specs.Closing.{closed_by, exhausted, is_closed_state}
-use Rattle.sctp_assoc.specs.Created.{created, joined}
 use Rattle.sctp_assoc.specs.Gather.{polled}
 use Rattle.sctp_assoc.specs.Resets.{reconfig_of}
 use Rattle.sctp_assoc.specs.Shown.{Shown}

@@ -36,10 +36,11 @@ use Rattle.sctp_assoc.specs.Calls.{with_max_send_message_size}
 use Rattle.sctp_assoc.specs.Calls.{write_refusal, written}
 use Rattle.sctp_assoc.specs.Chunks.{after_packet, ended, on_chunk}
 use Rattle.sctp_outbound.specs.Sacks.{reports_of}
-use Rattle.sctp_assoc.specs.Happened.{Polls, acts_of_chunk, acts_of_poll, acts_of_timeouts, forwards_of_poll}
+use Rattle.sctp_assoc.specs.Happened.{IsOfControl, Polls, acts_of_chunk, acts_of_poll, acts_of_timeouts}
+use Rattle.sctp_assoc.specs.Happened.{forwards_of_poll}
 use Rattle.sctp_assoc.specs.Inbound.{taken_packet}
 use Rattle.sctp_sides.specs.Meeting.{Greets, GreetsOn, HasCome, IsEstablished, IsNoEarlier, IsTruthful, Stage, stage_of}
-use Rattle.sctp_assoc.specs.Gather.{AreControlReadAgain, WaitPlainly, is_due, polled, without_control}
+use Rattle.sctp_assoc.specs.Gather.{AreControlReadAgain, WaitPlainly, control_polled, is_due, polled, without_control}
 use Rattle.sctp_directions.specs.Reports.{SaysWhatWasTaken}
 use Rattle.sctp_assoc.specs.ResetActs.{acts_of_draining}
 use Rattle.sctp_assoc.specs.Shown.{Shown, uses_forward_tsn}
@@ -222,12 +223,13 @@ pub record KeepsWorking (a b : Shown) : Type 0 where
   pub lost : b.lost ≡ a.lost
   pub size : b.sender.max_payload_size ≡ a.sender.max_payload_size
 
--- What a chunk leaves: DATA, SACKs and FORWARD TSNs leave the status.
+-- What a chunk leaves: DATA, SACKs, FORWARD TSNs and RE-CONFIGs leave the status.
 abbrev pub Leaves : Chunk → Shown → Shown → Type 0
 Leaves (chunks.Data piece) a b = IsSameStatus a b
 Leaves (chunks.SelectiveAck sack) a b = IsSameStatus a b
 Leaves (chunks.ForwardTsn forward) a b = IsSameStatus a b
 Leaves (chunks.IForwardTsn forward) a b = IsSameStatus a b
+Leaves (chunks.Reconfig reconfig) a b = IsSameStatus a b
 Leaves chunk a b = KeepsWorking a b
 
 -- A chunk of a packet with this header made b of the association a: by its acts, and where it is one of a handshake,
@@ -532,17 +534,20 @@ IsExchanged acts forwards a b h (chunks.SelectiveAck sack) =
 IsExchanged acts forwards a b h (chunks.ForwardTsn forward) = (forwards ≡ true) × (forward ≡ forward_of b.sender)
 IsExchanged acts forwards a b h chunk = ⊥
 
--- one of these chunks, one that waited to go out, or a request of this side to reset streams past their span
+-- one that waited to go out, in Established one of these chunks, or a request of this side to reset streams past their
+-- span
 abbrev pub IsGivenBy : (ℕ → Bool) → List Act → Bool → Shown → Shown → History → Chunk → Type 0
 IsGivenBy over acts forwards a b h chunk =
-    IsWaitingToGo a chunk ⊎ (IsExchanged acts forwards a b h chunk ⊎ AsksPast over chunk)
+    IsWaitingToGo a chunk
+    ⊎ (((is_established a.state ≡ true) × IsExchanged acts forwards a b h chunk) ⊎ AsksPast over chunk)
 
 -- The packets of a poll are of such chunks alone, in whatever state, where its resets concern streams past their span
 -- alone.
 abbrev pub PollsSayTheirActs : Type 0
 PollsSayTheirActs = (over : ℕ → Bool) (acts : List Act) (forwards : Bool) (a b : Shown) (h : History)
     (packets : List (List ℕ))
-    → ResetsOver over a.resets → WaitPlainly a → AreControlReadAgain a.control → Binds a h
+    → ResetsOver over a.resets → WaitPlainly a → AreControlReadAgain a.control
+    → AllByRecursion (IsOfControl a) (control_polled a).1 → Binds a h
     → Polls acts forwards a h b packets
     → AllByRecursion
     (λ (bytes : List ℕ). OfEachChunk (IsGivenBy over acts forwards a b h) (taken_packet (packet_at bytes))) packets

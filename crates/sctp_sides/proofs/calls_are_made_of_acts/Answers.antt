@@ -5,11 +5,14 @@ use Rattle.sctp_sides.proofs.Proved.{polls_say_their_acts, sacks_acknowledge, ta
 use Rattle.sctp_sides.proofs.Proved.{timeouts_mark_at_most, what_waits_goes_out_as_it_is}
 use Rattle.sctp_sides.proofs.Proved.{forwards_pass_over, i_forwards_pass_over, only_forwards_ahead_pass_over}
 use Rattle.sctp_sides.proofs.Proved.{unused_forwards_do_nothing}
-use Rattle.sctp_sides.proofs.Proved.{no_reset_goes_out}
+use Rattle.sctp_sides.proofs.Proved.{no_reset_goes_out, reconfigs_end_past}
 use Rattle.sctp_sides.proofs.calls_are_made_of_acts.Goals as goal
 
 pub returns-clause-data : goal.returns-clause-data
 returns-clause-data c = data_opens_or_takes
+
+pub returns-clause-reconfig : goal.returns-clause-reconfig
+returns-clause-reconfig c = reconfigs_end_past
 
 pub returns-clause-sack : goal.returns-clause-sack
 returns-clause-sack c = sacks_acknowledge

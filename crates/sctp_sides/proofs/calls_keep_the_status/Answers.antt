@@ -2,6 +2,7 @@ use Rattle.sctp_sides.proofs.Proved.{opened_streams_keep_the_status, polls_keep_
 use Rattle.sctp_sides.proofs.Proved.{accepted_streams_keep_the_status, limits_keep_the_status, settings_keep_the_status}
 use Rattle.sctp_sides.proofs.Proved.{timers_keep_the_status, told_events_keep_the_status, writes_keep_the_status}
 use Rattle.sctp_sides.proofs.Proved.{reads_change_streams_alone}
+use Rattle.sctp_sides.proofs.Proved.{reads_lead_on, stops_are_in_established, stops_keep_the_status}
 use Rattle.sctp_sides.proofs.calls_keep_the_status.Goals as goal
 
 pub returns-clause-opened : goal.returns-clause-opened
@@ -24,6 +25,15 @@ returns-clause-read c = reads_keep_the_status
 
 pub returns-clause-read_plainly : goal.returns-clause-read_plainly
 returns-clause-read_plainly c = reads_change_streams_alone
+
+pub returns-clause-read_on : goal.returns-clause-read_on
+returns-clause-read_on c = reads_lead_on
+
+pub returns-clause-stopped : goal.returns-clause-stopped
+returns-clause-stopped c = stops_keep_the_status
+
+pub returns-clause-stopped_where : goal.returns-clause-stopped_where
+returns-clause-stopped_where c = stops_are_in_established
 
 pub returns-clause-told : goal.returns-clause-told
 returns-clause-told c = told_events_keep_the_status

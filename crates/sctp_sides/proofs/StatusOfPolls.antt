@@ -1,0 +1,232 @@
+-- A poll for packets leaves an association's status as it is.
+use Rattle.std.proofs.Common.{◌++◌, ◌≡◌, refl, sym, ◌∙◌, ℕ, zero, suc, Bool, true, false, ◌&&◌, if◌then◌else◌, not, eqb}
+use Rattle.std.proofs.Common.{List, [], ◌∷◌, fold, length, take, Option, Some, None, subst}
+use Rattle.std.specs.List.{AllByRecursion}
+use Rattle.sctp_wire_types.specs.declared.chunk.ChunkPayloadData.{ChunkPayloadData}
+use Rattle.sctp_parts.specs.declared.timer.Timer.TheVariants as names
+use Rattle.sctp_parts.specs.Timers.{started}
+use Rattle.sctp_wire_types.specs.declared.param.ParamOutgoingResetRequest.{ParamOutgoingResetRequest}
+use Rattle.sctp_wire.specs.DataPackets.{datagrams_of}
+use Rattle.sctp_resets.specs.Resets.{ResetsView, request_again, request_asked, request_sent}
+use Rattle.sctp_assoc.specs.declared.control.Control.{Control}
+use Rattle.sctp_assoc.specs.declared.control.Control.TheVariants as controls
+use Rattle.sctp_assoc.specs.Gather.{ack_after, ack_polled, control_polled, data_polled, exchange_after, exchange_polled}
+use Rattle.sctp_assoc.specs.Gather.{first_request_behind, first_request_polled, forward_after, forward_polled, is_due}
+use Rattle.sctp_assoc.specs.Gather.{reconfig_run_after, repeat_polled, request_made, requests_after, requests_polled}
+use Rattle.sctp_assoc.specs.Gather.{with_control_given, with_request_again, with_request_asked, with_request_placed}
+use Rattle.sctp_assoc.specs.Gather.{with_request_sent, without_control, without_last}
+use Rattle.sctp_outbound_queue.specs.Waiting.{Waiting}
+use Rattle.sctp_outbound_queue.specs.Outbound.{pieces_waiting}
+use Rattle.sctp_streams.specs.Streams.{StreamMap}
+use Rattle.sctp_inbound.specs.Handshake.{header_of}
+use Rattle.sctp_outbound.specs.declared.sender.Sender.{Sender}
+use Rattle.sctp_outbound.specs.Sender.{can_send_next, sent_new, sent_one, sent_within}
+use Rattle.sctp_assoc.specs.Calls.{is_established}
+use Rattle.sctp_outbound.specs.Abandonment.{abandoned_of, first_dropped, tail_given_up}
+use Rattle.sctp_sides.proofs.GivingUpKeeps.{KeptByPolls, data_poll_kept}
+use Rattle.sctp_sides.specs.SideLaws.{IsSameStatus, PollsKeepTheStatus}
+use Rattle.sctp_assoc.specs.Shown.{Shown, uses_forward_tsn}
+use Rattle.sctp_assoc.proofs.PartsOfPolls.{both_first}
+use Rattle.sctp_sides.proofs.HandshakeTruth.{keeps_saying, truthful_silent, truthful_still_by}
+use Rattle.sctp_sides.proofs.Status.{asking_status, more_waits, status_by, status_on, status_same}
+
+-- DATA
+
+sent_one_size : (ms : List Waiting) (s : Sender) (now : ℕ)
+    → (sent_one ms s now).0.max_payload_size ≡ s.max_payload_size
+unfolding sent_one
+sent_one_size [] s now = refl
+sent_one_size (m ∷ ms) s now = refl
+
+sent_within_if : (c : Bool) (x y : Sender × List ChunkPayloadData) (size : ℕ) → x.0.max_payload_size ≡ size
+    → y.0.max_payload_size ≡ size
+    → (if c then x else y).0.max_payload_size ≡ size
+sent_within_if true x y size e f = e
+sent_within_if false x y size e f = f
+
+sent_within_size : (n : ℕ) (s : Sender) (now : ℕ) → (sent_within n s now).0.max_payload_size ≡ s.max_payload_size
+sent_within_size zero s now = refl
+sent_within_size (suc n) s now =
+    let one = sent_one s.queue.pending s now in
+    let rest = sent_within n one.0 now in
+    sent_within_if (can_send_next s) (rest.0, one.1 ++ rest.1) (s, []) s.max_payload_size
+    (sent_within_size n one.0 now ∙ sent_one_size s.queue.pending s now) refl
+
+sent_new_size : (s : Sender) (now : ℕ) → (sent_new s now).0.max_payload_size ≡ s.max_payload_size
+sent_new_size s now =
+    sent_within_if (eqb (length s.queue.in_flight) 0 && not (can_send_next s)) (sent_one s.queue.pending s now)
+    (sent_within (pieces_waiting s.queue.pending) s now) s.max_payload_size
+    (sent_one_size s.queue.pending s now) (sent_within_size (pieces_waiting s.queue.pending) s now)
+
+-- what a poll sends and gives up are pieces of the same size
+abbrev HasSize : ℕ → Sender × StreamMap → Type 0
+HasSize n x = x.0.max_payload_size ≡ n
+
+abandoned_size : (n t : ℕ) (x : Sender × StreamMap) → HasSize n x → HasSize n (abandoned_of t x)
+unfolding abandoned_of
+abandoned_size n t (s, m) e = e
+
+tail_size : (n now : ℕ) (x : Sender × StreamMap) → HasSize n x → HasSize n (tail_given_up now x)
+unfolding tail_given_up
+tail_size n now (s, m) e = e
+
+dropped_size : (n now : ℕ) (x : Sender × StreamMap) → HasSize n x → HasSize n (first_dropped now x)
+unfolding first_dropped
+dropped_size n now (s, m) e = e
+
+polls_keep_the_size : (n : ℕ) (uses : Bool) (now : ℕ) → KeptByPolls (HasSize n) uses now
+polls_keep_the_size n uses now = record {
+  given_up = λ used. record {
+    started = λ x e. e;
+    abandoned = abandoned_size n;
+    tail = tail_size n now;
+    dropped = dropped_size n now;
+  };
+  marked = λ x e. e;
+  missing = λ x e. e;
+  new = λ x e. sent_new_size x.0 now ∙ e;
+}
+
+data_polled_status : (a : Shown) (now : ℕ) → IsSameStatus a (data_polled a now).0
+unfolding data_polled
+data_polled_status a now =
+    let size = a.sender.max_payload_size in
+    status_by a _ refl refl refl
+    (data_poll_kept (HasSize size) now a (polls_keep_the_size size (uses_forward_tsn a) now) refl) refl refl refl
+
+-- requests to reset streams, and what they leave waiting
+
+fewer_waits : (P : Control → Type 0) (n : ℕ) (cs : List Control) → AllByRecursion P cs → AllByRecursion P (take n cs)
+fewer_waits P zero cs all = tt
+fewer_waits P (suc n) [] all = tt
+fewer_waits P (suc n) (c ∷ cs) (one, rest) = (one, fewer_waits P n cs rest)
+
+again_status : (a : Shown) (x : ResetsView × Option ParamOutgoingResetRequest)
+    → IsSameStatus a (with_request_again a x).0
+again_status a (r, None) = status_by a _ refl refl refl refl refl refl refl
+again_status a (r, Some param) = status_by a _ refl refl refl refl refl refl refl
+
+made_status : (a : Shown) (x : ResetsView × Bool) → IsSameStatus a (with_request_asked a x)
+made_status a (r, made) =
+    status_on a (record a { resets = r }) _ (status_by a (record a { resets = r }) refl refl refl refl refl refl refl)
+    (asking_status made (record a { resets = r }))
+
+sent_status : (a : Shown) (x : ResetsView × Option ParamOutgoingResetRequest) → IsSameStatus a (with_request_sent a x).0
+sent_status a (r, None) = status_by a _ refl refl refl refl refl refl refl
+sent_status a (r, Some param) = record {
+  failed = refl;
+  state = refl;
+  lost = refl;
+  size = refl;
+  side = refl;
+  handshake = refl;
+  truthful = λ own t.
+      truthful_still_by own a (record a { resets = r; control = without_last a.control }) t
+      (keeps_saying a (record a { resets = r; control = without_last a.control }) refl refl)
+      (λ P all. fewer_waits P _ a.control all);
+}
+
+first_request_status : (none : Bool) (a : Shown)
+    → IsSameStatus a (if none then (a, []) else with_request_sent a (request_sent a.resets a.sender.queue)).0
+first_request_status true a = status_same a
+first_request_status false a = sent_status a (request_sent a.resets a.sender.queue)
+
+behind_first_status : (x : Shown × List (List ℕ)) → IsSameStatus x.0 (first_request_behind x).0
+behind_first_status (a, packets) =
+    let b : Shown = request_made a in
+    subst (IsSameStatus a) (sym (both_first packets (first_request_polled b)))
+    (status_on a b _ (made_status a (request_asked a.resets a.sender.queue))
+    (first_request_status (eqb (length b.control) 0) b))
+
+requests_status : (a : Shown) → IsSameStatus a (requests_polled a).0
+unfolding requests_polled
+requests_status a =
+    status_on a (repeat_polled a).0 _ (again_status a (request_again a.resets)) (behind_first_status (repeat_polled a))
+
+requests_after_status : (x : Shown × List (List ChunkPayloadData)) → IsSameStatus x.0 (requests_after x).0
+requests_after_status (a, bundles) =
+    subst (IsSameStatus a) (sym (both_first (datagrams_of (header_of a.handshake) bundles) (requests_polled a)))
+    (requests_status a)
+
+-- the acknowledgement and FORWARD TSN
+
+ack_status : (due : Bool) (a : Shown) → is_due a.receiver.ack_state ≡ due → IsSameStatus a (ack_polled a).0
+unfolding ack_polled
+ack_status true a e = rw e (status_by a _ refl refl refl refl refl refl refl)
+ack_status false a e = rw e (status_same a)
+
+ack_after_status : (x : Shown × List (List ℕ)) → IsSameStatus x.0 (ack_after x).0
+ack_after_status (a, packets) =
+    subst (IsSameStatus a) (sym (both_first packets (ack_polled a)))
+    (ack_status (is_due a.receiver.ack_state) a refl)
+
+forward_after_status : (x : Shown × List (List ℕ)) → IsSameStatus x.0 (forward_after x).0
+unfolding forward_polled
+forward_after_status (a, packets) = status_by a _ refl refl refl refl refl refl refl
+
+exchanged_if : (established : Bool) (a : Shown) (now : ℕ) → is_established a.state ≡ established
+    → IsSameStatus a (exchange_polled a now).0
+unfolding exchange_polled
+exchanged_if true a now e =
+    let x = data_polled a now in
+    let y = requests_after x in
+    let z = ack_after y in
+    rw e (status_on a x.0 _ (data_polled_status a now)
+    (status_on x.0 y.0 _ (requests_after_status x)
+    (status_on y.0 z.0 _ (ack_after_status y) (forward_after_status z))))
+exchanged_if false a now e = rw e (status_same a)
+
+without_status : (a : Shown) → IsSameStatus a (without_control a)
+without_status a = record {
+  failed = refl;
+  state = refl;
+  lost = refl;
+  size = refl;
+  side = refl;
+  handshake = refl;
+  truthful = λ own t. truthful_silent own a (without_control a) t (keeps_saying a (without_control a) refl refl) refl;
+}
+
+-- what waits, one after another
+
+placed_status : (x : Shown × List (List ℕ)) (y : ResetsView × Option ParamOutgoingResetRequest)
+    → IsSameStatus x.0 (with_request_placed x y).0
+placed_status (a, packets) (r, None) =
+    status_on a (record a { resets = r }) _ (status_by a (record a { resets = r }) refl refl refl refl refl refl refl)
+    (more_waits (record a { resets = r }) controls.OwnRequest (λ own t. tt) tt)
+placed_status (a, packets) (r, Some param) = status_by a _ refl refl refl refl refl refl refl
+
+given_status : (x : Shown × List (List ℕ)) (c : Control) → IsSameStatus x.0 (with_control_given x c).0
+given_status (a, packets) (controls.Packet c) = status_same a
+given_status (a, packets) controls.OwnRequest =
+    placed_status (a, packets) (request_sent a.resets a.sender.queue)
+
+all_given_status : (cs : List Control) (x : Shown × List (List ℕ)) → IsSameStatus x.0 (fold with_control_given x cs).0
+all_given_status [] x = status_same x.0
+all_given_status (c ∷ cs) x =
+    status_on x.0 (with_control_given x c).0 _ (given_status x c) (all_given_status cs (with_control_given x c))
+
+control_status : (a : Shown) → IsSameStatus a (control_polled a).0
+control_status a =
+    status_on a (without_control a) _ (without_status a) (all_given_status a.control (without_control a, []))
+
+exchange_after_status : (x : Shown × List (List ℕ)) (now : ℕ) → IsSameStatus x.0 (exchange_after x now).0
+exchange_after_status (a, packets) now =
+    subst (IsSameStatus a) (sym (both_first packets (exchange_polled a now)))
+    (exchanged_if (is_established a.state) a now refl)
+
+run_status : (runs : Bool) (a b : Shown) → IsSameStatus a b → IsSameStatus a (if runs then b else a)
+run_status true a b same = same
+run_status false a b same = status_same a
+
+run_after_status : (x : Shown × List (List ℕ)) (now : ℕ) → IsSameStatus x.0 (reconfig_run_after x now).0
+run_after_status (a, packets) now =
+    run_status _ a (record a { timers = started names.Reconfig now a.estimate.rto a.timers })
+    (status_by a _ refl refl refl refl refl refl refl)
+
+pub polls_keep_the_status : PollsKeepTheStatus
+polls_keep_the_status a now =
+    let x = control_polled a in
+    let y = exchange_after x now in
+    status_on a x.0 _ (control_status a)
+    (status_on x.0 y.0 _ (exchange_after_status x now) (run_after_status y now))
