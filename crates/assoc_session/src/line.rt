@@ -149,6 +149,7 @@ fn stream_step(name: &str, side: Side2, id: u16) -> Option<Step> {
     match name {
         "read" => Some(Step::Read { side, id }),
         "finish" => Some(Step::Finish { side, id }),
+        "stop" => Some(Step::Stop { side, id }),
         "buffered" => Some(Step::BufferedAmount { side, id }),
         _ => None,
     }

@@ -27,6 +27,7 @@ quiet_call step r side w initial quiet = record {
   passes = λ o n. absurd n;
   adds_alone = λ s. (quiet (other_side side) s).0;
   reads_alone = λ s. (quiet (other_side side) s).1;
+  ends = λ s e. absurd e;
 }
 
 -- what a step writes, and what it reads
@@ -66,6 +67,7 @@ module _ (step : Step) (side : Side2) (id : ℕ) (named : Option PayloadProtocol
     reads_alone =
         λ s. subst (λ o. None ≡ message_answered o r (other_side side) s) (sym none)
         (none_answered r (other_side side) s);
+    ends = λ s e. absurd e;
   }
 
 -- A read reads at its side what its reply says, and nothing at the other side.
@@ -94,4 +96,5 @@ read_call step side id r w initial none e = record {
   adds_alone =
       λ s. subst (λ o. [] ≡ accepted_of o r (other_side side) s w) (sym none) (none_accepted r (other_side side) s w);
   reads_alone = λ s. subst (λ o. None ≡ message_answered o r (other_side side) s) (sym e) (read_there r side id s);
+  ends = λ s n. absurd n;
 }

@@ -5,7 +5,7 @@ use Rattle.sctp_model.specs.Safe.{IsWithin}
 use Rattle.sctp_assoc.specs.Leads.{Binds, parts}
 use Rattle.sctp_directions.specs.Acts.{History}
 use Rattle.sctp_sides.specs.Meeting.{IsNoEarlier, Stage, stage_of}
-use Rattle.sctp_sides.specs.NoReset.{HasNoReset}
+use Rattle.sctp_sides.specs.PastSpan.{ResetsPastOnly}
 use Rattle.sctp_sides.specs.SideLaws.{IsSameStatus}
 use Rattle.sctp_assoc.specs.Shown.{Shown}
 use Rattle.sctp_pair.specs.Fits.{IsSilent, StagesAgree, StandsOpen}
@@ -21,6 +21,7 @@ pub record Underway (x : Surroundings) (B : By → ℕ → Type 0) (a : Shown) :
   pub goes_coming : Goes B x.coming coming2
   pub within_out : IsWithin out2
   pub within_coming : IsWithin coming2
+  pub both : (s : ℕ) → out2.over s ≡ coming2.over s
   pub places_same : out2.sender.plan.places ≡ x.out.sender.plan.places
   pub coming_still : coming2.sender ≡ x.coming.sender
   pub silent : IsSilent x.there coming2
@@ -31,9 +32,9 @@ pub record Underway (x : Surroundings) (B : By → ℕ → Type 0) (a : Shown) :
 
 -- the same association, or one that differs beside its directions, stands open where its parts hold
 unfoldable pub stands_by : (x : Surroundings) {a b : Shown} (k : History) {out coming : Direction}
-    → (s : StandsOpen x.loose x.own x.peer a out coming) → IsSameStatus a b → HasNoReset b → Binds b k
+    → (s : StandsOpen x.loose x.own x.peer a out coming) → IsSameStatus a b → ResetsPastOnly x.coming.over b → Binds b k
     → (k.peer ≡ s.past.peer) → x.out.sender.plan.size ≡ out.sender.plan.size → Holds x (parts b k) → OpenAt x b
-stands_by x {a} {b} k s same none binds met size h = record {
+stands_by x {a} {b} k s same past binds met size h = record {
   past = k;
   own_is = h.own_is;
   peer_is = λ known. met ∙ s.peer_is (known_before a b same known);
@@ -45,7 +46,7 @@ stands_by x {a} {b} k s same none binds met size h = record {
   size = size ∙ s.size ∙ sym same.size;
   between = h.between;
   in_order = h.in_order;
-  no_reset = none;
+  resets = past;
 }
 
 -- where the status stays, so does what the stage says

@@ -13,18 +13,21 @@ use Rattle.sctp_model.specs.Safe.{IsWithin}
 use Rattle.sctp_fit.specs.Growth.{IsAtReceiver, IsAtSender}
 use Rattle.sctp_fit.proofs.BegunCounts.{events_keep_the_count}
 use Rattle.sctp_fit.proofs.OtherEnd.{receivers_events_leave_what_is_sent, senders_events_leave_what_comes}
-use Rattle.sctp_directions.specs.Acts.{Act, IsKeptInOrder, Parts, SetsReliability, done, receiving, sending}
+use Rattle.sctp_directions.specs.Acts.{Act, CanAll, IsKeptInOrder, Parts, SetsReliability, done, done_all, receiving}
+use Rattle.sctp_directions.specs.Acts.{sending}
 use Rattle.sctp_assoc.specs.Leads.{parts}
 use Rattle.sctp_assoc.specs.Calls.{is_established}
 use Rattle.sctp_sides.specs.Meeting.{IsNoEarlier, Stage}
+use Rattle.sctp_sides.specs.PastSpan.{ResetsPastOnly}
+use Rattle.sctp_sides.proofs.Proved.{more_are_past}
 use Rattle.sctp_assoc.specs.Shown.{Shown}
 use Rattle.sctp_directions.specs.Events.{AcceptsAMessage, Brings, BringsForward, GivesAMessage, IsOfReceiving}
-use Rattle.sctp_directions.specs.Events.{IsOfSending, IsPlainEvent}
+use Rattle.sctp_directions.specs.Events.{IsOfSending}
 use Rattle.sctp_reassembly.specs.Stands.{IsReadAs}
 use Rattle.sctp_directions.specs.Between.{FitsBetween, IsSound}
 use Rattle.sctp_directions.proofs.Proved.{only_forwards_pass_over, only_reads_give_messages}
 use Rattle.sctp_directions.proofs.Proved.{only_what_is_brought_is_taken_in}
-use Rattle.sctp_directions.proofs.Proved.{only_settings_loosen, only_writes_accept, plain_events_keep_it_plain}
+use Rattle.sctp_directions.proofs.Proved.{only_settings_loosen, only_writes_accept}
 use Rattle.sctp_directions.proofs.Proved.{receivers_events_are_received, senders_events_are_sent}
 use Rattle.sctp_pair.specs.Fits.{IsAt, IsSilent, StagesAgree, Stands, StandsClosed, StandsFailed, StandsOpen}
 
@@ -34,7 +37,7 @@ pub data By : Type 0 where
   ByForward : By
 
 -- What stays and what grows of a direction by events that neither accept nor read: what they take in or pass over was
--- there, or was brought.
+-- there, or was brought, and the spans stay.
 pub record Goes (Brought : By → ℕ → Type 0) (w v : Direction) : Type 0 where
   pub events : List Event
   pub is : v ≡ run events w
@@ -46,9 +49,13 @@ pub record Goes (Brought : By → ℕ → Type 0) (w v : Direction) : Type 0 whe
   pub datas : (k : ℕ) (d : Data) → slice_get w.datas k ≡ Some d → slice_get v.datas k ≡ Some d
   pub forwards : (k : ℕ) (f : Forward) → slice_get w.forwards k ≡ Some f → slice_get v.forwards k ≡ Some f
   pub sacks : (k : ℕ) (x : Sack) → slice_get w.sacks k ≡ Some x → slice_get v.sacks k ≡ Some x
-  -- no span begins anew
-  pub spans : (s : ℕ) → v.over s ≡ false → w.over s ≡ false
+  -- the same spans are over
+  pub same_spans : (s : ℕ) → v.over s ≡ w.over s
   pub reach_on : w.sender.reach ≤ v.sender.reach
+
+-- then no span begins anew
+pub spans_of : {B : By → ℕ → Type 0} {w v : Direction} → Goes B w v → (s : ℕ) → v.over s ≡ false → w.over s ≡ false
+spans_of g s within = sym (g.same_spans s) ∙ within
 
 pub run_append : (es fs : List Event) (w : Direction) → run (es ++ fs) w ≡ run fs (run es w)
 run_append [] fs w = refl
@@ -66,7 +73,7 @@ goes_nowhere B w = record {
   datas = λ k d e. e;
   forwards = λ k f e. e;
   sacks = λ k x e. e;
-  spans = λ s e. e;
+  same_spans = λ s. refl;
   reach_on = omega arith;
 }
 
@@ -90,7 +97,7 @@ goes_on B w v u g h = record {
   datas = λ k d e. h.datas k d (g.datas k d e);
   forwards = λ k f e. h.forwards k f (g.forwards k f e);
   sacks = λ k x e. h.sacks k x (g.sacks k x e);
-  spans = λ s e. g.spans s (h.spans s e);
+  same_spans = λ s. h.same_spans s ∙ g.same_spans s;
   reach_on = (let a = g.reach_on in let b = h.reach_on in omega arith);
 }
 
@@ -110,7 +117,7 @@ goes_by_sender B w e at none =
       datas = sent.0.datas;
       forwards = sent.0.forwards;
       sacks = λ k x g. subst (λ (ks : List Sack). slice_get ks k ≡ Some x) (sym sent.0.sacks) g;
-      spans = λ s e. ap (λ (f : ℕ → Bool). f s) (sym sent.0.over) ∙ e;
+      same_spans = λ s. ap (λ (f : ℕ → Bool). f s) sent.0.over;
       reach_on = sent.1;
     }
 
@@ -136,7 +143,7 @@ goes_by_receiver B w e at none brings passes =
       datas = λ k d g. subst (λ (ds : List Data). slice_get ds k ≡ Some d) (sym received.datas) g;
       forwards = λ k f g. subst (λ (fs : List Forward). slice_get fs k ≡ Some f) (sym received.forwards) g;
       sacks = received.sacks;
-      spans = λ s e. ap (λ (f : ℕ → Bool). f s) (sym received.over) ∙ e;
+      same_spans = λ s. ap (λ (f : ℕ → Bool). f s) received.over;
       reach_on = (let f = ap (λ (x : Sender). x.reach) received.sender in omega arith);
     }
 
@@ -179,7 +186,7 @@ pub record Holds (x : Surroundings) (p : Parts) : Type 0 where
   pub sound_out : IsSound x.out
   pub sound_coming : IsSound x.coming
   pub between : FitsBetween p x.out x.coming
-  pub in_order : (s : ℕ) → x.loose s ≡ false → IsKeptInOrder p.streams s
+  pub in_order : (s : ℕ) → x.out.over s ≡ false → x.loose s ≡ false → IsKeptInOrder p.streams s
   pub other : OtherStands x
 
 -- an act sets the order or the reliability of no stream
@@ -193,6 +200,15 @@ KeepsOrder loose act =
 
 pub orderly_acts_keep_order : (loose : ℕ → Bool) (act : Act) → IsOrderly act → KeepsOrder loose act
 orderly_acts_keep_order loose act orderly p s tight h = only_settings_loosen act p s (orderly s) h
+
+-- of acts that can be done one after another the first ones can, and then those behind them
+pub can_front : (xs ys : List Act) (p : Parts) → CanAll (xs ++ ys) p → CanAll xs p
+can_front [] ys p c = tt
+can_front (x ∷ xs) ys p (c, cs) = (c, can_front xs ys _ cs)
+
+pub can_back : (xs ys : List Act) (p : Parts) → CanAll (xs ++ ys) p → CanAll ys (done_all xs p)
+can_back [] ys p c = c
+can_back (x ∷ xs) ys p (c, cs) = can_back xs ys _ cs
 
 -- Nothing is brought.
 abbrev pub None_brought : By → ℕ → Type 0
@@ -220,22 +236,34 @@ at_receiver (Event.Read s) at = tt
 at_receiver Event.Close at = tt
 at_receiver e at = absurd at
 
--- a direction is sound after a plain event that keeps its invariant
-pub sound_after : {w : Direction} (e : Event) → IsPlainEvent e → Invariant (happens w e) → IsSound w
-    → IsSound (happens w e)
-sound_after {w} e plain invariant sound = record {
+-- a direction is sound after an event that keeps its invariant
+pub sound_after : {w : Direction} (e : Event) → Invariant (happens w e) → IsSound w → IsSound (happens w e)
+sound_after {w} e invariant sound = record {
   invariant = invariant;
   counts = events_keep_the_count w e sound.invariant sound.counts;
-  plain = plain_events_keep_it_plain w e plain sound.plain;
 }
+
+-- Spans may end on the way from one direction to the other, and none begins anew.
+pub record SpansGoOn (w v : Direction) : Type 0 where
+  pub over : (s : ℕ) → w.over s ≡ true → v.over s ≡ true
+  pub within : (s : ℕ) → v.over s ≡ false → w.over s ≡ false
+
+pub same_spans_go_on : (w v : Direction) → v.over ≡ w.over → SpansGoOn w v
+same_spans_go_on w v e = record {
+  over = λ s o. ap (λ (f : ℕ → Bool). f s) e ∙ o;
+  within = λ s n. ap (λ (f : ℕ → Bool). f s) (sym e) ∙ n;
+}
+
+pub spans_stay_put : (w : Direction) → SpansGoOn w w
+spans_stay_put w = same_spans_go_on w w refl
 
 -- An open association stands so between other directions, too, that fit what it has, and where more streams may be
 -- loose.
 pub stands_between : {loose more : ℕ → Bool} {own peer : ℕ} {a : Shown} {out coming out2 coming2 : Direction}
     (s : StandsOpen loose own peer a out coming) → ((t : ℕ) → more t ≡ false → loose t ≡ false)
-    → out2.sender.plan.size ≡ out.sender.plan.size → FitsBetween (parts a s.past) out2 coming2
-    → StandsOpen more own peer a out2 coming2
-stands_between s fewer size between = record {
+    → out2.sender.plan.size ≡ out.sender.plan.size → SpansGoOn out out2 → SpansGoOn coming coming2
+    → FitsBetween (parts a s.past) out2 coming2 → StandsOpen more own peer a out2 coming2
+stands_between {a = a} {coming = coming} {coming2 = coming2} s fewer size gone came between = record {
   past = s.past;
   own_is = s.own_is;
   peer_is = s.peer_is;
@@ -246,8 +274,8 @@ stands_between s fewer size between = record {
   truthful = s.truthful;
   size = size ∙ s.size;
   between = between;
-  in_order = λ t tight. s.in_order t (fewer t tight);
-  no_reset = s.no_reset;
+  in_order = λ t within tight. s.in_order t (gone.within t within) (fewer t tight);
+  resets = more_are_past coming.over coming2.over a came.over s.resets;
 }
 
 -- how the other association stands, where an event happened at this one's sender
@@ -256,7 +284,8 @@ pub other_by_sender : (x : Surroundings) (e : Event) → IsOfSending e → Invar
 other_by_sender x e at invariant h =
     ⊎_elim
     (λ (s : StandsOpen x.loose_there x.peer x.own x.other x.coming x.out).
-    inl (stands_between s (λ t tight. tight) refl record {
+    inl (stands_between s (λ t tight. tight) refl (spans_stay_put x.coming)
+    (same_spans_go_on x.out (happens x.out e) (senders_events_are_sent x.out e at).0.over) record {
       outgoing = s.between.outgoing;
       incoming =
           senders_events_leave_what_comes (receiving (parts x.other s.past)) x.out e (at_sender e at) invariant
@@ -287,7 +316,9 @@ other_by_receiver x e at h =
     ⊎_elim
     (λ (s : StandsOpen x.loose_there x.peer x.own x.other x.coming x.out).
     inl (stands_between s (λ t tight. tight)
-    (ap (λ (z : Sender). z.plan.size) (receivers_events_are_received x.coming e at).sender) record {
+    (ap (λ (z : Sender). z.plan.size) (receivers_events_are_received x.coming e at).sender)
+    (same_spans_go_on x.coming (happens x.coming e) (receivers_events_are_received x.coming e at).over)
+    (spans_stay_put x.out) record {
       outgoing =
           receivers_events_leave_what_is_sent (sending (parts x.other s.past)) x.coming e (at_receiver e at)
           s.between.outgoing;
@@ -296,22 +327,36 @@ other_by_receiver x e at h =
     (λ (r : StandsClosed x.peer x.other x.out ⊎ StandsFailed x.other x.out). inr r)
     h
 
--- What a call does to a direction: what it accepts there, what it reads, and what may be taken in.
-pub record Does (Added : ℕ → List Message) (Read : ℕ → Option letters.ReceivedMessage) (Brought : By → ℕ → Type 0)
-    (w v : Direction) : Type 0 where
+-- What a call does to a direction: which spans it may end, what it accepts there, what it reads on streams within their
+-- span, and what may be taken in.
+pub record DoesEnding (Ended : ℕ → Type 0) (Added : ℕ → List Message) (Read : ℕ → Option letters.ReceivedMessage)
+    (Brought : By → ℕ → Type 0) (w v : Direction) : Type 0 where
   pub events : List Event
   pub is : v ≡ run events w
   pub accepted : (s : ℕ) → v.sender.plan.accepted s ≡ w.sender.plan.accepted s ++ Added s
   pub size : v.sender.plan.size ≡ w.sender.plan.size
-  pub reads : (s : ℕ) → IsReadAs (Read s) (w.reads s) (v.reads s)
+  pub reads : (s : ℕ) → w.over s ≡ false → IsReadAs (Read s) (w.reads s) (v.reads s)
   pub taken : (o : ℕ) → mem o v.receiver.taken ≡ true → (mem o w.receiver.taken ≡ true) ⊎ Brought By.ByData o
   pub passed : (v.receiver.passed ≡ w.receiver.passed) ⊎ Brought By.ByForward v.receiver.passed
   pub datas : (k : ℕ) (d : Data) → slice_get w.datas k ≡ Some d → slice_get v.datas k ≡ Some d
   pub forwards : (k : ℕ) (f : Forward) → slice_get w.forwards k ≡ Some f → slice_get v.forwards k ≡ Some f
   pub sacks : (k : ℕ) (x : Sack) → slice_get w.sacks k ≡ Some x → slice_get v.sacks k ≡ Some x
-  -- no span begins anew
-  pub spans : (s : ℕ) → v.over s ≡ false → w.over s ≡ false
+  pub spans : SpansGoOn w v
+  pub ends : (s : ℕ) → v.over s ≡ true → (w.over s ≡ true) ⊎ Ended s
   pub reach_on : w.sender.reach ≤ v.sender.reach
+
+-- none ends
+abbrev pub None_ended : ℕ → Type 0
+None_ended s = ⊥
+
+abbrev pub Does : (ℕ → List Message) → (ℕ → Option letters.ReceivedMessage) → (By → ℕ → Type 0) → Direction → Direction
+    → Type 0
+Does Added Read Brought w v = DoesEnding None_ended Added Read Brought w v
+
+-- where the spans are the same none ends
+pub none_ends : (w v : Direction) → ((s : ℕ) → v.over s ≡ w.over s) → (s : ℕ) → v.over s ≡ true
+    → (w.over s ≡ true) ⊎ None_ended s
+none_ends w v same s o = inl (sym (same s) ∙ o)
 
 abbrev pub nothing_added : ℕ → List Message
 nothing_added s = []
@@ -325,25 +370,27 @@ does_by_goes B w v g = record {
   is = g.is;
   accepted = λ s. g.accepted s ∙ sym (append-nil (w.sender.plan.accepted s));
   size = g.size;
-  reads = g.reads;
+  reads = λ s within. g.reads s;
   taken = g.taken;
   passed = g.passed;
   datas = g.datas;
   forwards = g.forwards;
   sacks = g.sacks;
-  spans = g.spans;
+  spans = record { over = λ s o. g.same_spans s ∙ o; within = spans_of g };
+  ends = none_ends w v g.same_spans;
   reach_on = g.reach_on;
 }
 
 -- One association's call leads from its surroundings to other directions and another stage, between which it stands
--- then; the other association stands there too.
-pub record Settles (x : Surroundings) (b : Shown) (Added : ℕ → List Message)
+-- then; the other association stands there too. The same streams are past their span in both directions.
+pub record SettlesEnding (Ended : ℕ → Type 0) (x : Surroundings) (b : Shown) (Added : ℕ → List Message)
     (Read : ℕ → Option letters.ReceivedMessage) (Brought : By → ℕ → Type 0) : Type 0 where
   pub out2 : Direction
   pub coming2 : Direction
   pub here2 : Stage
-  pub does_out : Does Added nothing_read None_brought x.out out2
-  pub does_coming : Does nothing_added Read Brought x.coming coming2
+  pub does_out : DoesEnding Ended Added nothing_read None_brought x.out out2
+  pub does_coming : DoesEnding Ended nothing_added Read Brought x.coming coming2
+  pub both : (s : ℕ) → out2.over s ≡ coming2.over s
   pub sound_out : IsSound out2
   pub sound_coming : IsSound coming2
   pub stands : StandsAt (moved x out2 coming2) b
@@ -356,7 +403,12 @@ pub record Settles (x : Surroundings) (b : Shown) (Added : ℕ → List Message)
       ⊎ (out2.sender.plan.places ≡ x.out.sender.plan.places)
   pub coming_still : coming2.sender ≡ x.coming.sender
 
--- the same of a call that accepts nothing, reads nothing and brings nothing
+-- the same of a call that ends no span
+abbrev pub Settles : Surroundings → Shown → (ℕ → List Message) → (ℕ → Option letters.ReceivedMessage)
+    → (By → ℕ → Type 0) → Type 0
+Settles x b Added Read Brought = SettlesEnding None_ended x b Added Read Brought
+
+-- and of one that accepts nothing, reads nothing and brings nothing
 abbrev pub SettlesQuietly : Surroundings → Shown → Type 0
 SettlesQuietly x b = Settles x b nothing_added nothing_read None_brought
 
@@ -366,6 +418,7 @@ pub record Faces (x : Surroundings) (a : Shown) : Type 0 where
   pub within_coming : IsWithin x.coming
   pub sound_out : IsSound x.out
   pub sound_coming : IsSound x.coming
+  pub both : (s : ℕ) → x.out.over s ≡ x.coming.over s
   pub stands : StandsAt x a
   pub other : OtherStands x
   pub at : IsAt a x.here

@@ -29,7 +29,7 @@ use Rattle.sctp_pair.specs.Callers.{ReadsAreFronts, bytes_answered, bytes_of, by
 use Rattle.sctp_pair.specs.Callers.{tallied_by, tally_of, world_of}
 use Rattle.sctp_pair.specs.Callers as callers
 use Rattle.sctp_pair.specs.Callers.{AreAt, ReadsWereWritten, WrittenMessage, message_accepted, messages_of}
-use Rattle.sctp_pair.specs.Callers.{messages_read, messages_written, stays_in_order}
+use Rattle.sctp_pair.specs.Callers.{messages_read, messages_written, stays_in_order, stays_in_span}
 use Rattle.sctp_pair.specs.World.{IsOrderedAndReliable, loose_after, loose_of, loosens}
 use Rattle.sctp_pair.proofs.WrittenIndexes.{AreTold, at_indexes, letters_grow, told_accepted, told_join}
 use Rattle.sctp_model.specs.Safe.{AreDistinct, letter_read}
@@ -41,9 +41,11 @@ use Rattle.sctp_pair.specs.Counted.{FitsCounted, Tally, nothing_tallied}
 use Rattle.sctp_pair.specs.Ends.{Ends}
 use Rattle.sctp_pair.specs.Steps.{AtSide, Runs, Steps, Writes, reading_of, writing_of}
 use Rattle.sctp_pair.specs.World.{EndsSpan, HasData, IsDirectionStep, IsWorldStep, World, accepted_at, empty_world}
+use Rattle.sctp_pair.specs.World.{ends_span}
 use Rattle.sctp_pair.specs.World.{accepted_of, is_side, message_answered, message_read, messages_on, other_side}
 use Rattle.sctp_pair.specs.World.{packet_brought}
 use Rattle.sctp_pair.proofs.AcceptedAndRead.{writes}
+use Rattle.sctp_pair.proofs.AcceptedInOrder.{from}
 use Rattle.sctp_pair.proofs.Counted.{runs_lead_counted}
 use Rattle.sctp_pair.proofs.CountedRuns.{begun_made, led_from, led_join}
 use Rattle.sctp_pair.proofs.MessageBytes.{bytes_accepted, bytes_got, nothing_read_of_none, read_grows}
@@ -53,11 +55,6 @@ use Rattle.sctp_pair.proofs.RunsJoined.{runs_join}
 use Rattle.sctp_pair.proofs.WriteCall.{first_none}
 
 -- One step
-
--- the direction of which a side is the sender
-abbrev from : Side2 → World → Direction
-from sides.A w = w.ab
-from sides.B w = w.ba
 
 abbrev initial_of : Side2 → World → ℕ
 initial_of sides.A w = w.initial_a
@@ -130,34 +127,46 @@ loose_step : {a : Step} {r : Reply} {w v : World} (x : Side2) → IsWorldStep a 
 loose_step sides.A h s = h.loose_a_is s
 loose_step sides.B h s = h.loose_b_is s
 
-not_loosened : (l : Bool) → not l ≡ true → l ≡ false
-not_loosened true e = absurd (true≢false (sym e))
-not_loosened false e = refl
+not_so : (l : Bool) → not l ≡ true → l ≡ false
+not_so true e = absurd (true≢false (sym e))
+not_so false e = refl
+
+-- Where none of these steps stops a stream, neither the first one nor any behind it does.
+module _ (a : Step) (ss : List Step) (r : Reply) (rs : List Reply) (s : ℕ)
+    (stays : stays_in_span (a ∷ ss) (r ∷ rs) s ≡ true) where
+  stays_first : ends_span a r s ≡ false
+  stays_first = not_so (ends_span a r s) (and_parts (not (ends_span a r s)) (stays_in_span ss rs s) stays).0
+
+  stays_behind : stays_in_span ss rs s ≡ true
+  stays_behind = (and_parts (not (ends_span a r s)) (stays_in_span ss rs s) stays).1
 
 -- What rows of steps made of the direction of which side x is the sender, as they tell it; these streams were loose
--- before.
+-- before. What was read is told of each stream that was within its span before and that none of the steps stopped.
 record Grew (loose : ℕ → Bool) (ss : List Step) (rs : List Reply) (x : Side2) (before after : Direction) : Type 0 where
   written : (s : ℕ)
       → bytes_accepted (after.sender.plan.accepted s) ≡ bytes_accepted (before.sender.plan.accepted s)
       ++ written_in ss rs x s
-  read : (s : ℕ) → bytes_got (after.reads s) ≡ bytes_got (before.reads s) ++ read_in ss rs (other_side x) s
-  kept : (s : ℕ) → stays_in_order ss rs x s ≡ true → loose s ≡ false
+  read : (s : ℕ) → stays_in_span ss rs s ≡ true → before.over s ≡ false
+      → bytes_got (after.reads s) ≡ bytes_got (before.reads s) ++ read_in ss rs (other_side x) s
+  kept : (s : ℕ) → stays_in_span ss rs s ≡ true → before.over s ≡ false
+      → stays_in_order ss rs x s ≡ true → loose s ≡ false
       → AllByRecursion IsOrderedAndReliable (before.sender.plan.accepted s)
       → AllByRecursion IsOrderedAndReliable (after.sender.plan.accepted s)
   told : (s : ℕ) (ws : List WrittenMessage) → AreTold (before.sender.plan.accepted s) ws
       → AreTold (after.sender.plan.accepted s) (ws ++ messages_written ss rs x s)
-  letters : (s : ℕ) → map letter_read (after.reads s)
+  letters : (s : ℕ) → stays_in_span ss rs s ≡ true → before.over s ≡ false
+      → map letter_read (after.reads s)
       ≡ map letter_read (before.reads s) ++ map letter_received (messages_read ss rs (other_side x) s)
-  span : (s : ℕ) → before.over s ≡ false → after.over s ≡ false
+  span : (s : ℕ) → stays_in_span ss rs s ≡ true → before.over s ≡ false → after.over s ≡ false
 
 grew_nothing : (loose : ℕ → Bool) (x : Side2) (d : Direction) → Grew loose [] [] x d d
 grew_nothing loose x d = record {
   written = λ s. sym (append-nil (bytes_accepted (d.sender.plan.accepted s)));
-  read = λ s. sym (append-nil (bytes_got (d.reads s)));
-  kept = λ s stays tight k. k;
+  read = λ s stays span. sym (append-nil (bytes_got (d.reads s)));
+  kept = λ s stays span ordered tight k. k;
   told = λ s ws t. subst (AreTold (d.sender.plan.accepted s)) (sym (append-nil ws)) t;
-  letters = λ s. sym (append-nil (map letter_read (d.reads s)));
-  span = λ s o. o;
+  letters = λ s stays span. sym (append-nil (map letter_read (d.reads s)));
+  span = λ s stays span. span;
 }
 
 not_brought : (a : Step) (r : Reply) (y : Side2) (w : World) → delivers_to y a r ≡ false → packet_brought a r y w ≡ None
@@ -174,20 +183,20 @@ module _ (x : Side2) {a : Step} {r : Reply} {w v : World} (h : IsWorldStep a w r
       ∙ map-append (λ (m : Message). m.bytes) ((from x w).sender.plan.accepted s) (accepted_at a r x s w)
       ∙ ap (λ z. bytes_accepted ((from x w).sender.plan.accepted s) ++ z) (told_written s w v.ends a r x h.ends_step)
 
-  read_one : (s : ℕ)
+  read_one : (s : ℕ) → (from x w).over s ≡ false
       → bytes_got ((from x v).reads s) ≡ bytes_got ((from x w).reads s) ++ bytes_read a r (other_side x) s
-  read_one s =
+  read_one s span =
       read_grows (message_read a r (other_side x) s) ((from x w).reads s) ((from x v).reads s)
-      ((step_from x h).read s)
+      ((step_from x h).read s span)
       ∙ ap (λ z. bytes_got ((from x w).reads s) ++ z) (told_read a r (other_side x) s)
 
-  -- no step ends a stream's span so far
-  span_one : (s : ℕ) → (from x w).over s ≡ false → (from x v).over s ≡ false
-  span_one s still =
+  -- only a step that stops a stream ends its span
+  span_one : (s : ℕ) → ends_span a r s ≡ false → (from x w).over s ≡ false → (from x v).over s ≡ false
+  span_one s unstopped still =
       ⊎_elim
       (λ (over : (from x v).over s ≡ true). ⊎_elim
       (λ (before : (from x w).over s ≡ true). absurd (true≢false (sym before ∙ still)))
-      (λ (ends : EndsSpan a r s). absurd ends)
+      (λ (ends : EndsSpan a r s). absurd (true≢false (sym ends ∙ unstopped)))
       ((step_from x h).span s over))
       (λ (within : (from x v).over s ≡ false). within)
       (cases_Bool ((from x v).over s))
@@ -196,11 +205,11 @@ module _ (x : Side2) {a : Step} {r : Reply} {w v : World} (h : IsWorldStep a w r
   tight_on s tight l =
       loose_step x h s ∙ ap (λ z. z || loosens a r x s) tight ∙ l
 
-  letters_one : (s : ℕ) → map letter_read ((from x v).reads s)
+  letters_one : (s : ℕ) → (from x w).over s ≡ false → map letter_read ((from x v).reads s)
       ≡ map letter_read ((from x w).reads s) ++ map letter_received (messages_of (message_read a r (other_side x) s))
-  letters_one s =
+  letters_one s span =
       letters_grow (message_read a r (other_side x) s) ((from x w).reads s) ((from x v).reads s)
-      ((step_from x h).read s)
+      ((step_from x h).read s span)
 
   told_one : (s : ℕ) (ws : List WrittenMessage) → AreTold ((from x w).sender.plan.accepted s) ws
       → AreTold ((from x v).sender.plan.accepted s) (ws ++ message_accepted (writing_of a) r x s)
@@ -215,29 +224,36 @@ module _ (x : Side2) {a : Step} {r : Reply} {w v : World} (h : IsWorldStep a w r
     written = λ s. more.written s ∙ ap (λ z. z ++ written_in ss rs x s) (wrote_one s)
         ∙ append_assoc (bytes_accepted ((from x w).sender.plan.accepted s)) (bytes_written a r x s)
         (written_in ss rs x s);
-    read = λ s. more.read s ∙ ap (λ z. z ++ read_in ss rs (other_side x) s) (read_one s)
+    read = λ s stays span. more.read s (stays_behind a ss r rs s stays) (span_on s stays span)
+        ∙ ap (λ z. z ++ read_in ss rs (other_side x) s) (read_one s span)
         ∙ append_assoc (bytes_got ((from x w).reads s)) (bytes_read a r (other_side x) s)
         (read_in ss rs (other_side x) s);
-    kept = λ s stays tight k.
-        let both = and_parts (not (loosens a r x s)) (stays_in_order ss rs x s) stays in
-        more.kept s both.1 (tight_on s tight (not_loosened (loosens a r x s) both.0))
+    kept = λ s stays span ordered tight k.
+        let both = and_parts (not (loosens a r x s)) (stays_in_order ss rs x s) ordered in
+        more.kept s (stays_behind a ss r rs s stays) (span_on s stays span) both.1
+        (tight_on s tight (not_so (loosens a r x s) both.0))
         (subst (AllByRecursion IsOrderedAndReliable) (sym ((step_from x h).accepted s))
         (all_join IsOrderedAndReliable ((from x w).sender.plan.accepted s) (accepted_at a r x s w) k
-        ((step_from x h).in_order s tight)));
+        ((step_from x h).in_order s span tight)));
     told = λ s ws t.
         subst (AreTold (after.sender.plan.accepted s))
         (append_assoc ws (message_accepted (writing_of a) r x s) (messages_written ss rs x s))
         (more.told s (ws ++ message_accepted (writing_of a) r x s) (told_one s ws t));
-    letters = λ s. more.letters s
-        ∙ ap (λ z. z ++ map letter_received (messages_read ss rs (other_side x) s)) (letters_one s)
+    letters = λ s stays span. more.letters s (stays_behind a ss r rs s stays) (span_on s stays span)
+        ∙ ap (λ z. z ++ map letter_received (messages_read ss rs (other_side x) s)) (letters_one s span)
         ∙ append_assoc (map letter_read ((from x w).reads s))
         (map letter_received (messages_of (message_read a r (other_side x) s)))
         (map letter_received (messages_read ss rs (other_side x) s))
         ∙ ap (λ z. map letter_read ((from x w).reads s) ++ z)
         (sym (map-append letter_received (messages_of (message_read a r (other_side x) s))
         (messages_read ss rs (other_side x) s)));
-    span = λ s o. more.span s (span_one s o);
+    span = λ s stays span. more.span s (stays_behind a ss r rs s stays) (span_on s stays span);
   }
+    where
+      -- the step stops none of these streams
+      span_on : (s : ℕ) → stays_in_span (a ∷ ss) (r ∷ rs) s ≡ true → (from x w).over s ≡ false
+          → (from x v).over s ≡ false
+      span_on s stays span = span_one s (stays_first a ss r rs s stays) span
 
   -- where nothing is delivered to the receiver, it takes nothing in
   untaken_on : delivers_to (other_side x) a r ≡ false
@@ -303,30 +319,34 @@ fresh_from sides.A p initial_a initial_b size_a size_b =
 fresh_from sides.B p initial_a initial_b size_a size_b =
     record { accepted = λ s. refl; unread = λ s. refl; untaken = λ o m. true≢false (sym m); within = λ s. refl }
 
--- Steps made the direction from side x, in which nothing had happened, what it is after them. Stream s is safe there if
--- its span is not over.
+-- Steps made the direction from side x, in which nothing had happened, what it is after them. None of them stopped
+-- stream s, which is safe there if its span is not over.
 module _ {loose : ℕ → Bool} {ss : List Step} {rs : List Reply} {x : Side2} {before after : Direction}
     (first : NothingHappened before) (grew : Grew loose ss rs x before after) (s : ℕ)
-    (safe : after.over s ≡ false → IsSafe after s) where
+    (stays : stays_in_span ss rs s ≡ true) (safe : after.over s ≡ false → IsSafe after s) where
   front_along : loose s ≡ false → stays_in_order ss rs x s ≡ true
       → IsFrontOf (read_in ss rs (other_side x) s) (written_in ss rs x s)
-  front_along tight stays =
-      let kept = grew.kept s stays tight (subst (AllByRecursion IsOrderedAndReliable) (sym (first.accepted s)) tt) in
-      let front = reads_are_a_front after s (safe (grew.span s (first.within s))) kept in
+  front_along tight ordered =
+      let within = first.within s in
+      let kept =
+      grew.kept s stays within ordered tight (subst (AllByRecursion IsOrderedAndReliable) (sym (first.accepted s)) tt)
+      in
+      let front = reads_are_a_front after s (safe (grew.span s stays within)) kept in
       let wrote : bytes_accepted (after.sender.plan.accepted s) ≡ written_in ss rs x s =
       grew.written s ∙ ap (λ ms. bytes_accepted ms ++ written_in ss rs x s) (first.accepted s) in
       let read : bytes_got (after.reads s) ≡ read_in ss rs (other_side x) s =
-      grew.read s ∙ ap (λ gs. bytes_got gs ++ read_in ss rs (other_side x) s) (first.unread s) in
+      grew.read s stays within ∙ ap (λ gs. bytes_got gs ++ read_in ss rs (other_side x) s) (first.unread s) in
       (front.0, sym wrote ∙ front.1 ∙ ap (λ z. z ++ front.0) read)
 
   -- each message that was read was written at an index of its own
   written_along : (indexes : List ℕ) × AreDistinct indexes
       × AreAt (messages_read ss rs (other_side x) s) indexes (messages_written ss rs x s)
   written_along =
-      let named = (safe (grew.span s (first.within s))).read in
+      let within = first.within s in
+      let named = (safe (grew.span s stays within)).read in
       let told = grew.told s [] (subst (λ ms. AreTold ms []) (sym (first.accepted s)) tt) in
       let letters : map letter_read (after.reads s) ≡ map letter_received (messages_read ss rs (other_side x) s) =
-      grew.letters s
+      grew.letters s stays within
       ∙ ap (λ gs. map letter_read gs ++ map letter_received (messages_read ss rs (other_side x) s))
       (first.unread s) in (
         named.0,
@@ -342,25 +362,26 @@ nothing_behind [] ys e = sym e
 nothing_behind (x ∷ xs) ys e = absurd (cc)
 
 module _ (m : Made) (x : Side2) (s : ℕ) (q : Ends) where
-  -- where nothing was taken in, nothing is read until a packet was handed over
+  -- where nothing was taken in, nothing is read on a stream within its span until a packet was handed over, as long as
+  -- no step stops it
   bare : (ss : List Step) (rs : List Reply) (w : World) (t : Tally) → LedSafely m ss rs w t q
-      → ((o : ℕ) → mem o (from x w).receiver.taken ≡ true → ⊥) → (from x w).over s ≡ false
-      → read_undelivered ss rs (other_side x) s ≡ []
-  bare [] [] w t h none span = refl
-  bare (a ∷ ss) (r ∷ rs) w t (v, step, safe, fits, next) none span =
+      → stays_in_span ss rs s ≡ true → ((o : ℕ) → mem o (from x w).receiver.taken ≡ true → ⊥)
+      → (from x w).over s ≡ false → read_undelivered ss rs (other_side x) s ≡ []
+  bare [] [] w t h stays none span = refl
+  bare (a ∷ ss) (r ∷ rs) w t (v, step, safe, fits, next) stays none span =
       ⊎_elim
       (λ (b : delivers_to (other_side x) a r ≡ true). rw b refl)
       (λ (b : delivers_to (other_side x) a r ≡ false).
       let still = untaken_on x step b none in
-      let within = span_one x step s span in
+      let within = span_one x step s (stays_first a ss r rs s stays) span in
       let unread = nothing_read_of_none (from x v) s (safe_from x s fits within) still (filled_from x s fits) in
       let this : bytes_read a r (other_side x) s ≡ [] =
       nothing_behind (bytes_got ((from x w).reads s)) (bytes_read a r (other_side x) s)
-      (sym (ap bytes_got unread) ∙ read_one x step s) in
-      rw (b, this) (bare ss rs v (tallied_by m a r t) next still within))
+      (sym (ap bytes_got unread) ∙ read_one x step s span) in
+      rw (b, this) (bare ss rs v (tallied_by m a r t) next (stays_behind a ss r rs s stays) still within))
       (cases_Bool (delivers_to (other_side x) a r))
-  bare [] (r ∷ rs) w t h none span = absurd h
-  bare (a ∷ ss) [] w t h none span = absurd h
+  bare [] (r ∷ rs) w t h stays none span = absurd h
+  bare (a ∷ ss) [] w t h stays none span = absurd h
 
 turned_back : (x : Side2) → other_side (other_side x) ≡ x
 turned_back sides.A = refl
@@ -385,22 +406,22 @@ begun_tight c sides.B s = refl
 module _ {m : Made} {ss : List Step} {rs : List Reply} {p : Ends} (c : CameBy m ss rs p) where
   -- What was read is a front of what was written.
   fronts : ReadsAreFronts ss rs
-  fronts x s stays =
+  fronts x s stays ordered =
       let r = reached m ss rs (begun c) nothing_tallied p c.safely in
-      front_along (begun_fresh c x) (r.grew x) s (safe_from x s r.fits) (begun_tight c x s) stays
+      front_along (begun_fresh c x) (r.grew x) s stays (safe_from x s r.fits) (begun_tight c x s) ordered
 
   -- Each message that was read was written.
   were_written : ReadsWereWritten ss rs
-  were_written x s =
+  were_written x s stays =
       let r = reached m ss rs (begun c) nothing_tallied p c.safely in
-      written_along (begun_fresh c x) (r.grew x) s (safe_from x s r.fits)
+      written_along (begun_fresh c x) (r.grew x) s stays (safe_from x s r.fits)
 
   -- Until a packet was handed to a side nothing is read there.
   unbrought : NothingIsReadBeforeADelivery ss rs
-  unbrought x s =
+  unbrought x s stays =
       let first = begun_fresh c (other_side x) in
       subst (λ y. read_undelivered ss rs y s ≡ []) (turned_back x)
-      (bare m (other_side x) s p ss rs (begun c) nothing_tallied c.safely first.untaken (first.within s))
+      (bare m (other_side x) s p ss rs (begun c) nothing_tallied c.safely stays first.untaken (first.within s))
 
 -- These steps lead on from p to q.
 module _ (more : List Step) (answers : List Reply) (p q : Ends) (led : Runs more answers p q) where

@@ -24,11 +24,13 @@ use Rattle.sctp_pair.specs.declared.step.Step.{Step}
 use Rattle.sctp_pair.specs.Ends.{Ends, end_of}
 use Rattle.sctp_pair.specs.Steps.{Steps, packet_in}
 use Rattle.sctp_fit.specs.Incoming.{tsn_before}
-use Rattle.sctp_pair.specs.World.{HasData, HasForward, IsDirectionStep, IsOpen, World, accepted_at, message_read}
+use Rattle.sctp_pair.specs.World.{EndsSpan, HasData, HasForward, IsDirectionStep, IsOpen, World, accepted_at}
+use Rattle.sctp_pair.specs.World.{message_read}
 use Rattle.sctp_pair.specs.World.{other_side}
 use Rattle.sctp_pair.specs.World.{IsOrderedAndReliable, loose_after, loose_of, loosens, packet_brought}
 use Rattle.sctp_pair.specs.Fits.{AreSaid, Fits, IsAt, IsSaidBy, IsSilent, LeadsSafely, Stands, StandsIn}
-use Rattle.sctp_pair.proofs.BetweenDirections.{By, Does, Faces, OpenAt, Settles, Surroundings, moved, stands_between}
+use Rattle.sctp_pair.proofs.BetweenDirections.{By, DoesEnding, Faces, None_ended, OpenAt, SettlesEnding, Surroundings}
+use Rattle.sctp_pair.proofs.BetweenDirections.{moved, spans_stay_put, stands_between}
 use Rattle.sctp_pair.proofs.AcceptedInOrder.{accepted_in_order}
 use Rattle.sctp_pair.proofs.NeverTakenBack.{runs_are_onward}
 use Rattle.sctp_pair.proofs.Promised.{receives_or_stopped, safe_world}
@@ -39,7 +41,8 @@ use Rattle.sctp_pair.proofs.HandshakeStages.{stays_put, turned}
 loosened : {loose more : ℕ → Bool} {own peer : ℕ} {a : Shown} {out coming : Direction}
     → ((s : ℕ) → more s ≡ false → loose s ≡ false) → Stands loose own peer a out coming
     → Stands more own peer a out coming
-loosened fewer (inl s) = inl (stands_between s fewer refl s.between)
+loosened {out = out} {coming = coming} fewer (inl s) =
+    inl (stands_between s fewer refl (spans_stay_put out) (spans_stay_put coming) s.between)
 loosened fewer (inr r) = inr r
 
 -- no step makes a stream send ordered, reliable messages again
@@ -87,6 +90,7 @@ faces_a step reply w f = record {
   within_coming = f.within.1;
   sound_out = f.stand.sound_ab;
   sound_coming = f.stand.sound_ba;
+  both = f.stand.spans;
   stands = loosened (loose_before step reply sides.A w) f.stand.side_a;
   other = loosened (loose_before step reply sides.B w) f.stand.side_b;
   at = f.stand.at_a;
@@ -102,6 +106,7 @@ faces_b step reply w f = record {
   within_coming = f.within.0;
   sound_out = f.stand.sound_ba;
   sound_coming = f.stand.sound_ab;
+  both = λ s. sym (f.stand.spans s);
   stands = loosened (loose_before step reply sides.B w) f.stand.side_b;
   other = loosened (loose_before step reply sides.A w) f.stand.side_a;
   at = f.stand.at_b;
@@ -110,8 +115,8 @@ faces_b step reply w f = record {
 }
 
 -- What a step and its reply add, read and bring is at this side this alone, and at the other side nothing; the DATA
--- that comes to this side has this initial TSN.
-pub record IsCallAt (step : Step) (reply : Reply) (side : Side2) (w : World) (initial : ℕ) (Added : ℕ → List Message)
+-- that comes to this side has this initial TSN. The spans that the step may end are these.
+pub record IsCallEnding (Ended : ℕ → Type 0) (step : Step) (reply : Reply) (side : Side2) (w : World) (initial : ℕ) (Added : ℕ → List Message)
     (Read : ℕ → Option letters.ReceivedMessage) (Brought : By → ℕ → Type 0) : Type 0 where
   pub adds : (s : ℕ) → Added s ≡ accepted_at step reply side s w
   pub reads : (s : ℕ) → Read s ≡ message_read step reply side s
@@ -120,10 +125,18 @@ pub record IsCallAt (step : Step) (reply : Reply) (side : Side2) (w : World) (in
       → HasForward (packet_brought step reply side w) (tsn_before (tsn initial n))
   pub adds_alone : (s : ℕ) → [] ≡ accepted_at step reply (other_side side) s w
   pub reads_alone : (s : ℕ) → None ≡ message_read step reply (other_side side) s
+  pub ends : (s : ℕ) → Ended s → EndsSpan step reply s
+
+-- the same of a step that ends no span
+abbrev pub IsCallAt : Step → Reply → Side2 → World → ℕ → (ℕ → List Message) → (ℕ → Option letters.ReceivedMessage)
+    → (By → ℕ → Type 0) → Type 0
+IsCallAt step reply side w initial Added Read Brought =
+    IsCallEnding None_ended step reply side w initial Added Read Brought
 
 -- What a call that settles leaves behind.
-module _ {x : Surroundings} {b : Shown} {Added : ℕ → List Message} {Read : ℕ → Option letters.ReceivedMessage}
-    {Brought : By → ℕ → Type 0} (s : Settles x b Added Read Brought) where
+module _ {Ended : ℕ → Type 0} {x : Surroundings} {b : Shown} {Added : ℕ → List Message}
+    {Read : ℕ → Option letters.ReceivedMessage} {Brought : By → ℕ → Type 0}
+    (s : SettlesEnding Ended x b Added Read Brought) where
   -- an association that is established is open
   is_open : IsOpen b ⊎ (s.out2.sender.plan.places ≡ x.out.sender.plan.places)
   is_open =
@@ -169,55 +182,60 @@ module _ {x : Surroundings} {b : Shown} {Added : ℕ → List Message} {Read : �
 module _ (step : Step) (reply : Reply) (w : World) (q : Ends) where
   -- what a call does to a direction is what a step does there, where it adds, reads and brings the same
   module _ (sender receiver : Side2) (initial : ℕ) where
-    direction_step : {before after : Direction} {Added : ℕ → List Message}
-        {Read : ℕ → Option letters.ReceivedMessage} {Brought : By → ℕ → Type 0} → Does Added Read Brought before after
+    direction_step : {before after : Direction} {Ended : ℕ → Type 0} {Added : ℕ → List Message}
+        {Read : ℕ → Option letters.ReceivedMessage} {Brought : By → ℕ → Type 0}
+        → DoesEnding Ended Added Read Brought before after → ((s : ℕ) → Ended s → EndsSpan step reply s)
         → ((s : ℕ) → Added s ≡ accepted_at step reply sender s w)
         → ((s : ℕ) → Read s ≡ message_read step reply receiver s)
         → ((o : ℕ) → Brought By.ByData o → HasData (packet_brought step reply receiver w) (tsn initial o))
         → ((n : ℕ) → Brought By.ByForward n
         → HasForward (packet_brought step reply receiver w) (tsn_before (tsn initial n)))
-        → ((s : ℕ) → loose_of sender w s ≡ false
+        → ((s : ℕ) → before.over s ≡ false → loose_of sender w s ≡ false
         → AllByRecursion IsOrderedAndReliable (accepted_at step reply sender s w))
         → IsOpen (end_of sender q) ⊎ (after.sender.plan.places ≡ before.sender.plan.places)
         → IsSound after
         → (after.receiver.is_open ≡ true) ⊎ (IsOpen (end_of receiver q) → ⊥)
         → IsDirectionStep step reply sender receiver w q initial before after
-    direction_step {before} {after} {Brought = Brought} d adds reads brings passes kept no_more is receives = record {
-      events = d.events;
-      happened = d.is;
-      accepted = λ s. d.accepted s ∙ ap (λ (z : List Message). before.sender.plan.accepted s ++ z) (adds s);
-      in_order = kept;
-      read =
-          λ s. subst (λ (z : Option letters.ReceivedMessage). IsReadAs z (before.reads s) (after.reads s))
-          (reads s) (d.reads s);
-      taken = λ o m. ⊎_elim
-          (λ (n : mem o before.receiver.taken ≡ true). inl n)
-          (λ (b : Brought By.ByData o). inr (brings o b))
-          (d.taken o m);
-      reach_on = d.reach_on;
-      no_more = no_more;
-      size = d.size;
-      span = λ s o. absurd (true≢false (sym o ∙ is.plain.span s));
-      span_over = λ s o. ap (λ (z : Direction). z.over s) d.is ∙ (runs_are_onward d.events before).over s o;
-      passed = ⊎_elim
-          (λ (e : after.receiver.passed ≡ before.receiver.passed). inl e)
-          (λ (b : Brought By.ByForward after.receiver.passed). inr (passes after.receiver.passed b))
-          d.passed;
-      given_up = λ s i g. inr (is.invariant.sending.given_up s i g).1;
-      closes =
-          ⊎_elim (λ (o : after.receiver.is_open ≡ true). inl o)
-          (λ (n : IsOpen (end_of receiver q) → ⊥). inr (inr n)) receives;
-      stays_closed = λ c. ap (λ (z : Direction). z.receiver.is_open) d.is ∙ (runs_are_onward d.events before).closed c;
-    }
+    direction_step {before} {after} {Ended} {Brought = Brought} d ends adds reads brings passes kept no_more is
+        receives = record {
+          events = d.events;
+          happened = d.is;
+          accepted = λ s. d.accepted s ∙ ap (λ (z : List Message). before.sender.plan.accepted s ++ z) (adds s);
+          in_order = kept;
+          read =
+              λ s within. subst (λ (z : Option letters.ReceivedMessage). IsReadAs z (before.reads s) (after.reads s))
+              (reads s) (d.reads s within);
+          taken = λ o m. ⊎_elim
+              (λ (n : mem o before.receiver.taken ≡ true). inl n)
+              (λ (b : Brought By.ByData o). inr (brings o b))
+              (d.taken o m);
+          reach_on = d.reach_on;
+          no_more = no_more;
+          size = d.size;
+          span = λ s o. ⊎_elim
+              (λ (b : before.over s ≡ true). inl b)
+              (λ (e : Ended s). inr (ends s e))
+              (d.ends s o);
+          span_over = λ s o. ap (λ (z : Direction). z.over s) d.is ∙ (runs_are_onward d.events before).over s o;
+          passed = ⊎_elim
+              (λ (e : after.receiver.passed ≡ before.receiver.passed). inl e)
+              (λ (b : Brought By.ByForward after.receiver.passed). inr (passes after.receiver.passed b))
+              d.passed;
+          given_up = λ s i g. inr (is.invariant.sending.given_up s i g).1;
+          closes =
+              ⊎_elim (λ (o : after.receiver.is_open ≡ true). inl o)
+              (λ (n : IsOpen (end_of receiver q) → ⊥). inr (inr n)) receives;
+          stays_closed = λ c. ap (λ (z : Direction). z.receiver.is_open) d.is ∙ (runs_are_onward d.events before).closed c;
+        }
 
   -- A call of A that settles leads from the world to one in which the pair stands: the packets that it gave out are A's
   -- next ones.
-  pub settled_a : {Added : ℕ → List Message} {Read : ℕ → Option letters.ReceivedMessage} {Brought : By → ℕ → Type 0}
-      (given : List (List ℕ)) (fits : Fits w.ends w) → q.b ≡ w.ends.b → q.packets_a ≡ w.ends.packets_a ++ given
+  pub settled_a : {Ended : ℕ → Type 0} {Added : ℕ → List Message} {Read : ℕ → Option letters.ReceivedMessage}
+      {Brought : By → ℕ → Type 0} (given : List (List ℕ)) (fits : Fits w.ends w) → q.b ≡ w.ends.b → q.packets_a ≡ w.ends.packets_a ++ given
       → q.packets_b ≡ w.ends.packets_b → Steps step w.ends reply q
-      → (s : Settles (around_a step reply w fits) q.a Added Read Brought)
+      → (s : SettlesEnding Ended (around_a step reply w fits) q.a Added Read Brought)
       → AreSaid w.initial_a w.initial_b s.here2 s.out2 s.coming2 given
-      → IsCallAt step reply sides.A w w.initial_b Added Read Brought → LeadsSafely step reply w q
+      → IsCallEnding Ended step reply sides.A w w.initial_b Added Read Brought → LeadsSafely step reply w q
   settled_a given fits same_b more same_packets ends s said call = (
     v,
     record {
@@ -227,11 +245,11 @@ module _ (step : Step) (reply : Reply) (w : World) (q : Ends) where
       loose_a_is = λ s. refl;
       loose_b_is = λ s. refl;
       ab_step =
-          direction_step sides.A sides.B w.initial_a s.does_out call.adds call.reads_alone (λ o n. absurd n)
+          direction_step sides.A sides.B w.initial_a s.does_out call.ends call.adds call.reads_alone (λ o n. absurd n)
           (λ o n. absurd n) (accepted_in_order step reply w q fits ends sides.A) (is_open s) s.sound_out
           (receives_or_stopped w.initial_b w.initial_a q.b s.coming2 s.out2 stands.side_b);
       ba_step =
-          direction_step sides.B sides.A w.initial_b s.does_coming call.adds_alone call.reads call.brings call.passes
+          direction_step sides.B sides.A w.initial_b s.does_coming call.ends call.adds_alone call.reads call.brings call.passes
           (accepted_in_order step reply w q fits ends sides.B)
           (inr (ap (λ (z : Sender). z.plan.places) s.coming_still)) s.sound_coming
           (receives_or_stopped w.initial_a w.initial_b q.a s.out2 s.coming2 stands.side_a);
@@ -256,6 +274,7 @@ module _ (step : Step) (reply : Reply) (w : World) (q : Ends) where
         is = refl;
         sound_ab = s.sound_out;
         sound_ba = s.sound_coming;
+        spans = s.both;
         side_a = s.stands;
         side_b =
             subst (λ (z : Shown). Stands (loose_after step reply sides.B w) w.initial_b w.initial_a z s.coming2 s.out2)
@@ -278,12 +297,12 @@ module _ (step : Step) (reply : Reply) (w : World) (q : Ends) where
       }
 
   -- The same of a call of B.
-  pub settled_b : {Added : ℕ → List Message} {Read : ℕ → Option letters.ReceivedMessage} {Brought : By → ℕ → Type 0}
-      (given : List (List ℕ)) (fits : Fits w.ends w) → q.a ≡ w.ends.a → q.packets_b ≡ w.ends.packets_b ++ given
+  pub settled_b : {Ended : ℕ → Type 0} {Added : ℕ → List Message} {Read : ℕ → Option letters.ReceivedMessage}
+      {Brought : By → ℕ → Type 0} (given : List (List ℕ)) (fits : Fits w.ends w) → q.a ≡ w.ends.a → q.packets_b ≡ w.ends.packets_b ++ given
       → q.packets_a ≡ w.ends.packets_a → Steps step w.ends reply q
-      → (s : Settles (around_b step reply w fits) q.b Added Read Brought)
+      → (s : SettlesEnding Ended (around_b step reply w fits) q.b Added Read Brought)
       → AreSaid w.initial_b w.initial_a s.here2 s.out2 s.coming2 given
-      → IsCallAt step reply sides.B w w.initial_a Added Read Brought → LeadsSafely step reply w q
+      → IsCallEnding Ended step reply sides.B w w.initial_a Added Read Brought → LeadsSafely step reply w q
   settled_b given fits same_a more same_packets ends s said call = (
     v,
     record {
@@ -293,12 +312,12 @@ module _ (step : Step) (reply : Reply) (w : World) (q : Ends) where
       loose_a_is = λ s. refl;
       loose_b_is = λ s. refl;
       ab_step =
-          direction_step sides.A sides.B w.initial_a s.does_coming call.adds_alone call.reads call.brings call.passes
+          direction_step sides.A sides.B w.initial_a s.does_coming call.ends call.adds_alone call.reads call.brings call.passes
           (accepted_in_order step reply w q fits ends sides.A)
           (inr (ap (λ (z : Sender). z.plan.places) s.coming_still)) s.sound_coming
           (receives_or_stopped w.initial_b w.initial_a q.b s.out2 s.coming2 stands.side_b);
       ba_step =
-          direction_step sides.B sides.A w.initial_b s.does_out call.adds call.reads_alone (λ o n. absurd n)
+          direction_step sides.B sides.A w.initial_b s.does_out call.ends call.adds call.reads_alone (λ o n. absurd n)
           (λ o n. absurd n) (accepted_in_order step reply w q fits ends sides.B) (is_open s) s.sound_out
           (receives_or_stopped w.initial_a w.initial_b q.a s.coming2 s.out2 stands.side_a);
     },
@@ -322,6 +341,7 @@ module _ (step : Step) (reply : Reply) (w : World) (q : Ends) where
         is = refl;
         sound_ab = s.sound_coming;
         sound_ba = s.sound_out;
+        spans = λ t. sym (s.both t);
         side_a =
             subst (λ (z : Shown). Stands (loose_after step reply sides.A w) w.initial_a w.initial_b z s.coming2 s.out2)
             (sym same_a) s.other;

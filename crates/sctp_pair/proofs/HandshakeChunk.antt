@@ -7,7 +7,7 @@ use Rattle.sctp_directions.specs.Acts.{Act, History, Parts, done_all}
 use Rattle.sctp_assoc.specs.Leads.{parts}
 use Rattle.sctp_assoc.specs.Happened.{acts_of_chunk}
 use Rattle.sctp_sides.specs.Meeting.{Greets, IsLearning, MayHear, stage_of}
-use Rattle.sctp_sides.specs.NoReset.{HasNoReset}
+use Rattle.sctp_sides.specs.PastSpan.{ResetsPastOnly}
 use Rattle.sctp_sides.specs.SideLaws.{TakesChunk}
 use Rattle.sctp_assoc.specs.Shown.{Shown}
 use Rattle.sctp_directions.proofs.Proved.{peer_known_is_no_event}
@@ -58,8 +58,9 @@ learnt x acts {a} {b} k u is (inr (met, deaf)) =
 
 -- The handshake goes on, and the directions stay.
 pub greet_step : {x : Surroundings} {B : By → ℕ → Type 0} (header : CommonHeader) (c : Chunk) {a b : Shown}
-    → TakesChunk header c a b → HasNoReset b → Greets x.peer x.there c → Underway x B a → Underway x B b
-greet_step {x} header c {a} {b} takes none greeting u =
+    → TakesChunk header c a b → Greets x.peer x.there c → (u : Underway x B a) → ResetsPastOnly u.coming2.over b
+    → Underway x B b
+greet_step {x} header c {a} {b} takes greeting u past =
     let g = takes.greets x.own x.peer x.there greeting u.meets.one u.stands.truthful u.stands.come in
     let works = works_on c a b takes.leaves in
     let leads = takes.leads u.stands.past u.stands.binds in
@@ -72,6 +73,7 @@ greet_step {x} header c {a} {b} takes none greeting u =
       goes_coming = u.goes_coming;
       within_out = u.within_out;
       within_coming = u.within_coming;
+      both = u.both;
       places_same = u.places_same;
       coming_still = u.coming_still;
       silent = u.silent;
@@ -91,7 +93,7 @@ greet_step {x} header c {a} {b} takes none greeting u =
         size = u.stands.size ∙ sym works.size;
         between = kept.holds.between;
         in_order = kept.holds.in_order;
-        no_reset = none;
+        resets = past;
       };
       holds = kept.holds;
     }

@@ -76,7 +76,7 @@ works_on (chunks.Error x) a b h = h
 works_on (chunks.CookieEcho x) a b h = h
 works_on chunks.CookieAck a b h = h
 works_on chunks.ShutdownComplete a b h = h
-works_on (chunks.Reconfig x) a b h = h
+works_on (chunks.Reconfig x) a b h = record { failed = h.failed; lost = h.lost; size = h.size }
 works_on (chunks.ForwardTsn x) a b h = record { failed = h.failed; lost = h.lost; size = h.size }
 works_on (chunks.IForwardTsn x) a b h = record { failed = h.failed; lost = h.lost; size = h.size }
 works_on (chunks.Other kind flags value) a b h = h

@@ -7,6 +7,7 @@ pub mod Callers
 pub mod CallsAreSteps
 pub mod Counted
 pub mod OutgoingData
+pub mod PastSpans
 pub mod ComingData
 pub mod FewInAll
 mod ForwardsMade
@@ -30,6 +31,7 @@ pub mod SaidStaysSaid
 pub mod QuietCalls
 pub mod SinceBegun
 pub mod StepsLead
+pub mod StopCall
 pub mod StreamCalls
 pub mod TimedCalls
 pub mod WaitingCounted

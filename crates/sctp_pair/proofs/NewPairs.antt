@@ -16,7 +16,7 @@ use Rattle.sctp_fit.proofs.NothingToSend.{fresh_ones_fit}
 use Rattle.sctp_fit.proofs.OtherEnd.{fresh_ones_receive_nothing}
 use Rattle.sctp_directions.specs.Acts.{IsKeptInOrder, begun}
 use Rattle.sctp_directions.specs.Between.{FitsBetween, IsSound}
-use Rattle.sctp_directions.proofs.Proved.{fresh_directions_are_plain}
+use Rattle.sctp_directions.proofs.Proved.{fresh_directions_are_within}
 use Rattle.sctp_assoc.specs.Leads.{Binds, parts}
 use Rattle.sctp_assoc.specs.Created.{client, create_refusal, join_refusal, joined, server}
 use Rattle.sctp_assoc.specs.Handshake.{sends_init}
@@ -44,7 +44,6 @@ fresh_is_sound : (size : ℕ) → 0 < size → IsSound (fresh size)
 fresh_is_sound size some = record {
   invariant = fresh_holds size some;
   counts = (fresh_ones_fit size 0).1;
-  plain = (fresh_directions_are_plain size).0;
 }
 
 -- An association with this payload size begins: it stands open between directions in which nothing happened.
@@ -59,11 +58,12 @@ fits_begin : {own_a own_b size_a size_b : ℕ} {a b : Shown} → Begins own_a ow
     → Fits p (empty_world p own_a own_b size_a size_b)
 fits_begin {own_a} {own_b} {size_a} {size_b} {a} {b} of_a of_b meets p is =
     subst (λ (z : Ends). Fits z (empty_world z own_a own_b size_a size_b)) (sym is) record {
-      within = ((fresh_directions_are_plain size_a).1, (fresh_directions_are_plain size_b).1);
+      within = (fresh_directions_are_within size_a, fresh_directions_are_within size_b);
       stand = record {
         is = refl;
         sound_ab = fresh_is_sound size_a of_a.some;
         sound_ba = fresh_is_sound size_b of_b.some;
+        spans = λ s. refl;
         side_a = inl of_a.stands;
         side_b = inl of_b.stands;
         stage_a = stage_of a;
@@ -125,14 +125,13 @@ joined_begins {size} {own} {peer} other j = record {
       };
       size = refl;
       between = nothing_between j.config j.remote own.initial_tsn peer.initial_tsn size other;
-      in_order = λ s tight. no_stream_yet s;
-      no_reset = record {
-        waiting = refl;
-        queued = refl;
-        active = refl;
-        in_progress = refl;
-        owed = refl;
-        kept = refl;
+      in_order = λ s within tight. no_stream_yet s;
+      resets = record {
+        resets = record {
+          own = record { waiting = tt; queued = tt; active = tt };
+          in_progress = tt;
+          kept = record { retiring = tt; deferred = tt; skipped = tt };
+        };
         control = tt;
       };
     }
@@ -191,14 +190,13 @@ client_begins {size} {own} other peer c = record {
       };
       size = refl;
       between = nothing_between c.config c.remote own 1 size other;
-      in_order = λ s tight. no_stream_yet s;
-      no_reset = record {
-        waiting = refl;
-        queued = refl;
-        active = refl;
-        in_progress = refl;
-        owed = refl;
-        kept = refl;
+      in_order = λ s within tight. no_stream_yet s;
+      resets = record {
+        resets = record {
+          own = record { waiting = tt; queued = tt; active = tt };
+          in_progress = tt;
+          kept = record { retiring = tt; deferred = tt; skipped = tt };
+        };
         control = (tt, tt);
       };
     }
@@ -243,14 +241,13 @@ server_begins {size} {own} other peer c = record {
       };
       size = refl;
       between = nothing_between c.config c.remote own 1 size other;
-      in_order = λ s tight. no_stream_yet s;
-      no_reset = record {
-        waiting = refl;
-        queued = refl;
-        active = refl;
-        in_progress = refl;
-        owed = refl;
-        kept = refl;
+      in_order = λ s within tight. no_stream_yet s;
+      resets = record {
+        resets = record {
+          own = record { waiting = tt; queued = tt; active = tt };
+          in_progress = tt;
+          kept = record { retiring = tt; deferred = tt; skipped = tt };
+        };
         control = tt;
       };
     }

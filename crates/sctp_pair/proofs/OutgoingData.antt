@@ -19,7 +19,7 @@ use Rattle.sctp_fit.proofs.NextPiece.{sent_pieces_are_events}
 use Rattle.sctp_directions.specs.Acts.{Act, Can, CanAll, IsOfItsOwn, IsNotPeerKnown, Parts, all_data_given, data_given}
 use Rattle.sctp_directions.specs.Acts.{done, done_all, sending}
 use Rattle.sctp_directions.specs.Between.{IsSound}
-use Rattle.sctp_directions.specs.Events.{AcceptsAMessage, IsForwardWithin, IsOfSending, IsPlainEvent}
+use Rattle.sctp_directions.specs.Events.{AcceptsAMessage, IsForwardWithin, IsOfSending}
 use Rattle.sctp_directions.specs.Said.{IsForwardMade}
 use Rattle.sctp_directions.specs.Reports.{SaysWhatWasTaken}
 use Rattle.sctp_directions.proofs.Proved.{its_abandonments_are_alike, its_acknowledgements_are_alike}
@@ -30,6 +30,7 @@ use Rattle.sctp_directions.proofs.Proved.{only_settings_loosen, its_pieces_are_g
 use Rattle.sctp_sides.specs.SideLaws.{GivesNew, GivesUpOrAgain}
 use Rattle.sctp_pair.proofs.BetweenDirections.{Goes, Holds, IsOrderly, None_brought, OtherStands, Surroundings}
 use Rattle.sctp_pair.proofs.BetweenDirections.{goes_by_sender, goes_nowhere, goes_on, other_by_sender, sound_after}
+use Rattle.sctp_pair.proofs.BetweenDirections.{spans_of}
 use Rattle.sctp_pair.proofs.SaidStaysSaid.{data_stays_said}
 use Rattle.sctp_pair.proofs.ForwardsMade.{abandonments_take_no_room, drops_take_no_room, resends_take_no_room, room}
 
@@ -66,11 +67,11 @@ record IsAfterEvents (x : Surroundings) (out2 : Direction) : Type 0 where
   sound : IsSound out2
   other : OtherStands (record x { out = out2 })
 
-after_event : (x : Surroundings) (e : Event) → IsOfSending e → (AcceptsAMessage e → ⊥) → IsPlainEvent e
-    → IsForwardWithin x.out e → IsSound x.out → OtherStands x → IsAfterEvents x (happens x.out e)
-after_event x e at none plain few sound other = record {
+after_event : (x : Surroundings) (e : Event) → IsOfSending e → (AcceptsAMessage e → ⊥) → IsForwardWithin x.out e
+    → IsSound x.out → OtherStands x → IsAfterEvents x (happens x.out e)
+after_event x e at none few sound other = record {
   goes = goes_by_sender None_brought x.out e at none;
-  sound = sound_after e plain (senders_events_keep_the_invariant x.out e at few sound.invariant) sound;
+  sound = sound_after e (senders_events_keep_the_invariant x.out e at few sound.invariant) sound;
   other = other_by_sender x e at sound.invariant other;
 }
 
@@ -80,9 +81,9 @@ after_nothing x sound other = record { goes = goes_nowhere None_brought x.out; s
 -- an event by which a piece goes out for the first time
 after_sending : (x : Surroundings) (e : Event) → SendsNext e → IsSound x.out → OtherStands x
     → IsAfterEvents x (happens x.out e)
-after_sending x (Event.PassOver s) t sound other = after_event x (Event.PassOver s) tt (λ n. n) tt tt sound other
-after_sending x (Event.Begin s i any) t sound other = after_event x (Event.Begin s i any) tt (λ n. n) tt tt sound other
-after_sending x Event.GoOn t sound other = after_event x Event.GoOn tt (λ n. n) tt tt sound other
+after_sending x (Event.PassOver s) t sound other = after_event x (Event.PassOver s) tt (λ n. n) tt sound other
+after_sending x (Event.Begin s i any) t sound other = after_event x (Event.Begin s i any) tt (λ n. n) tt sound other
+after_sending x Event.GoOn t sound other = after_event x Event.GoOn tt (λ n. n) tt sound other
 after_sending x e t sound other = absurd t
 
 -- a row of such events
@@ -117,7 +118,9 @@ module _ (x : Surroundings) (p : Parts) (h : Holds x p) where
         outgoing = fits;
         incoming = own_acts_leave_what_comes act p x.coming its_own h.between.incoming;
       };
-      in_order = λ s tight. only_settings_loosen act p s (orderly s) (h.in_order s tight);
+      in_order =
+          λ s within tight. only_settings_loosen act p s (orderly s)
+          (h.in_order s (spans_of after.goes s within) tight);
       other = after.other;
     };
     said = subst (λ o. AllByRecursion (IsGiven o out2) given) h.own_is said;
@@ -147,7 +150,7 @@ module _ (x : Surroundings) (p : Parts) (h : Holds x p) where
       let e : Event = Event.Abandon gone.0 gone.1 in record {
         after =
             act_at_sender (Act.Abandoned index) (happens x.out e) [] tt tt (λ s n. n)
-            (after_event x e tt (λ n. n) tt tt h.sound_out h.other) gone.2 tt;
+            (after_event x e tt (λ n. n) tt h.sound_out h.other) gone.2 tt;
         room_is = abandonments_take_no_room x.out gone.0 gone.1;
       }
   one_old Act.TailAbandoned g can =
@@ -156,7 +159,7 @@ module _ (x : Surroundings) (p : Parts) (h : Holds x p) where
       let e : Event = Event.Abandon gone.0 gone.1 in record {
         after =
             act_at_sender Act.TailAbandoned (happens x.out e) [] tt tt (λ s n. n)
-            (after_event x e tt (λ n. n) tt tt h.sound_out h.other) gone.2 tt;
+            (after_event x e tt (λ n. n) tt h.sound_out h.other) gone.2 tt;
         room_is = abandonments_take_no_room x.out gone.0 gone.1;
       }
   one_old (Act.Dropped k) g can =
@@ -164,7 +167,7 @@ module _ (x : Surroundings) (p : Parts) (h : Holds x p) where
       let e : Event = Event.Drop gone.0 gone.1 in record {
         after =
             act_at_sender (Act.Dropped k) (happens x.out e) [] tt tt (λ s n. n)
-            (after_event x e tt (λ n. n) tt tt h.sound_out h.other) gone.2 tt;
+            (after_event x e tt (λ n. n) tt h.sound_out h.other) gone.2 tt;
         room_is = drops_take_no_room x.out gone.0 gone.1;
       }
   one_old (Act.SentAgain by index) g can =
@@ -174,7 +177,7 @@ module _ (x : Surroundings) (p : Parts) (h : Holds x p) where
         after =
             act_at_sender (Act.SentAgain by index) (happens x.out e) (data_given (Act.SentAgain by index) p) tt tt
             (λ s n. n)
-            (after_event x e tt (λ n. n) tt tt h.sound_out h.other) resent.0 resent.1;
+            (after_event x e tt (λ n. n) tt h.sound_out h.other) resent.0 resent.1;
         room_is = resends_take_no_room x.out o;
       }
   one_old act g can = absurd g
@@ -189,7 +192,7 @@ module _ (x : Surroundings) (p : Parts) (h : Holds x p) where
       let e : Event = Event.ForwardMade in
       let after =
       act_at_sender Act.Forwarded (happens x.out e) [] tt tt (λ t n. n)
-      (after_event x e tt (λ n. n) tt few h.sound_out h.other) made.0 tt in
+      (after_event x e tt (λ n. n) few h.sound_out h.other) made.0 tt in
       record {
         out2 = after.out2;
         goes = after.goes;
@@ -210,7 +213,7 @@ unfolding act_at_sender
 act_acknowledged {x} {p} n k missing c sack h e says at can = (
   act_at_sender x p h (Act.Acknowledged n c.gap_ack_blocks missing) (happens x.out (Event.SackComes k)) [] tt tt
       (λ s n. n)
-      (after_event x (Event.SackComes k) tt (λ n. n) tt tt h.sound_out h.other)
+      (after_event x (Event.SackComes k) tt (λ n. n) tt h.sound_out h.other)
       (its_acknowledgements_are_alike p n k missing c sack x.out e says at can h.sound_out.invariant h.between.outgoing)
       tt,
   λ within. events_keep_the_limits x.out (Event.SackComes k) tt within,
@@ -221,7 +224,7 @@ pub given_grows : (own : ℕ) (w v : Direction) (ds : List ChunkPayloadData) →
     → AllByRecursion (IsGiven own w) ds → AllByRecursion (IsGiven own v) ds
 given_grows own w v ds g h =
     all_weaker (IsGiven own w) (IsGiven own v) ds
-    (λ c given. (given.0, given.1, g.datas given.0 given.1 given.2, data_stays_said own c given.1 g.spans given.3)) h
+    (λ c given. (given.0, given.1, g.datas given.0 given.1 given.2, data_stays_said own c given.1 (spans_of g) given.3)) h
 
 -- what was given out first, and then more
 after_both : (x : Surroundings) (p : Parts) (mid : Direction) (first second : List ChunkPayloadData)

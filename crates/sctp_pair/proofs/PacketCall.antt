@@ -1,6 +1,6 @@
 -- A packet of the other side comes to one association.
-use Rattle.std.proofs.Common.{◌≡◌, refl, sym, ap, ◌∙◌, subst, ◌⊎◌, ⊎_elim, inl, inr, ℕ, true, false, [], Option, Some}
-use Rattle.std.proofs.Common.{None}
+use Rattle.std.proofs.Common.{◌≡◌, refl, sym, ap, ◌∙◌, subst, ◌⊎◌, ⊎_elim, inl, inr, ℕ, Bool, true, false, [], Option}
+use Rattle.std.proofs.Common.{Some, None}
 use Rattle.std.proofs.lemmas.Bool.{cases_Bool}
 use Rattle.sctp_wire.specs.declared.packet.Packet.{Packet}
 use Rattle.sctp_model.specs.Packets.{mem}
@@ -10,10 +10,11 @@ use Rattle.sctp_assoc.specs.Closing.{is_closed_state}
 use Rattle.sctp_assoc.specs.Chunks.{after_packet}
 use Rattle.sctp_sides.specs.Meeting.{IsNoEarlier, Stage, stage_of}
 use Rattle.sctp_sides.specs.NoReset.{HasNoReset}
+use Rattle.sctp_sides.specs.PastSpan.{ResetsPastOnly}
 use Rattle.sctp_sides.specs.SideLaws.{Closes, EndsPacket, OfEachChunk}
 use Rattle.sctp_assoc.specs.Shown.{Shown}
 use Rattle.sctp_sides.proofs.Proved.{lost_associations_take_nothing, no_packet_changes_nothing, packets_carry}
-use Rattle.sctp_sides.proofs.Proved.{quiet_packets_carry, the_same_handshake_is_the_same_stage}
+use Rattle.sctp_sides.proofs.Proved.{past_packets_carry, the_same_handshake_is_the_same_stage}
 use Rattle.sctp_directions.proofs.Proved.{closed_receivers_are_not_open, receivers_events_are_received}
 use Rattle.sctp_pair.specs.Fits.{StagesAgree, StandsFailed}
 use Rattle.sctp_pair.specs.declared.step.Reply.{Reply}
@@ -24,7 +25,7 @@ use Rattle.sctp_pair.proofs.BetweenDirections.{SettlesQuietly, Surroundings, doe
 use Rattle.sctp_pair.proofs.BetweenDirections.{goes_nowhere, goes_on, moved, nothing_added, nothing_read}
 use Rattle.sctp_pair.proofs.BetweenDirections.{other_by_receiver, sound_after}
 use Rattle.sctp_pair.proofs.PacketChunks.{Brings_of, OtherSays, SaidIn, all_said_in, came_on, chunk_step}
-use Rattle.sctp_pair.proofs.PacketChunks.{said_is_no_reconfig}
+use Rattle.sctp_pair.proofs.PacketChunks.{said_resets_past, still_past}
 use Rattle.sctp_pair.proofs.QuietCalls.{fails_settle, same_settles}
 use Rattle.sctp_pair.proofs.HandshakeStages.{stays_put, works_on}
 use Rattle.sctp_pair.proofs.BetweenChunks.{Underway}
@@ -45,6 +46,7 @@ settled_open {x} {B} {a} u = record {
   does_coming = does_by_goes B x.coming u.coming2 u.goes_coming;
   sound_out = u.holds.sound_out;
   sound_coming = u.holds.sound_coming;
+  both = u.both;
   stands = inl u.stands;
   other = u.holds.other;
   goes = u.goes;
@@ -54,10 +56,11 @@ settled_open {x} {B} {a} u = record {
   coming_still = u.coming_still;
 }
 
-end_step : {x : Surroundings} {B : By → ℕ → Type 0} (a b : Shown) → EndsPacket a b → HasNoReset b → Underway x B a
+end_step : {x : Surroundings} {B : By → ℕ → Type 0} (a b : Shown) → EndsPacket a b
+    → (ResetsPastOnly x.coming.over a → ResetsPastOnly x.coming.over b) → Underway x B a
     → Settles x b nothing_added nothing_read B
-end_step {x} {B} a b ends none u =
-    settled_open (came_on u [] (ends.leads u.stands.past u.stands.binds) ends.same none tt
+end_step {x} {B} a b ends keeps u =
+    settled_open (came_on u [] (ends.leads u.stands.past u.stands.binds) ends.same (still_past u keeps) tt
     (coming_nowhere B u.within_coming u.holds))
 
 -- Closing
@@ -78,9 +81,10 @@ over_step {x} {B} a b side handshake truthful over none u =
       does_coming = does_by_goes B x.coming coming3 (goes_on B x.coming u.coming2 coming3 u.goes_coming goes);
       sound_out = u.holds.sound_out;
       sound_coming =
-          sound_after Event.Close tt
+          sound_after Event.Close
           (each_event_keeps_the_invariant u.coming2 Event.Close u.within_coming u.holds.sound_coming.invariant)
           u.holds.sound_coming;
+      both = λ t. u.both t ∙ ap (λ (g : ℕ → Bool). g t) (sym received.over);
       stands = inr (inl record {
         closed = over.closed;
         unestablished = over.unestablished;
@@ -99,8 +103,8 @@ over_step {x} {B} a b side handshake truthful over none u =
     }
 
 -- a server that listens stays as it is
-close_step : {x : Surroundings} {B : By → ℕ → Type 0} (a b : Shown) → Closes a b → HasNoReset b → Underway x B a
-    → Settles x b nothing_added nothing_read B
+close_step : {x : Surroundings} {B : By → ℕ → Type 0} (a b : Shown) → Closes a b
+    → (is_closed_state a.state ≡ false → HasNoReset b) → Underway x B a → Settles x b nothing_added nothing_read B
 close_step {x} {B} a b closes none u = ⊎_elim
     (λ (closed : is_closed_state a.state ≡ true).
     subst (λ (z : Shown). Settles x z nothing_added nothing_read B) (sym (closes.stays closed)) (settled_open u))
@@ -112,17 +116,18 @@ close_step {x} {B} a b closes none u = ⊎_elim
       lost = ended.lost;
       none_live = ended.none_live;
       holds_nothing = ended.holds_nothing;
-    }) none u)
+    }) (none opened) u)
     (cases_Bool (is_closed_state a.state))
 
 -- an exhausted receive buffer does as a fault does, and an ABORT waits then, in a server that listens too
-exhaust_step : {x : Surroundings} {B : By → ℕ → Type 0} (a b : Shown) → Exhausts a b → HasNoReset b → Underway x B a
-    → Settles x b nothing_added nothing_read B
-exhaust_step {x} {B} a b exhausts none u = ⊎_elim
+exhaust_step : {x : Surroundings} {B : By → ℕ → Type 0} (a b : Shown) → Exhausts a b
+    → (ResetsPastOnly x.coming.over a → ResetsPastOnly x.coming.over b)
+    → (is_closed_state a.state ≡ false → HasNoReset b) → Underway x B a → Settles x b nothing_added nothing_read B
+exhaust_step {x} {B} a b exhausts keeps none u = ⊎_elim
     (λ (closed : is_closed_state a.state ≡ true).
-    let stays = exhausts.stays closed in end_step a b (record { leads = stays.0; same = stays.1 }) none u)
+    let stays = exhausts.stays closed in end_step a b (record { leads = stays.0; same = stays.1 }) keeps u)
     (λ (opened : is_closed_state a.state ≡ false).
-    over_step a b exhausts.side exhausts.handshake exhausts.truthful (exhausts.ends opened) none u)
+    over_step a b exhausts.side exhausts.handshake exhausts.truthful (exhausts.ends opened) (none opened) u)
     (cases_Bool (is_closed_state a.state))
 
 -- A packet
@@ -135,6 +140,7 @@ start_step {x} B f s = record {
   goes_coming = goes_nowhere B x.coming;
   within_out = f.within_out;
   within_coming = f.within_coming;
+  both = f.both;
   places_same = refl;
   coming_still = refl;
   silent = f.silent;
@@ -160,13 +166,13 @@ module _ (x : Surroundings) (a : Shown) (now : ℕ) where
       subst (λ (z : Shown). Settles x z nothing_added nothing_read (Brings_of x None))
       (sym (no_packet_changes_nothing a now)) (settled_open u)
   open_packet (Some packet) present said u =
-      quiet_packets_carry (Underway x (Brings_of x (Some packet)))
+      past_packets_carry x.coming.over (Underway x (Brings_of x (Some packet)))
       (λ b. Settles x b nothing_added nothing_read (Brings_of x (Some packet)))
-      (SaidIn x (Some packet)) (said_is_no_reconfig x (Some packet))
-      (λ header c y z s takes none v. chunk_step (Some packet) header c s takes (none v.stands.no_reset) v)
-      (λ y z ends none v. end_step y z ends (none v.stands.no_reset) v)
-      (λ y z closes none v. close_step y z closes (none v.stands.no_reset) v)
-      (λ y z exhausts none v. exhaust_step y z exhausts (none v.stands.no_reset) v)
+      (SaidIn x (Some packet)) (said_resets_past x (Some packet))
+      (λ header c y z s takes keeps v. chunk_step (Some packet) header c s takes keeps v)
+      (λ y z ends keeps v. end_step y z ends keeps v)
+      (λ y z closes keeps none v. close_step y z closes none v)
+      (λ y z exhausts keeps none v. exhaust_step y z exhausts keeps none v)
       packet a now present (all_said_in x packet [] packet.chunks refl said) u
 
   -- An association that failed before stays so, whatever comes.
@@ -213,10 +219,12 @@ brings_more {x} {b} B s = record {
     forwards = s.does_coming.forwards;
     sacks = s.does_coming.sacks;
     spans = s.does_coming.spans;
+    ends = s.does_coming.ends;
     reach_on = s.does_coming.reach_on;
   };
   sound_out = s.sound_out;
   sound_coming = s.sound_coming;
+  both = s.both;
   stands = s.stands;
   other = s.other;
   goes = s.goes;

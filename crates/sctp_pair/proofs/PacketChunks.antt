@@ -1,6 +1,6 @@
 -- What the chunks of a packet do to one association between its directions.
 use Rattle.std.proofs.Common.{◌≡◌, refl, sym, ap, ◌∙◌, subst, ◌⊎◌, ⊎_elim, inl, inr, ℕ, ◌+◌, ◌<◌, ◌≤◌, arith}
-use Rattle.std.proofs.Common.{true, false, List, [], ◌∷◌, ◌++◌, length, Option, Some}
+use Rattle.std.proofs.Common.{Bool, true, false, List, [], ◌∷◌, ◌++◌, length, Option, Some}
 use Rattle.std.specs.Prelude.{⊤, slice_get}
 use Rattle.std.specs.List.{AllByRecursion}
 use Rattle.std.proofs.lemmas.Bool.{cases_Bool}
@@ -9,6 +9,7 @@ use Rattle.sctp_wire_types.specs.declared.chunk.Chunk.{Chunk}
 use Rattle.sctp_wire_types.specs.declared.chunk.Chunk.TheVariants as chunks
 use Rattle.sctp_wire_types.specs.declared.chunk.ChunkForwardTsn.{ChunkForwardTsn}
 use Rattle.sctp_wire_types.specs.declared.chunk.ChunkPayloadData.{ChunkPayloadData}
+use Rattle.sctp_wire_types.specs.declared.chunk.ChunkReconfig.{ChunkReconfig}
 use Rattle.sctp_wire_types.specs.declared.chunk.ChunkSelectiveAck.{ChunkSelectiveAck}
 use Rattle.sctp_wire_types.specs.declared.chunk.SkippedStream.{SkippedStream}
 use Rattle.sctp_wire_types.specs.declared.packet.CommonHeader.{CommonHeader}
@@ -19,7 +20,7 @@ use Rattle.sctp_model.specs.Packets.{Data, Forward}
 use Rattle.sctp_serial.specs.Serial.{tsn}
 use Rattle.sctp_model.specs.Machine.{Sender}
 use Rattle.sctp_model.specs.Safe.{IsWithin}
-use Rattle.sctp_model.proofs.Lists.{all_get}
+use Rattle.sctp_model.proofs.Lists.{all_get, all_join}
 use Rattle.sctp_fit.specs.Incoming.{IsSaid, tsn_before}
 use Rattle.sctp_fit.specs.Sendings.{IsGiven}
 use Rattle.sctp_directions.specs.Acts.{Act, CanAll, History, IsNotPeerKnown, Parts, done, done_all}
@@ -30,19 +31,23 @@ use Rattle.sctp_assoc.specs.Leads.{Leads, parts}
 use Rattle.sctp_assoc.specs.Happened.{acts_of_chunk}
 use Rattle.sctp_assoc.specs.Shown.{Shown}
 use Rattle.sctp_sides.specs.Meeting.{Greets, Stage}
-use Rattle.sctp_sides.specs.NoReset.{HasNoReset, IsNoReconfig}
-use Rattle.sctp_sides.specs.SideLaws.{IsAcknowledging, IsPassingOver, IsSameStatus, IsTaking, OpensAndTakes, OpensOnly}
-use Rattle.sctp_sides.specs.SideLaws.{TakesChunk, TakesOnly}
-use Rattle.sctp_sides.proofs.Proved.{data_opens_or_takes, forwards_pass_over, sacks_acknowledge}
+use Rattle.sctp_sides.specs.PastSpan.{EndsPast, ResetsPast, ResetsPastIfAny, ResetsPastOnly}
+use Rattle.sctp_sides.specs.SideLaws.{DefersOnly, IsAcknowledging, IsPassingOver, IsSameStatus, IsTaking, OpensAndTakes}
+use Rattle.sctp_sides.specs.SideLaws.{OpensOnly, TakesChunk, TakesOnly, WithEndsBehind}
+use Rattle.sctp_sides.proofs.Proved.{data_opens_or_takes, done_append, forwards_pass_over, more_are_past}
+use Rattle.sctp_sides.proofs.Proved.{more_is_asked_past, reconfigs_end_past, reconfigs_keep_the_status, sacks_acknowledge}
 use Rattle.sctp_pair.specs.Fits.{IsSaidBy}
 use Rattle.sctp_pair.specs.World.{HasData, HasForward}
-use Rattle.sctp_pair.proofs.BetweenDirections.{By, Holds, None_brought, Surroundings, goes_nowhere, goes_on, moved}
+use Rattle.sctp_pair.proofs.BetweenDirections.{By, Holds, None_brought, Surroundings, can_back, can_front, goes_nowhere}
+use Rattle.sctp_pair.proofs.BetweenDirections.{goes_on, moved, spans_of}
+use Rattle.sctp_pair.proofs.PastSpans.{changes_as, ends_are_not_peer_known, ends_change_past}
 use Rattle.sctp_pair.proofs.OutgoingData.{AfterOut, act_acknowledged}
 use Rattle.sctp_pair.proofs.SaidStaysSaid.{data_stays_said, forward_stays_said}
 use Rattle.sctp_pair.proofs.HandshakeStages.{hearers_know}
 use Rattle.sctp_pair.proofs.HandshakeChunk.{greet_step}
 use Rattle.sctp_pair.proofs.BetweenChunks.{Underway, goes_same, meets_same, stands_by}
-use Rattle.sctp_pair.proofs.ComingData.{AfterComing, act_opened, act_passed, act_took, coming_nowhere}
+use Rattle.sctp_pair.proofs.ComingData.{AfterComing, act_deferred, act_opened, act_passed, act_took, coming_nowhere}
+use Rattle.sctp_pair.proofs.ComingData.{holds_past}
 
 -- DATA
 
@@ -99,7 +104,7 @@ module _ (x : Surroundings) (B : By → ℕ → Type 0) (a : Shown) (h : History
           index = k;
           datum = d;
           there = one.goes.datas k d e;
-          said = data_stays_said x.peer piece d one.goes.spans said;
+          said = data_stays_said x.peer piece d (spans_of one.goes) said;
           brought = brought;
           known = known;
           can = both.1.0;
@@ -115,31 +120,86 @@ module _ (x : Surroundings) (B : By → ℕ → Type 0) (a : Shown) (h : History
           holds = two.holds;
         }
 
-  take_shape : (acts : List Act) → IsTaking a piece acts → CanAll acts (parts a h) → IsGiven x.peer x.coming piece
+    data_defers : DefersOnly x.coming.over piece acts → Comes x B (parts a h) acts
+    data_defers t =
+        let one = subst (λ zs. CanAll zs (parts a h)) t.are can in
+        subst (Comes x B (parts a h)) (sym t.are) (act_deferred x (parts a h) B holds within piece record {
+          index = k;
+          datum = d;
+          there = e;
+          said = said;
+          brought = brought;
+          known = known;
+          can = one.0;
+          past = t.past;
+        })
+
+  take_shape : (acts : List Act) → IsTaking x.coming.over a piece acts → CanAll acts (parts a h)
+      → IsGiven x.peer x.coming piece
       → ((o : ℕ) → piece.tsn ≡ tsn x.peer o → B By.ByData o) → Comes x B (parts a h) acts
   take_shape acts (inl n) can given brings =
       subst (Comes x B (parts a h)) (sym n) (coming_nowhere B within holds)
   take_shape acts (inr (inl o)) can given brings = data_opens acts o
   take_shape acts (inr (inr (inl t))) can (k, d, e, said) brings =
       data_opens_and_takes k d e said (brings d.offset said.tsn) acts can t
-  take_shape acts (inr (inr (inr t))) can (k, d, e, said) brings =
+  take_shape acts (inr (inr (inr (inl t)))) can (k, d, e, said) brings =
       data_takes k d e said (brings d.offset said.tsn) acts can t
+  take_shape acts (inr (inr (inr (inr t)))) can (k, d, e, said) brings =
+      data_defers k d e said (brings d.offset said.tsn) acts can t
 
-taking_is_not_peer_known : (a : Shown) (piece : ChunkPayloadData) (acts : List Act) → IsTaking a piece acts
-    → AllByRecursion IsNotPeerKnown acts
-taking_is_not_peer_known a piece acts (inl n) = subst (AllByRecursion IsNotPeerKnown) (sym n) tt
-taking_is_not_peer_known a piece acts (inr (inl o)) = subst (AllByRecursion IsNotPeerKnown) (sym o.are) (tt, tt)
-taking_is_not_peer_known a piece acts (inr (inr (inl t))) =
+taking_is_not_peer_known : (over : ℕ → Bool) (a : Shown) (piece : ChunkPayloadData) (acts : List Act)
+    → IsTaking over a piece acts → AllByRecursion IsNotPeerKnown acts
+taking_is_not_peer_known over a piece acts (inl n) = subst (AllByRecursion IsNotPeerKnown) (sym n) tt
+taking_is_not_peer_known over a piece acts (inr (inl o)) = subst (AllByRecursion IsNotPeerKnown) (sym o.are) (tt, tt)
+taking_is_not_peer_known over a piece acts (inr (inr (inl t))) =
     subst (AllByRecursion IsNotPeerKnown) (sym t.are) (tt, (tt, tt))
-taking_is_not_peer_known a piece acts (inr (inr (inr t))) = subst (AllByRecursion IsNotPeerKnown) (sym t.are) (tt, tt)
+taking_is_not_peer_known over a piece acts (inr (inr (inr (inl t)))) =
+    subst (AllByRecursion IsNotPeerKnown) (sym t.are) (tt, tt)
+taking_is_not_peer_known over a piece acts (inr (inr (inr (inr t)))) =
+    subst (AllByRecursion IsNotPeerKnown) (sym t.are) (tt, tt)
 
--- Acts of a chunk, which leave the status, begin no reset and do not make the peer known, led the direction that comes
--- on.
+-- Behind such acts spans end that were over before: the directions do not see it.
+module _ (x : Surroundings) (B : By → ℕ → Type 0) (p : Parts) (both : (s : ℕ) → x.out.over s ≡ x.coming.over s) where
+  ends_behind : (front behind : List Act) → AllByRecursion (EndsPast x.coming.over) behind
+      → CanAll behind (done_all front p) → Comes x B p front → Comes x B p (front ++ behind)
+  ends_behind front behind past can after =
+      let c = ends_change_past x.coming.over behind (done_all front p) past can in
+      let next : Surroundings = record x { coming = after.coming2 } in
+      let same = changes_as (λ t within. sym (after.goes.same_spans t) ∙ within) c in
+      let holds = holds_past next (done_all front p) (done_all behind (done_all front p))
+      (λ t. both t ∙ sym (after.goes.same_spans t)) same after.holds in
+      record {
+        coming2 = after.coming2;
+        goes = after.goes;
+        still = after.still;
+        within = after.within;
+        holds = subst (Holds next) (sym (done_append front behind p)) holds;
+      }
+
+  -- So it is of acts of a chunk, of which the ones in front are so.
+  with_ends : (Are : List Act → Type 0) (acts : List Act) → WithEndsBehind x.coming.over Are acts → CanAll acts p
+      → ((front : List Act) → Are front → CanAll front p → Comes x B p front) → Comes x B p acts
+  with_ends Are acts w can comes =
+      let both_can = subst (λ zs. CanAll zs p) w.are can in
+      subst (Comes x B p) (sym w.are)
+      (ends_behind w.front w.behind w.behind_are (can_back w.front w.behind p both_can)
+      (comes w.front w.front_are (can_front w.front w.behind p both_can)))
+
+-- none of them makes the peer known
+ends_not_peer_known : (over : ℕ → Bool) (Are : List Act → Type 0) (acts : List Act) → WithEndsBehind over Are acts
+    → ((front : List Act) → Are front → AllByRecursion IsNotPeerKnown front) → AllByRecursion IsNotPeerKnown acts
+ends_not_peer_known over Are acts w each =
+    subst (AllByRecursion IsNotPeerKnown) (sym w.are)
+    (all_join IsNotPeerKnown w.front w.behind (each w.front w.front_are)
+    (ends_are_not_peer_known over w.behind w.behind_are))
+
+-- Acts of a chunk, which leave the status, have resets concern streams past their span alone and do not make the peer
+-- known, led the direction that comes on.
 pub came_on : {x : Surroundings} {B : By → ℕ → Type 0} {a b : Shown} (u : Underway x B a) (acts : List Act)
-    (leads : (k : History) × Leads acts a u.stands.past b k) → IsSameStatus a b → HasNoReset b
+    (leads : (k : History) × Leads acts a u.stands.past b k) → IsSameStatus a b → ResetsPastOnly u.coming2.over b
     → AllByRecursion IsNotPeerKnown acts → Comes (moved x u.out2 u.coming2) B (parts a u.stands.past) acts → Underway x B b
 unfolding stands_by
-came_on {x} {B} {a} {b} u acts leads same none nobody after =
+came_on {x} {B} {a} {b} u acts leads same past nobody after =
     let next : Surroundings = moved x u.out2 after.coming2 in
     let holds : Holds next (parts b leads.0) = subst (Holds next) (sym leads.1.there) after.holds in
     let met = ap (λ (p : Parts). p.history.peer) leads.1.there
@@ -151,28 +211,52 @@ came_on {x} {B} {a} {b} u acts leads same none nobody after =
       goes_coming = goes_on B x.coming u.coming2 after.coming2 u.goes_coming after.goes;
       within_out = u.within_out;
       within_coming = after.within;
+      both = λ t. u.both t ∙ sym (after.goes.same_spans t);
       places_same = u.places_same;
       coming_still = after.still ∙ u.coming_still;
       silent = λ never. ap (λ (z : Sender). z.plan.places) after.still ∙ u.silent never;
       goes = goes_same a b same u.goes;
       meets = meets_same a b same u.meets;
-      stands = stands_by next leads.0 u.stands same none leads.1.binds met refl holds;
+      stands = stands_by next leads.0 u.stands same
+          (more_are_past u.coming2.over after.coming2.over b (λ t o. after.goes.same_spans t ∙ o) past) leads.1.binds met
+          refl holds;
       holds = holds;
     }
 
 data_step : {x : Surroundings} {B : By → ℕ → Type 0} (header : CommonHeader) (piece : ChunkPayloadData) {a b : Shown}
-    → TakesChunk header (chunks.Data piece) a b → HasNoReset b → IsGiven x.peer x.coming piece
-    → ((o : ℕ) → piece.tsn ≡ tsn x.peer o → B By.ByData o) → Underway x B a → Underway x B b
-data_step {x} {B} header piece {a} {b} takes none (k, d, e, said) brings u =
+    → TakesChunk header (chunks.Data piece) a b → IsGiven x.peer x.coming piece
+    → ((o : ℕ) → piece.tsn ≡ tsn x.peer o → B By.ByData o) → (u : Underway x B a) → ResetsPastOnly u.coming2.over b
+    → Underway x B b
+data_step {x} {B} header piece {a} {b} takes (k, d, e, said) brings u past =
     let h : History = u.stands.past in
     let acts : List Act = acts_of_chunk a header (chunks.Data piece) in
-    let taking = data_opens_or_takes a header piece u.stands.no_reset in
+    let now : Surroundings = moved x u.out2 u.coming2 in
+    let taking = data_opens_or_takes u.coming2.over a header piece u.stands.resets.resets in
     let leads = takes.leads h u.stands.binds in
     let there = u.goes_coming.datas k d e in
-    let still = data_stays_said x.peer piece d u.goes_coming.spans said in
-    came_on u acts leads takes.leaves none (taking_is_not_peer_known a piece acts taking)
-    (take_shape (moved x u.out2 u.coming2) B a h piece (data_is_known k d u there) u.within_coming u.holds acts taking
-    leads.1.can (k, d, there, still) brings)
+    let still = data_stays_said x.peer piece d (spans_of u.goes_coming) said in
+    came_on u acts leads takes.leaves past
+    (ends_not_peer_known u.coming2.over (IsTaking u.coming2.over a piece) acts taking
+    (λ front is. taking_is_not_peer_known u.coming2.over a piece front is))
+    (with_ends now B (parts a h) u.both (IsTaking u.coming2.over a piece) acts taking leads.1.can
+    (λ front is can. take_shape now B a h piece (data_is_known k d u there) u.within_coming u.holds front is can
+    (k, d, there, still) brings))
+
+-- RE-CONFIG
+
+-- one that names streams past their span changes such streams alone
+reset_step : {x : Surroundings} {B : By → ℕ → Type 0} (header : CommonHeader) (c : ChunkReconfig) {a b : Shown}
+    → TakesChunk header (chunks.Reconfig c) a b → (u : Underway x B a) → ResetsPast u.coming2.over (chunks.Reconfig c)
+    → ResetsPastOnly u.coming2.over b → Underway x B b
+reset_step {x} {B} header c {a} {b} takes u named past =
+    let h : History = u.stands.past in
+    let acts : List Act = acts_of_chunk a header (chunks.Reconfig c) in
+    let ends = reconfigs_end_past u.coming2.over a header c u.stands.resets.resets named in
+    let leads = takes.leads h u.stands.binds in
+    came_on u acts leads (reconfigs_keep_the_status a b header c takes) past
+    (ends_are_not_peer_known u.coming2.over acts ends)
+    (ends_behind (moved x u.out2 u.coming2) B (parts a h) u.both [] acts ends leads.1.can
+    (coming_nowhere B u.within_coming u.holds))
 
 -- FORWARD TSN
 
@@ -218,18 +302,24 @@ passing_is_not_peer_known tsn skipped acts (inl n) = subst (AllByRecursion IsNot
 passing_is_not_peer_known tsn skipped acts (inr t) = subst (AllByRecursion IsNotPeerKnown) (sym t) (tt, tt)
 
 forward_step : {x : Surroundings} {B : By → ℕ → Type 0} (header : CommonHeader) (c : ChunkForwardTsn) {a b : Shown}
-    → TakesChunk header (chunks.ForwardTsn c) a b → HasNoReset b → IsForwardMade x.peer x.coming c
-    → ((n : ℕ) → c.new_cumulative_tsn ≡ tsn_before (tsn x.peer n) → B By.ByForward n) → Underway x B a → Underway x B b
-forward_step {x} {B} header c {a} {b} takes none (k, f, e, said) brings u =
+    → TakesChunk header (chunks.ForwardTsn c) a b → IsForwardMade x.peer x.coming c
+    → ((n : ℕ) → c.new_cumulative_tsn ≡ tsn_before (tsn x.peer n) → B By.ByForward n) → (u : Underway x B a)
+    → ResetsPastOnly u.coming2.over b → Underway x B b
+forward_step {x} {B} header c {a} {b} takes (k, f, e, said) brings u past =
     let h : History = u.stands.past in
     let acts : List Act = acts_of_chunk a header (chunks.ForwardTsn c) in
-    let passing = forwards_pass_over a header c u.stands.no_reset in
+    let now : Surroundings = moved x u.out2 u.coming2 in
+    let Passing : List Act → Type 0 = IsPassingOver c.new_cumulative_tsn c.streams in
+    let passing = forwards_pass_over u.coming2.over a header c u.stands.resets.resets in
     let leads = takes.leads h u.stands.binds in
     let there = u.goes_coming.forwards k f e in
-    let still = forward_stays_said x.peer c f u.goes_coming.spans said in
-    came_on u acts leads takes.leaves none (passing_is_not_peer_known c.new_cumulative_tsn c.streams acts passing)
-    (forward_shape (moved x u.out2 u.coming2) B a h c (forward_is_known k f u there) u.within_coming u.holds acts
-    passing leads.1.can (k, f, there, still) brings)
+    let still = forward_stays_said x.peer c f (spans_of u.goes_coming) said in
+    came_on u acts leads takes.leaves past
+    (ends_not_peer_known u.coming2.over Passing acts passing
+    (λ front is. passing_is_not_peer_known c.new_cumulative_tsn c.streams front is))
+    (with_ends now B (parts a h) u.both Passing acts passing leads.1.can
+    (λ front is can. forward_shape now B a h c (forward_is_known k f u there) u.within_coming u.holds front is can
+    (k, f, there, still) brings))
 
 -- SACK
 
@@ -260,10 +350,10 @@ sack_is_not_peer_known a h c acts (inl n) = subst (AllByRecursion IsNotPeerKnown
 sack_is_not_peer_known a h c acts (inr s) = subst (AllByRecursion IsNotPeerKnown) (sym s.are) (tt, tt)
 
 sack_step : {x : Surroundings} {B : By → ℕ → Type 0} (header : CommonHeader) (s : ChunkSelectiveAck) {a b : Shown}
-    → TakesChunk header (chunks.SelectiveAck s) a b → HasNoReset b → IsMade x.own x.out s → Underway x B a
-    → Underway x B b
+    → TakesChunk header (chunks.SelectiveAck s) a b → IsMade x.own x.out s → (u : Underway x B a)
+    → ResetsPastOnly u.coming2.over b → Underway x B b
 unfolding stands_by
-sack_step {x} {B} header s {a} {b} takes none (k, sack, e, says) u =
+sack_step {x} {B} header s {a} {b} takes (k, sack, e, says) u past =
     let h : History = u.stands.past in
     let acts : List Act = acts_of_chunk a header (chunks.SelectiveAck s) in
     let shape = sacks_acknowledge a h header s u.stands.binds in
@@ -282,12 +372,13 @@ sack_step {x} {B} header s {a} {b} takes none (k, sack, e, says) u =
       goes_coming = u.goes_coming;
       within_out = both.1;
       within_coming = u.within_coming;
+      both = λ t. after.goes.same_spans t ∙ u.both t;
       places_same = both.2 ∙ u.places_same;
       coming_still = u.coming_still;
       silent = u.silent;
       goes = goes_same a b takes.leaves u.goes;
       meets = meets_same a b takes.leaves u.meets;
-      stands = stands_by next leads.0 u.stands takes.leaves none leads.1.binds met after.goes.size holds;
+      stands = stands_by next leads.0 u.stands takes.leaves past leads.1.binds met after.goes.size holds;
       holds = holds;
     }
 
@@ -310,41 +401,65 @@ OtherSays x c = IsSaidBy x.peer x.own x.there x.coming x.out c
 abbrev pub SaidIn : Surroundings → Option Packet → Chunk → Type 0
 SaidIn x packet c = OtherSays x c × IsIn packet c
 
--- no chunk of a handshake is a RE-CONFIG
-greeting_is_no_reconfig : (own : ℕ) (s : Stage) (c : Chunk) → Greets own s c → IsNoReconfig c
-greeting_is_no_reconfig own s (chunks.Reconfig reconfig) greeting = greeting
-greeting_is_no_reconfig own s c greeting = tt
+-- a chunk of the handshake resets nothing
+greeting_resets_nothing : (over : ℕ → Bool) (own : ℕ) (s : Stage) (c : Chunk) → Greets own s c → ResetsPastIfAny over c
+greeting_resets_nothing over own s (chunks.Reconfig reconfig) greeting = absurd greeting
+greeting_resets_nothing over own s c greeting = tt
 
--- it is DATA, a SACK, a FORWARD TSN or the handshake's
+-- what resets streams past their span is a RE-CONFIG
+resets_by_reconfig : (over : ℕ → Bool) (P : Chunk → Type 0)
+    → ((c : ChunkReconfig) → ResetsPast over (chunks.Reconfig c) → P (chunks.Reconfig c))
+    → (c : Chunk) → ResetsPast over c → P c
+resets_by_reconfig over P each (chunks.Reconfig c) named = each c named
+resets_by_reconfig over P each c named = absurd named
+
+-- it is DATA, a SACK, a FORWARD TSN, the handshake's or a RE-CONFIG
 said_cases : (x : Surroundings) (packet : Option Packet) (P : Chunk → Type 0)
     → ((piece : ChunkPayloadData) → IsGiven x.peer x.coming piece → HasData packet piece.tsn → P (chunks.Data piece))
     → ((s : ChunkSelectiveAck) → IsMade x.own x.out s → P (chunks.SelectiveAck s))
     → ((c : ChunkForwardTsn) → IsForwardMade x.peer x.coming c → HasForward packet c.new_cumulative_tsn
     → P (chunks.ForwardTsn c))
     → ((c : Chunk) → Greets x.peer x.there c → P c)
+    → ((c : ChunkReconfig) → ResetsPast x.coming.over (chunks.Reconfig c) → P (chunks.Reconfig c))
     → (c : Chunk) → SaidIn x packet c → P c
-said_cases x packet P gives acks forwards greets c (inr said, here) = greets c said
-said_cases x packet P gives acks forwards greets (chunks.Data piece) (inl said, here) = gives piece said here
-said_cases x packet P gives acks forwards greets (chunks.SelectiveAck s) (inl said, here) = acks s said
-said_cases x packet P gives acks forwards greets (chunks.ForwardTsn c) (inl said, here) = forwards c said here
-said_cases x packet P gives acks forwards greets c (inl said, here) = absurd said
+said_cases x packet P gives acks forwards greets resets c (inr (inl said), here) = greets c said
+said_cases x packet P gives acks forwards greets resets c (inr (inr said), here) =
+    resets_by_reconfig x.coming.over P resets c said
+said_cases x packet P gives acks forwards greets resets (chunks.Data piece) (inl said, here) = gives piece said here
+said_cases x packet P gives acks forwards greets resets (chunks.SelectiveAck s) (inl said, here) = acks s said
+said_cases x packet P gives acks forwards greets resets (chunks.ForwardTsn c) (inl said, here) = forwards c said here
+said_cases x packet P gives acks forwards greets resets c (inl said, here) = absurd said
 
--- and so it is no RE-CONFIG
-pub said_is_no_reconfig : (x : Surroundings) (packet : Option Packet) (c : Chunk) → SaidIn x packet c → IsNoReconfig c
-said_is_no_reconfig x packet c said =
-    said_cases x packet IsNoReconfig (λ piece given here. tt) (λ s made. tt) (λ f made here. tt)
-    (λ z greeting. greeting_is_no_reconfig x.peer x.there z greeting) c said
+-- and so, if it is a RE-CONFIG, it names streams past their span alone
+pub said_resets_past : (x : Surroundings) (packet : Option Packet) (c : Chunk) → SaidIn x packet c
+    → ResetsPastIfAny x.coming.over c
+said_resets_past x packet c said =
+    said_cases x packet (ResetsPastIfAny x.coming.over) (λ piece given here. tt) (λ s made. tt) (λ f made here. tt)
+    (λ z greeting. greeting_resets_nothing x.coming.over x.peer x.there z greeting) (λ r named. named) c said
+
+-- what keeps resets to streams past their span does so where the packet led
+pub still_past : {x : Surroundings} {B : By → ℕ → Type 0} {a b : Shown} (u : Underway x B a)
+    → (ResetsPastOnly x.coming.over a → ResetsPastOnly x.coming.over b) → ResetsPastOnly u.coming2.over b
+still_past {x} {a = a} {b = b} u keeps =
+    let same = u.goes_coming.same_spans in
+    more_are_past x.coming.over u.coming2.over b (λ t o. same t ∙ o)
+    (keeps (more_are_past u.coming2.over x.coming.over a (λ t o. sym (same t) ∙ o) u.stands.resets))
 
 pub chunk_step : {x : Surroundings} (packet : Option Packet) (header : CommonHeader) (c : Chunk) {a b : Shown}
-    → SaidIn x packet c → TakesChunk header c a b → HasNoReset b → Underway x (Brings_of x packet) a
-    → Underway x (Brings_of x packet) b
-chunk_step {x} packet header c {a} {b} said takes none u =
+    → SaidIn x packet c → TakesChunk header c a b
+    → (ResetsPastOnly x.coming.over a → ResetsPastOnly x.coming.over b)
+    → Underway x (Brings_of x packet) a → Underway x (Brings_of x packet) b
+chunk_step {x} packet header c {a} {b} said takes keeps u =
     let B : By → ℕ → Type 0 = Brings_of x packet in
+    let same = u.goes_coming.same_spans in
+    let past : ResetsPastOnly u.coming2.over b = still_past u keeps in
     said_cases x packet (λ (z : Chunk). TakesChunk header z a b → Underway x B b)
-    (λ piece given brought takes. data_step header piece takes none given (λ o e. subst (HasData packet) e brought) u)
-    (λ s made takes. sack_step header s takes none made u)
-    (λ f made brought takes. forward_step header f takes none made (λ n e. subst (HasForward packet) e brought) u)
-    (λ z greeting takes. greet_step header z takes none greeting u)
+    (λ piece given brought takes. data_step header piece takes given (λ o e. subst (HasData packet) e brought) u past)
+    (λ s made takes. sack_step header s takes made u past)
+    (λ f made brought takes. forward_step header f takes made (λ n e. subst (HasForward packet) e brought) u past)
+    (λ z greeting takes. greet_step header z takes greeting u past)
+    (λ r named takes. reset_step header r takes u
+    (more_is_asked_past x.coming.over u.coming2.over (chunks.Reconfig r) (λ t o. same t ∙ o) named) past)
     c said takes
 
 -- The chunks of a packet

@@ -10,18 +10,22 @@ use Rattle.sctp_wire.specs.declared.packet.Packet.{Packet}
 use Rattle.sctp_model.specs.Safe.{IsWithin}
 use Rattle.sctp_model.proofs.Lists.{all_front, all_get, all_join, all_weaker}
 use Rattle.sctp_directions.specs.Acts.{Act, CanAll, History, Parts, all_data_given, done_all}
-use Rattle.sctp_assoc.specs.Leads.{parts}
+use Rattle.sctp_assoc.specs.Leads.{Leads, parts}
 use Rattle.sctp_assoc.specs.Calls.{is_established}
-use Rattle.sctp_assoc.specs.Happened.{Polls, PollsOn, acts_of_poll, forwards_of_poll}
+use Rattle.sctp_assoc.specs.Happened.{IsOfControl, Polls, PollsOn, acts_of_ack, acts_of_data_poll, acts_of_forwarding}
+use Rattle.sctp_assoc.specs.Happened.{acts_of_poll, forwards_of_poll}
 use Rattle.sctp_assoc.specs.declared.control.Control.TheVariants as controls
 use Rattle.sctp_sides.specs.Meeting.{Greets, IsTruthful, SaysWhatIsSo, Stage, WaitsTruthfully, stage_of}
-use Rattle.sctp_assoc.specs.Gather.{AreControlReadAgain, has_something_to_give, polled, without_control}
-use Rattle.sctp_sides.specs.NoReset.{HasNoReset, IsNoReconfig, IsOfNoReset, control_packets}
+use Rattle.sctp_assoc.specs.Gather.{AreControlReadAgain, control_polled, has_something_to_give, polled}
+use Rattle.sctp_assoc.specs.Gather.{without_control}
+use Rattle.sctp_sides.specs.NoReset.{HasNoReset, control_packets}
+use Rattle.sctp_sides.specs.PastSpan.{AsksPast, ResetsNoMore, ResetsPast, ResetsPastIfAny, ResetsPastOnly, WaitsPast}
 use Rattle.sctp_sides.specs.SideLaws.{IsExchanged, IsGivenBy, IsPolling, IsSameStatus, IsWaitingToGo, OfEachChunk}
 use Rattle.sctp_sides.specs.SideLaws.{reports}
 use Rattle.sctp_assoc.specs.Shown.{Shown}
 use Rattle.sctp_sides.proofs.Proved.{acts_tied, done_append, established_sides_talk, forwardings_are_silent}
-use Rattle.sctp_sides.proofs.Proved.{given_append, polls_begin_no_reset, polls_give_and_report}
+use Rattle.sctp_sides.proofs.Proved.{given_append, more_are_past, more_is_asked_past, no_reset_is_past_only}
+use Rattle.sctp_sides.proofs.Proved.{polls_give_and_report, polls_reset_no_more}
 use Rattle.sctp_sides.proofs.Proved.{polls_keep_the_status, polls_outside_established_give_what_waits}
 use Rattle.sctp_sides.proofs.Proved.{polls_say_their_acts, reports_are_silent, what_waits_goes_out_as_it_is}
 use Rattle.sctp_fit.specs.Sendings.{IsGiven}
@@ -36,17 +40,14 @@ use Rattle.sctp_pair.specs.Fits.{AreSaid, IsSaidBy}
 use Rattle.sctp_pair.specs.Steps.{Fails, GivesOut, HadFailed, LosesSome, packet_in}
 use Rattle.sctp_pair.proofs.SaidStaysSaid.{forward_stays_said}
 use Rattle.sctp_pair.proofs.BetweenDirections.{ClosedAt, Faces, Goes, Holds, None_brought, OpenAt, SettlesQuietly}
-use Rattle.sctp_pair.proofs.BetweenDirections.{StandsAt, Surroundings, does_by_goes, goes_on, moved}
+use Rattle.sctp_pair.proofs.BetweenDirections.{StandsAt, Surroundings, can_back, can_front, does_by_goes, goes_on, moved}
+use Rattle.sctp_pair.proofs.BetweenDirections.{spans_of}
 use Rattle.sctp_pair.proofs.ForwardsMade.{few_for_a_forward, new_data_says_the_same, with_queue}
 use Rattle.sctp_pair.proofs.OutgoingData.{all_new, all_old, forward_if, given_grows}
-use Rattle.sctp_pair.proofs.QuietCalls.{by_working, closed_on, fails_settle, same_settles, still}
+use Rattle.sctp_pair.proofs.QuietCalls.{by_working, closed_on, fails_settle, open_on, same_settles, still}
 use Rattle.sctp_pair.proofs.HandshakeStages.{at_same, come_on, stays_put}
 use Rattle.sctp_pair.proofs.NoReset.{without_control_none_begins}
 use Rattle.sctp_pair.proofs.ComingData.{AfterComing, ReportsSaid, act_reported, coming_nowhere}
-
-can_front : (xs ys : List Act) (p : Parts) → CanAll (xs ++ ys) p → CanAll xs p
-can_front [] ys p c = tt
-can_front (x ∷ xs) ys p (c, cs) = (c, can_front xs ys _ cs)
 
 -- What a poll with these acts gives is what its directions have.
 
@@ -71,19 +72,31 @@ module _ (x : Surroundings) (a b : Shown) (h : History) (acts : List Act) (forwa
   exchanged_said (chunks.ForwardTsn c) (e, is) = subst (IsForwardMade x.own x.out) (sym is) (forwarded e)
   exchanged_said c n = absurd n
 
--- what waits to go out and is no RE-CONFIG is of a handshake
-greets_or_resets : (own : ℕ) (s : Stage) (c : Chunk) → SaysWhatIsSo own s c → IsNoReconfig c → Greets own s c
-greets_or_resets own s (chunks.Reconfig reconfig) says other = absurd other
-greets_or_resets own s c says other = says
+-- what waits to go out is of a handshake, or resets streams past their span
+greets_or_resets : (over : ℕ → Bool) (own : ℕ) (s : Stage) (c : Chunk) → SaysWhatIsSo own s c → ResetsPastIfAny over c
+    → Greets own s c ⊎ ResetsPast over c
+greets_or_resets over own s (chunks.Reconfig reconfig) says named = inr named
+greets_or_resets over own s c says named = inl says
 
--- a chunk that waited to go out says what is so
-waiting_said : (x : Surroundings) (a : Shown) → stage_of a ≡ x.here → IsTruthful x.own a → HasNoReset a → (c : Chunk)
-    → IsWaitingToGo a c → SaysAt x c
-waiting_said x a at t quiet c (k, w, e, is) =
-    inr (subst (λ (z : Stage). Greets x.own z c) at (subst (Greets x.own (stage_of a)) is
-    (greets_or_resets x.own (stage_of a) w.chunk
-    (all_get (WaitsTruthfully x.own (stage_of a)) a.control k (controls.Packet w) e t.says)
-    (all_get IsOfNoReset a.control k (controls.Packet w) e quiet.control))))
+-- Of a side whose resets concern streams past their span alone, and such streams are past it in its own direction, too.
+module _ (x : Surroundings) (a : Shown) (over : ℕ → Bool) (gone : (s : ℕ) → over s ≡ true → x.out.over s ≡ true) where
+  -- a chunk that waited to go out says what is so
+  waiting_said : stage_of a ≡ x.here → IsTruthful x.own a → AllByRecursion (WaitsPast over) a.control → (c : Chunk)
+      → IsWaitingToGo a c → SaysAt x c
+  waiting_said at t past c (k, w, e, is) =
+      ⊎_elim
+      (λ (greets : Greets x.own (stage_of a) w.chunk). inr (inl
+      (subst (λ (z : Stage). Greets x.own z c) at (subst (Greets x.own (stage_of a)) is greets))))
+      (λ (resets : ResetsPast over w.chunk). inr (inr
+      (more_is_asked_past over x.out.over c gone (subst (ResetsPast over) is resets))))
+      (greets_or_resets over x.own (stage_of a) w.chunk
+      (all_get (WaitsTruthfully x.own (stage_of a)) a.control k (controls.Packet w) e t.says)
+      (all_get (WaitsPast over) a.control k (controls.Packet w) e past))
+
+  -- and so does a request to reset streams
+  asked_said : (c : Chunk) → AsksPast over c → SaysAt x c
+  asked_said c (request, is, named) =
+      inr (inr (more_is_asked_past over x.out.over c gone (subst (ResetsPast over) (sym is) (named, tt))))
 
 -- what each chunk of a packet is, where each is it
 each_chunk : (Is Says : Chunk → Type 0) (packet : Option Packet) → ((c : Chunk) → Is c → Says c) → OfEachChunk Is packet
@@ -123,10 +136,6 @@ forward_could : (forwards : Bool) (p : Parts) → CanAll (if forwards then Act.F
 forward_could true p can e = can.0
 forward_could false p can e = absurd (false≢true e)
 
-can_back : (xs ys : List Act) (p : Parts) → CanAll (xs ++ ys) p → CanAll ys (done_all xs p)
-can_back [] ys p c = c
-can_back (x ∷ xs) ys p (c, cs) = can_back xs ys _ cs
-
 -- An association polls: what it gives out is what its directions have then, or says what is so of its handshake.
 pub record Polled (x : Surroundings) (b : Shown) (packets : List (List ℕ)) : Type 0 where
   pub settles : SettlesQuietly x b
@@ -134,7 +143,8 @@ pub record Polled (x : Surroundings) (b : Shown) (packets : List (List ℕ)) : T
 
 -- A poll of an association gave these packets and left b.
 module _ {x : Surroundings} {a b : Shown} {packets : List (List ℕ)} (f : Faces x a) (same_status : IsSameStatus a b)
-    (none : HasNoReset a → HasNoReset b) (again : AreControlReadAgain a.control) where
+    (keeps : ResetsNoMore a b) (again : AreControlReadAgain a.control)
+    (control : AllByRecursion (IsOfControl a) (control_polled a).1) where
   -- In Established DATA goes out, a report where it is due, FORWARD TSN where it is given, and what waits. The
   -- direction makes the FORWARD TSN before new DATA goes out, which says the same: only then few offsets are sure to be
   -- assigned.
@@ -210,7 +220,7 @@ module _ {x : Surroundings} {a b : Shown} {packets : List (List ℕ)} (f : Faces
         m.0,
         m.1,
         new.goes.forwards m.0 m.1 m.2,
-        forward_stays_said x.own (forward_of sender) m.1 new.goes.spans m.3,
+        forward_stays_said x.own (forward_of sender) m.1 (spans_of new.goes) m.3,
       )) in
       let stands : OpenAt now b = record {
         past = h;
@@ -224,15 +234,24 @@ module _ {x : Surroundings} {a b : Shown} {packets : List (List ℕ)} (f : Faces
         size = goes.size ∙ s.size ∙ sym same_status.size;
         between = holds.between;
         in_order = holds.in_order;
-        no_reset = none s.no_reset;
+        resets =
+            more_are_past x.coming.over report.0.coming2.over b (λ t o. report.0.goes.same_spans t ∙ o)
+            (keeps x.coming.over s.resets);
       } in
+      let gone : (t : ℕ) → x.coming.over t ≡ true → new.out2.over t ≡ true =
+      λ t o. goes.same_spans t ∙ f.both t ∙ o in
       let exchanged = exchanged_said now a b h acts forwards
       (subst (λ z. AllByRecursion (IsGiven x.own new.out2) z) (sym data_is) given)
       (λ due. subst (λ (z : History). ReportsSaid x.peer z report.0.coming2) (sym past_is) (report.1 due)) forwarded in
-      let said : (c : Chunk) → IsGivenBy acts forwards a b h c → SaysAt now c =
+      let said : (c : Chunk) → IsGivenBy x.coming.over acts forwards a b h c → SaysAt now c =
       λ c. ⊎_elim
-      (λ (w : IsWaitingToGo a c). waiting_said now a (f.at s.working) s.truthful s.no_reset c w)
-      (λ (e : IsExchanged acts forwards a b h c). inl (exchanged c e)) in
+      (λ (w : IsWaitingToGo a c).
+      waiting_said now a x.coming.over gone (f.at s.working) s.truthful s.resets.control c w)
+      (λ (r : ((is_established a.state ≡ true) × IsExchanged acts forwards a b h c) ⊎ AsksPast x.coming.over c).
+      ⊎_elim
+      (λ (e : (is_established a.state ≡ true) × IsExchanged acts forwards a b h c). inl (exchanged c e.1))
+      (λ (asked : AsksPast x.coming.over c). asked_said now a x.coming.over gone c asked)
+      r) in
       record {
         settles = record {
           out2 = new.out2;
@@ -242,6 +261,7 @@ module _ {x : Surroundings} {a b : Shown} {packets : List (List ℕ)} (f : Faces
           does_coming = does_by_goes None_brought x.coming report.0.coming2 report.0.goes;
           sound_out = holds.sound_out;
           sound_coming = holds.sound_coming;
+          both = λ t. goes.same_spans t ∙ f.both t ∙ sym (report.0.goes.same_spans t);
           stands = inl stands;
           other = holds.other;
           goes = stays_put x.here;
@@ -250,11 +270,48 @@ module _ {x : Surroundings} {a b : Shown} {packets : List (List ℕ)} (f : Faces
           no_more = inl (ap is_established same_status.state ∙ established, stands);
           coming_still = report.0.still;
         };
-        said = each_packet (IsGivenBy acts forwards a b h) (SaysAt now) packets said
-            (polls_say_their_acts acts forwards a b h packets s.no_reset s.truthful.plain again established s.binds poll);
+        said = each_packet (IsGivenBy x.coming.over acts forwards a b h) (SaysAt now) packets said
+            (polls_say_their_acts x.coming.over acts forwards a b h packets s.resets.resets s.truthful.plain again control
+            s.binds poll);
       }
 
-  -- Outside Established what waits goes out, and nothing else happens.
+  -- Outside Established what waits goes out, requests to reset streams among it, and nothing else happens.
+  quiet_polls : (acts : List Act) (forwards : Bool) (s : OpenAt x a) → acts ≡ [] → is_established a.state ≡ false
+      → Polls acts forwards a s.past b packets → Polled x b packets
+  unfolding still
+  quiet_polls acts forwards s none outside poll =
+      let h : History = s.past in
+      let leads : Leads [] a h b h = subst (λ (zs : List Act). Leads zs a h b h) none poll.leads in
+      let gone : (t : ℕ) → x.coming.over t ≡ true → x.out.over t ≡ true = λ t o. f.both t ∙ o in
+      let there : OpenAt x b = open_on x [] s record {
+        past2 = h;
+        leads = leads;
+        nobody = tt;
+        in_order = s.in_order;
+        same = same_status;
+        resets = keeps x.coming.over s.resets;
+        size = refl;
+        outgoing = s.between.outgoing;
+        incoming = s.between.incoming;
+      } in
+      let said : (c : Chunk) → IsGivenBy x.coming.over acts forwards a b h c → SaysAt x c =
+      λ c. ⊎_elim
+      (λ (w : IsWaitingToGo a c).
+      waiting_said x a x.coming.over gone (f.at s.working) s.truthful s.resets.control c w)
+      (λ (r : ((is_established a.state ≡ true) × IsExchanged acts forwards a b h c) ⊎ AsksPast x.coming.over c).
+      ⊎_elim
+      (λ (e : (is_established a.state ≡ true) × IsExchanged acts forwards a b h c).
+      absurd (false≢true (sym outside ∙ e.0)))
+      (λ (asked : AsksPast x.coming.over c). asked_said x a x.coming.over gone c asked)
+      r) in
+      record {
+        settles = still f (at_same a b x.here same_status f.at) (inl there);
+        said = each_packet (IsGivenBy x.coming.over acts forwards a b h) (SaysAt x) packets said
+            (polls_say_their_acts x.coming.over acts forwards a b h packets s.resets.resets s.truthful.plain again control
+            s.binds poll);
+      }
+
+  -- A closed association, in which no reset is under way, gives what waits, too.
   silent_polls : (now : ℕ) → a.failed ≡ false → polled a now ≡ (b, packets) → is_established a.state ≡ false
       → IsTruthful x.own a → HasNoReset a → StandsAt x (without_control a) → Polled x b packets
   unfolding still
@@ -262,9 +319,11 @@ module _ {x : Surroundings} {a b : Shown} {packets : List (List ℕ)} (f : Faces
       let gives : (without_control a, control_packets a.control) ≡ (b, packets) =
       sym (polls_outside_established_give_what_waits a now quiet outside) ∙ e in
       let there : StandsAt x b = subst (StandsAt x) (ap (λ (z : Shown × List (List ℕ)). z.0) gives) stands in
+      let past = (no_reset_is_past_only x.out.over a quiet).control in
       let waited : SaidAt x (control_packets a.control) =
       each_packet (IsWaitingToGo a) (SaysAt x) (control_packets a.control)
-      (waiting_said x a (f.at working) truthful quiet) (what_waits_goes_out_as_it_is a truthful.plain again) in
+      (waiting_said x a x.out.over (λ t o. o) (f.at working) truthful past)
+      (what_waits_goes_out_as_it_is a truthful.plain again) in
       record {
         settles = still f (at_same a b x.here same_status f.at) there;
         said = subst (SaidAt x) (ap (λ (z : Shown × List (List ℕ)). z.1) gives) waited;
@@ -276,33 +335,16 @@ without_same a now outside quiet =
     subst (IsSameStatus a) (ap (λ (z : Shown × List (List ℕ)). z.0)
     (polls_outside_established_give_what_waits a now quiet outside)) (polls_keep_the_status a now)
 
--- an open association without what waited stands as before
-open_without : (x : Surroundings) (a : Shown) → IsSameStatus a (without_control a) → OpenAt x a
-    → OpenAt x (without_control a)
-open_without x a same s = record {
-  past = s.past;
-  own_is = s.own_is;
-  peer_is = s.peer_is;
-  binds = record {
-    first = s.binds.first;
-    peer_last_tsn = s.binds.peer_last_tsn;
-    held = s.binds.held;
-    marked = s.binds.marked;
-  };
-  working = s.working;
-  come = come_on a (without_control a) same s.come;
-  present = s.present;
-  truthful = same.truthful x.own s.truthful;
-  size = s.size;
-  between = s.between;
-  in_order = s.in_order;
-  no_reset = without_control_none_begins a s.no_reset;
-}
-
--- and so does a closed one
+-- a closed association without what waited stands as before
 closed_without : (x : Surroundings) (a : Shown) → IsSameStatus a (without_control a) → ClosedAt x a
     → ClosedAt x (without_control a)
 closed_without x a same s = closed_on same (without_control_none_begins a s.no_reset) s.nothing_left s
+
+-- outside Established a poll does nothing to the directions
+no_acts_outside : (a : Shown) (now : ℕ) → is_established a.state ≡ false → acts_of_poll a now ≡ []
+no_acts_outside a now e =
+    ap (λ (c : Bool). if c then acts_of_data_poll a now ++ acts_of_ack a ++ acts_of_forwarding (forwards_of_poll a now)
+    else []) e
 
 -- any association that didn't fail before
 any_polls : {x : Surroundings} {a b : Shown} (now : ℕ) (packets : List (List ℕ)) → a.failed ≡ false
@@ -311,19 +353,20 @@ any_polls : {x : Surroundings} {a b : Shown} (now : ℕ) (packets : List (List �
 any_polls {x} {a} {b} now packets working e polls f =
     let same : IsSameStatus a b =
     subst (IsSameStatus a) (ap (λ (z : Shown × List (List ℕ)). z.0) e) (polls_keep_the_status a now) in
-    let none : HasNoReset a → HasNoReset b =
-    λ n. subst HasNoReset (ap (λ (z : Shown × List (List ℕ)). z.0) e) (polls_begin_no_reset a now n) in
+    let keeps : ResetsNoMore a b =
+    λ over h. subst (ResetsPastOnly over) (ap (λ (z : Shown × List (List ℕ)). z.0) e)
+    (polls_reset_no_more a now over h) in
     by_working (Polled x b packets) working f
     (λ s. ⊎_elim
     (λ (established : is_established a.state ≡ true).
-    open_polls f same none polls.control_again (acts_of_poll a now) (forwards_of_poll a now) s established
-    (polls_give_and_report a now established) (polls.from s.past s.binds))
+    open_polls f same keeps polls.control_again polls.control_said (acts_of_poll a now) (forwards_of_poll a now) s
+    established (polls_give_and_report a now established) (polls.from s.past s.binds))
     (λ (outside : is_established a.state ≡ false).
-    silent_polls f same none polls.control_again now working e outside s.truthful s.no_reset
-    (inl (open_without x a (without_same a now outside s.no_reset) s)))
+    quiet_polls f same keeps polls.control_again polls.control_said (acts_of_poll a now) (forwards_of_poll a now) s
+    (no_acts_outside a now outside) outside (polls.from s.past s.binds))
     (cases_Bool (is_established a.state)))
     (λ s.
-    silent_polls f same none polls.control_again now working e s.unestablished s.truthful s.no_reset
+    silent_polls f same keeps polls.control_again polls.control_said now working e s.unestablished s.truthful s.no_reset
     (inr (inl (closed_without x a (without_same a now s.unestablished s.no_reset) s))))
 
 -- of packets that are said the first ones are

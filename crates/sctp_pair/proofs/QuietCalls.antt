@@ -10,10 +10,9 @@ use Rattle.sctp_model.proofs.Proved.{each_event_keeps_the_invariant}
 use Rattle.sctp_fit.specs.Incoming.{FitsIncoming}
 use Rattle.sctp_fit.specs.Outgoing.{FitsOutgoing}
 use Rattle.sctp_fit.proofs.DataTaken.{opened_streams_are_alike}
-use Rattle.sctp_fit.proofs.NothingToSend.{opened_streams_send_nothing}
 use Rattle.sctp_directions.specs.Acts.{Act, History, IsKeptInOrder, IsNotPeerKnown, Parts, done, done_all, receiving}
 use Rattle.sctp_directions.specs.Acts.{sending}
-use Rattle.sctp_directions.specs.Events.{Brings, BringsForward, GivesAMessage, IsOfReceiving, IsPlainEvent}
+use Rattle.sctp_directions.specs.Events.{Brings, BringsForward, GivesAMessage, IsOfReceiving}
 use Rattle.sctp_directions.proofs.Proved.{acts_keep_the_initial_tsns, closed_receivers_are_not_open}
 use Rattle.sctp_directions.proofs.Proved.{receivers_events_are_received}
 use Rattle.sctp_assoc.specs.Leads as assoc
@@ -22,9 +21,11 @@ use Rattle.sctp_assoc.specs.Calls.{is_established, open_refusal, opened}
 use Rattle.sctp_assoc.specs.Closing.{is_closed_state}
 use Rattle.sctp_assoc.specs.Shown.{Shown}
 use Rattle.sctp_sides.specs.NoReset.{HasNoReset}
+use Rattle.sctp_sides.specs.PastSpan.{ResetsNoMore, ResetsPastOnly}
 use Rattle.sctp_sides.specs.SideLaws.{HoldsNothing, IsNotLive, IsSameStatus}
 use Rattle.sctp_sides.proofs.Proved.{open_leads_on, opened_streams_hold_nothing, opened_streams_keep_the_status}
-use Rattle.sctp_sides.proofs.Proved.{opened_streams_begin_no_reset, opened_streams_were_not_live}
+use Rattle.sctp_sides.proofs.Proved.{opened_streams_begin_no_reset, opened_streams_reset_no_more}
+use Rattle.sctp_sides.proofs.Proved.{opened_streams_were_not_live}
 use Rattle.sctp_pair.specs.declared.step.Reply.{Reply}
 use Rattle.sctp_pair.specs.declared.step.Reply.TheVariants as replies
 use Rattle.sctp_pair.specs.Fits.{IsAt, StandsClosed, StandsFailed}
@@ -34,6 +35,7 @@ use Rattle.sctp_pair.proofs.BetweenDirections.{StandsAt, orderly_acts_keep_order
 use Rattle.sctp_pair.proofs.BetweenDirections.{Surroundings, does_by_goes, goes_by_receiver, goes_nowhere, moved}
 use Rattle.sctp_pair.proofs.BetweenDirections.{other_by_receiver, sound_after}
 use Rattle.sctp_pair.proofs.HandshakeStages.{at_same, come_on, known_before, stays_put}
+use Rattle.sctp_pair.proofs.PastSpans.{opened_out, past_by_receiver}
 
 -- Nothing happened to the directions, and the association stands between them still.
 unfoldable pub still : {x : Surroundings} {a b : Shown} → Faces x a → IsAt b x.here → StandsAt x b → SettlesQuietly x b
@@ -45,6 +47,7 @@ still {x} f at s = record {
   does_coming = does_by_goes None_brought x.coming x.coming (goes_nowhere None_brought x.coming);
   sound_out = f.sound_out;
   sound_coming = f.sound_coming;
+  both = f.both;
   stands = s;
   other = f.other;
   goes = stays_put x.here;
@@ -87,9 +90,8 @@ measures_same a r b h = absurd h
 -- stands between its directions then
 pub settles_by_receiver : {x : Surroundings} {a b : Shown} (e : Event) → Faces x a → IsOfReceiving e
     → (GivesAMessage e → ⊥) → ((o : ℕ) → Brings x.coming e o → ⊥) → ((n : ℕ) → BringsForward x.coming e n → ⊥)
-    → IsPlainEvent e → IsAt b x.here
-    → StandsAt (record x { coming = happens x.coming e }) b → SettlesQuietly x b
-settles_by_receiver {x} e f at none brings passes plain now s =
+    → IsAt b x.here → StandsAt (record x { coming = happens x.coming e }) b → SettlesQuietly x b
+settles_by_receiver {x} e f at none brings passes now s =
     let received = receivers_events_are_received x.coming e at in
     let goes = goes_by_receiver None_brought x.coming e at none brings passes in
     record {
@@ -100,8 +102,9 @@ settles_by_receiver {x} e f at none brings passes plain now s =
       does_coming = does_by_goes None_brought x.coming (happens x.coming e) goes;
       sound_out = f.sound_out;
       sound_coming =
-          sound_after e plain (each_event_keeps_the_invariant x.coming e f.within_coming f.sound_coming.invariant)
+          sound_after e (each_event_keeps_the_invariant x.coming e f.within_coming f.sound_coming.invariant)
           f.sound_coming;
+      both = λ t. f.both t ∙ sym (goes.same_spans t);
       stands = s;
       other = other_by_receiver x e at f.other;
       goes = stays_put x.here;
@@ -117,7 +120,7 @@ settles_by_receiver {x} e f at none brings passes plain now s =
 -- it.
 pub fails_settle : {x : Surroundings} {a b : Shown} → b.failed ≡ true → Faces x a → SettlesQuietly x b
 fails_settle {x} failed f =
-    settles_by_receiver Event.Close f tt (λ n. n) (λ o n. n) (λ o n. n) tt
+    settles_by_receiver Event.Close f tt (λ n. n) (λ o n. n) (λ o n. n)
     (λ working. absurd (true≢false (sym failed ∙ working)))
     (inr (inr record { failed = failed; stopped = closed_receivers_are_not_open x.coming }))
 
@@ -129,16 +132,18 @@ refused_call_settles (inr (due, fails)) f = fails_settle fails.2.marked f
 
 -- An open association goes on
 
--- Acts that are not `PeerKnown` and leave the streams in order that are not loose lead from a with this past to b,
--- whose status is the same, and to directions that fit what the acts did.
+-- Acts that are not `PeerKnown` and leave the streams in order that are within their span and not loose lead from a with
+-- this past to b, whose status is the same and whose resets concern streams past their span alone, and to directions that
+-- fit what the acts did.
 pub record LeadsOn (x : Surroundings) (a : Shown) (past : History) (acts : List Act) (b : Shown)
     (out2 coming2 : Direction) : Type 0 where
   pub past2 : History
   pub leads : Leads acts a past b past2
   pub nobody : AllByRecursion IsNotPeerKnown acts
-  pub orderly : AllByRecursion (KeepsOrder x.loose) acts
+  pub in_order : (t : ℕ) → out2.over t ≡ false → x.loose t ≡ false
+      → IsKeptInOrder (done_all acts (parts a past)).streams t
   pub same : IsSameStatus a b
-  pub none : HasNoReset b
+  pub resets : ResetsPastOnly coming2.over b
   pub size : out2.sender.plan.size ≡ x.out.sender.plan.size
   pub outgoing : FitsOutgoing (sending (done_all acts (parts a past))) out2
   pub incoming : FitsIncoming (receiving (done_all acts (parts a past))) coming2
@@ -149,6 +154,13 @@ order_stays : (loose : ℕ → Bool) (acts : List Act) (p : Parts) (s : ℕ) →
 order_stays loose [] p s tight orderly h = h
 order_stays loose (act ∷ acts) p s tight (this, others) h =
     order_stays loose acts (done act p) s tight others (this p s tight h)
+
+-- and where the spans stay, those that were in order are
+pub still_in_order : (x : Surroundings) (acts : List Act) {a : Shown} (s : OpenAt x a)
+    → AllByRecursion (KeepsOrder x.loose) acts → (t : ℕ) → x.out.over t ≡ false → x.loose t ≡ false
+    → IsKeptInOrder (done_all acts (parts a s.past)).streams t
+still_in_order x acts {a} s orderly t within tight =
+    order_stays x.loose acts (parts a s.past) t tight orderly (s.in_order t within tight)
 
 -- An open association whose status stays stands open where acts lead, between directions that fit what they did.
 pub open_on : (x : Surroundings) (acts : List Act) {a b : Shown} {out2 coming2 : Direction} (s : OpenAt x a)
@@ -173,9 +185,8 @@ open_on x acts {a} {b} {out2} {coming2} s m =
         incoming = subst (λ (p : Parts). FitsIncoming (receiving p) coming2) (sym there) m.incoming;
       };
       in_order =
-          λ t tight. subst (λ (p : Parts). IsKeptInOrder p.streams t) (sym there)
-          (order_stays x.loose acts (parts a s.past) t tight m.orderly (s.in_order t tight));
-      no_reset = m.none;
+          λ t within tight. subst (λ (p : Parts). IsKeptInOrder p.streams t) (sym there) (m.in_order t within tight);
+      resets = m.resets;
     }
 
 -- A closed association stays closed
@@ -215,6 +226,7 @@ empty_still a b e empty = subst (λ z. HoldsNothing (record b { streams = z })) 
 pub record IsUnseen (x : Surroundings) (a : Shown) (acts : List Act) (b : Shown) : Type 0 where
   pub same : IsSameStatus a b
   pub none : HasNoReset a → HasNoReset b
+  pub past : ResetsNoMore a b
   pub empty : HoldsNothing a → HoldsNothing b
   pub leads : assoc.LeadsOn acts a b
   pub nobody : AllByRecursion IsNotPeerKnown acts
@@ -233,9 +245,9 @@ unseen_settles {x} {a} {b} acts u working f =
       past2 = m.0;
       leads = m.1;
       nobody = u.nobody;
-      orderly = u.orderly;
+      in_order = still_in_order x acts s u.orderly;
       same = u.same;
-      none = u.none s.no_reset;
+      resets = u.past x.coming.over s.resets;
       size = refl;
       outgoing = u.outgoing s.past s.between.outgoing;
       incoming = u.incoming s.past s.between.incoming;
@@ -244,10 +256,12 @@ unseen_settles {x} {a} {b} acts u working f =
 
 -- the same of a call without acts that leaves the streams as they are
 pub idle_settles : {x : Surroundings} {a b : Shown} → IsSameStatus a b × (b.streams ≡ a.streams)
-    → (HasNoReset a → HasNoReset b) → assoc.LeadsOn [] a b → a.failed ≡ false → Faces x a → SettlesQuietly x b
-idle_settles {x} {a} {b} stays none leads working f = unseen_settles [] record {
+    → (HasNoReset a → HasNoReset b) → ResetsNoMore a b → assoc.LeadsOn [] a b → a.failed ≡ false → Faces x a
+    → SettlesQuietly x b
+idle_settles {x} {a} {b} stays none past leads working f = unseen_settles [] record {
   same = stays.0;
   none = none;
+  past = past;
   empty = empty_still a b stays.1;
   leads = leads;
   nobody = tt;
@@ -270,16 +284,18 @@ module _ (x : Surroundings) (a : Shown) (id : ℕ) (kind : PayloadProtocolIdenti
         past2 = m.0;
         leads = m.1;
         nobody = (tt, tt);
-        orderly = (orderly_acts_keep_order x.loose (Act.Opened id first kind) (λ t n. n), tt);
+        in_order =
+            still_in_order x (Act.Opened id first kind ∷ []) s
+            (orderly_acts_keep_order x.loose (Act.Opened id first kind) (λ t n. n), tt);
         same = same;
-        none = opened_streams_begin_no_reset a id kind s.no_reset;
+        resets =
+            past_by_receiver x.coming (Event.Open id) tt (opened_streams_reset_no_more a id kind x.coming.over s.resets);
         size = refl;
         outgoing =
-            opened_streams_send_nothing (sending p) id first kind x.out none (f.sound_out.plain.span id)
-            f.sound_out.invariant f.sound_out.counts s.between.outgoing;
+            opened_out p id first kind x.out none f.sound_out.invariant f.sound_out.counts s.between.outgoing;
         incoming = opened_streams_are_alike (receiving p) id first kind x.coming none s.between.incoming;
       } in
-      settles_by_receiver (Event.Open id) f tt (λ n. n) (λ o n. n) (λ o n. n) tt
+      settles_by_receiver (Event.Open id) f tt (λ n. n) (λ o n. n) (λ o n. n)
       (at_same a (opened a id kind) x.here same f.at)
       (inl stands)
 

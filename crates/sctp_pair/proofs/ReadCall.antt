@@ -3,7 +3,7 @@ use Rattle.std.proofs.Common.{◌≡◌, refl, sym, ap, ◌∙◌, subst, ⊎_el
 use Rattle.std.proofs.Common.{if◌then◌else◌, List, [], ◌∷◌, ◌++◌, Option, Some, None, is_some, arith}
 use Rattle.std.specs.Prelude.{◌==◌, slice_get}
 use Rattle.sctp_streams.specs.Streams.{read_in}
-use Rattle.std.proofs.lemmas.Bool.{cases_Bool, cases_eq, cond-false, cond-true, eq-eqb, ne_eqb}
+use Rattle.std.proofs.lemmas.Bool.{cases_Bool, cases_eq, cond-false, cond-true, eq-eqb, ne_eqb, true≢false}
 use Rattle.std.proofs.lemmas.List.{append-nil}
 use Rattle.sctp_wire_types.specs.declared.error.Error.{Error}
 use Rattle.sctp_receive_queues.specs.Messages.{ReceivedMessage}
@@ -14,21 +14,24 @@ use Rattle.sctp_model.proofs.Proved.{each_event_keeps_the_invariant}
 use Rattle.sctp_model.proofs.ReceiverEvents.{keeps_close}
 use Rattle.sctp_reassembly.specs.Stands.{IsReadAs}
 use Rattle.sctp_fit.proofs.ReadsAnswered.{reads_are_alike}
-use Rattle.sctp_directions.specs.Acts.{Act, receiving}
+use Rattle.sctp_fit.specs.Incoming.{FitsIncoming}
+use Rattle.sctp_directions.specs.Acts.{Act, Parts, done, done_all, receiving}
 use Rattle.sctp_directions.specs.Between.{IsSound}
 use Rattle.sctp_directions.proofs.Proved.{only_forwards_pass_over}
 use Rattle.sctp_directions.proofs.Proved.{closed_receivers_are_not_open}
 use Rattle.sctp_directions.proofs.Proved.{only_what_is_brought_is_taken_in, receivers_events_are_received}
 use Rattle.sctp_directions.proofs.Proved.{what_comes_leaves_its_own}
 use Rattle.sctp_assoc.specs.Leads.{parts}
+use Rattle.sctp_assoc.specs.ResetActs.{acts_of_draining}
 use Rattle.sctp_assoc.specs.Calls.{drained_behind, first_refusal, read_exhausts, read_from_stream}
 use Rattle.sctp_assoc.specs.Closing.{exhausted, is_closed_state, is_exhausted}
 use Rattle.sctp_assoc.specs.Shown.{Shown}
 use Rattle.sctp_sides.specs.Meeting.{IsTruthful, Stage}
 use Rattle.sctp_sides.specs.NoReset.{HasNoReset}
-use Rattle.sctp_sides.specs.SideLaws.{Exhausts, HoldsNothing, IsLive, IsOver, IsSameStatus}
-use Rattle.sctp_sides.proofs.Proved.{exhaustion_closes, found_streams_are_live, plain_read_leads}
-use Rattle.sctp_sides.proofs.Proved.{exhaustion_begins_no_reset}
+use Rattle.sctp_sides.specs.SideLaws.{Exhausts, HoldsNothing, IsLive, IsOver, IsSameStatus, with_read}
+use Rattle.sctp_sides.proofs.Proved.{exhaustion_closes, exhaustion_ends_resets, exhaustion_resets_no_more}
+use Rattle.sctp_sides.proofs.Proved.{found_streams_are_live, more_are_past, reads_end_past, reads_keep_the_status}
+use Rattle.sctp_sides.proofs.Proved.{reads_lead_on}
 use Rattle.sctp_sides.proofs.Proved.{the_same_handshake_is_the_same_stage}
 use Rattle.sctp_sides.proofs.Proved.{what_holds_nothing_gives_nothing}
 use Rattle.sctp_pair.specs.declared.step.Reply.{Reply}
@@ -36,10 +39,12 @@ use Rattle.sctp_pair.specs.declared.step.Reply.TheVariants as replies
 use Rattle.sctp_pair.specs.Fits.{IsAt, StandsClosed}
 use Rattle.sctp_pair.specs.Steps.{Reads}
 use Rattle.sctp_pair.proofs.BetweenDirections.{orderly_acts_keep_order, passes_on}
-use Rattle.sctp_pair.proofs.BetweenDirections.{ClosedAt, Does, Faces, Goes, None_brought, OpenAt, OtherStands}
+use Rattle.sctp_pair.proofs.BetweenDirections.{ClosedAt, Does, DoesEnding, Faces, Goes, None_brought, OpenAt, OtherStands}
 use Rattle.sctp_pair.proofs.BetweenDirections.{Settles, SettlesQuietly, StandsAt, goes_by_receiver, run_append}
 use Rattle.sctp_pair.proofs.BetweenDirections.{Surroundings, does_by_goes, goes_nowhere, nothing_added}
-use Rattle.sctp_pair.proofs.BetweenDirections.{other_by_receiver, sound_after}
+use Rattle.sctp_pair.proofs.BetweenDirections.{none_ends, other_by_receiver, same_spans_go_on, sound_after, spans_of}
+use Rattle.sctp_pair.proofs.PastSpans.{ChangesPast, changes_as, ends_are_not_peer_known, ends_change_past, past_coming}
+use Rattle.sctp_pair.proofs.PastSpans.{past_in_order, past_out, reading_changes_past}
 use Rattle.sctp_pair.proofs.QuietCalls.{by_working, closed_on, fails_settle, open_on, same_settles, still}
 use Rattle.sctp_pair.proofs.HandshakeStages.{at_same, stays_put}
 use Rattle.sctp_pair.proofs.NoReset.{read_plainly, reads_plainly}
@@ -80,85 +85,184 @@ read_does w id message here others =
       is = refl;
       accepted = λ s. ap (λ x. x.plan.accepted s) event.sender ∙ sym (append-nil (w.sender.plan.accepted s));
       size = ap (λ x. x.plan.size) event.sender;
-      reads = read_alone w.reads (happens w (Event.Read id)).reads id message here others;
+      reads = λ s within. read_alone w.reads (happens w (Event.Read id)).reads id message here others s;
       taken = λ o m. only_what_is_brought_is_taken_in w (Event.Read id) o tt m;
       passed = only_forwards_pass_over w (Event.Read id) tt;
       datas = λ k d e. subst (λ (ds : List Data). slice_get ds k ≡ Some d) (sym event.datas) e;
       forwards = λ k f e. subst (λ (fs : List Forward). slice_get fs k ≡ Some f) (sym event.forwards) e;
       sacks = event.sacks;
-      spans = λ s e. ap (λ (f : ℕ → Bool). f s) (sym event.over) ∙ e;
+      spans = same_spans_go_on w (happens w (Event.Read id)) event.over;
+      ends = none_ends w (happens w (Event.Read id)) (λ s. ap (λ (f : ℕ → Bool). f s) event.over);
       reach_on = (let e = ap (λ x. x.reach) event.sender in omega arith);
     }
+
+-- of a stream that is past its span the direction sees no read
+read_past_does : (w : Direction) (id : ℕ) (message : Option ReceivedMessage) → w.over id ≡ true
+    → Does nothing_added (read_by (replies.Read message) id) None_brought w w
+read_past_does w id message past =
+    let d = does_by_goes None_brought w w (goes_nowhere None_brought w) in
+    record {
+      events = d.events;
+      is = d.is;
+      accepted = d.accepted;
+      size = d.size;
+      reads = λ s within. subst (λ (b : Bool). IsReadAs (if b then message else None) (w.reads s) (w.reads s))
+          (sym (apart s within)) refl;
+      taken = d.taken;
+      passed = d.passed;
+      datas = d.datas;
+      forwards = d.forwards;
+      sacks = d.sacks;
+      spans = d.spans;
+      ends = d.ends;
+      reach_on = d.reach_on;
+    }
+  where
+    apart : (s : ℕ) → w.over s ≡ false → (id == s) ≡ false
+    apart s within = ne_eqb id s (λ (e : id ≡ s). true≢false (sym past ∙ ap w.over e ∙ within))
 
 -- the direction that comes to an association, after a read of one of its streams
 abbrev after_one : Surroundings → ℕ → Direction
 after_one x id = happens x.coming (Event.Read id)
 
 -- what gives nothing more leaves what was read
-does_on : (R : ℕ → Option ReceivedMessage) (w v u : Direction) → Does nothing_added R None_brought w v
-    → Goes None_brought v u → Does nothing_added R None_brought w u
+pub does_on : {Ended : ℕ → Type 0} (R : ℕ → Option ReceivedMessage) (w v u : Direction)
+    → DoesEnding Ended nothing_added R None_brought w v → Goes None_brought v u
+    → DoesEnding Ended nothing_added R None_brought w u
 does_on R w v u d g = record {
   events = d.events ++ g.events;
   is = g.is ∙ ap (run g.events) d.is ∙ sym (run_append d.events g.events w);
   accepted = λ s. g.accepted s ∙ d.accepted s;
   size = g.size ∙ d.size;
-  reads = λ s. subst (IsReadAs (R s) (w.reads s)) (sym (g.reads s)) (d.reads s);
+  reads = λ s within. subst (IsReadAs (R s) (w.reads s)) (sym (g.reads s)) (d.reads s within);
   taken =
       λ o m. ⊎_elim (λ (n : mem o v.receiver.taken ≡ true). d.taken o n) (λ (n : ⊥). absurd n) (g.taken o m);
   passed = passes_on None_brought w.receiver.passed v.receiver.passed u.receiver.passed d.passed g.passed;
   datas = λ k x e. g.datas k x (d.datas k x e);
   forwards = λ k x e. g.forwards k x (d.forwards k x e);
   sacks = λ k x e. g.sacks k x (d.sacks k x e);
-  spans = λ s e. d.spans s (g.spans s e);
+  spans = record {
+    over = λ s o. g.same_spans s ∙ d.spans.over s o;
+    within = λ s n. d.spans.within s (spans_of g s n);
+  };
+  ends = λ s o. d.ends s (sym (g.same_spans s) ∙ o);
   reach_on = (let a = d.reach_on in let b = g.reach_on in omega arith);
 }
 
 -- what an exhausted receive buffer leaves is at the same stage of the handshake
-at_exhausted : {here : Stage} (a : Shown) → Exhausts a (exhausted a) → IsAt a here → IsAt (exhausted a) here
+pub at_exhausted : {here : Stage} (a : Shown) → Exhausts a (exhausted a) → IsAt a here → IsAt (exhausted a) here
 at_exhausted a closes at working =
     (the_same_handshake_is_the_same_stage a (exhausted a) closes.side closes.handshake).0
     ∙ at (sym closes.failed ∙ working)
 
--- A read of a stream of an open association, before it is seen whether it leaves the receive buffer exhausted, and the
--- association stands open then.
+-- A read of a stream of an open association, before it is seen whether it leaves the receive buffer exhausted: the
+-- direction that comes went on to this one, and the association stands open there. Where the stream is past its span the
+-- direction sees nothing of it.
 record HasRead (x : Surroundings) (a : Shown) (id : ℕ) (message : Option ReceivedMessage) : Type 0 where
-  pub does : Does nothing_added (read_by (replies.Read message) id) None_brought x.coming (after_one x id)
-  pub stands : OpenAt (record x { coming = after_one x id }) (read_plainly a id)
+  pub coming2 : Direction
+  pub does : Does nothing_added (read_by (replies.Read message) id) None_brought x.coming coming2
+  pub sound : IsSound coming2
+  pub same_spans : (s : ℕ) → coming2.over s ≡ x.coming.over s
+  pub sender : coming2.sender ≡ x.coming.sender
+  pub other : OtherStands (record x { coming = coming2 })
+  pub stands : OpenAt (record x { coming = coming2 }) (with_read a id)
 
-plainly_read : {x : Surroundings} {a b : Shown} (id : ℕ) (message : Option ReceivedMessage) → IsLive a id
-    → read_from_stream a id ≡ (b, message) → Faces x a → OpenAt x a → HasRead x a id message
-plainly_read {x} {a} {b} id message live e f s =
-    let fits =
-    reads_are_alike (receiving (parts a s.past)) id live.stream x.coming live.there (f.sound_coming.plain.span id)
-    f.within_coming f.sound_coming.invariant s.between.incoming in
-    let reads = reads_plainly a id s.no_reset in
-    let given : (read_in a.streams id).1 ≡ message =
-    sym reads.given ∙ ap (λ (z : Shown × Option ReceivedMessage). z.1) e in
-    record {
-      does = read_does x.coming id message
-          (subst (λ (z : Option ReceivedMessage). IsReadAs z (x.coming.reads id) ((after_one x id).reads id)) given
-          fits.1) fits.2;
-      stands = open_on x (Act.WasRead id ∷ []) s record {
-        past2 = s.past;
-        leads = plain_read_leads a id s.past s.binds;
-        nobody = (tt, tt);
-        orderly = (orderly_acts_keep_order x.loose (Act.WasRead id) (λ z n. n), tt);
-        same = reads.same;
-        none = reads.no_reset;
+module _ {x : Surroundings} {a b : Shown} (id : ℕ) (message : Option ReceivedMessage) (live : IsLive a id)
+    (e : read_from_stream a id ≡ (b, message)) (f : Faces x a) (s : OpenAt x a) where
+  -- behind the read generations of the stream may end, which is past its span then
+  abbrev drained : List Act
+  drained = acts_of_draining a id (read_in a.streams id).0
+
+  abbrev was_read : Parts
+  was_read = done (Act.WasRead id) (parts a s.past)
+
+  drains : ChangesPast x.coming.over was_read (done_all drained was_read)
+  drains =
+      let leads = reads_lead_on a id s.past s.binds in
+      ends_change_past x.coming.over drained was_read (reads_end_past x.coming.over a id s.resets).0 leads.1.can.1
+
+  -- It leads to a direction that fits what the read left, and in which the spans are the same.
+  read_stands : (coming2 : Direction) → ((t : ℕ) → coming2.over t ≡ x.coming.over t)
+      → FitsIncoming (receiving was_read) coming2 → OpenAt (record x { coming = coming2 }) (with_read a id)
+  read_stands coming2 same fits =
+      let leads = reads_lead_on a id s.past s.binds in
+      let out = changes_as (λ t within. sym (f.both t) ∙ within) drains in
+      let come = changes_as (λ t within. sym (same t) ∙ within) drains in
+      open_on x (Act.WasRead id ∷ drained) s record {
+        past2 = leads.0;
+        leads = leads.1;
+        nobody = (
+          tt,
+          ends_are_not_peer_known x.coming.over drained (reads_end_past x.coming.over a id s.resets).0,
+        );
+        in_order =
+            λ t within tight. past_in_order out t within
+            (orderly_acts_keep_order x.loose (Act.WasRead id) (λ z n. n) (parts a s.past) t tight
+            (s.in_order t within tight));
+        same = (reads_keep_the_status a id).same;
+        resets =
+            more_are_past x.coming.over coming2.over (with_read a id) (λ t o. same t ∙ o)
+            (reads_end_past x.coming.over a id s.resets).1;
         size = refl;
-        outgoing = what_comes_leaves_its_own (Act.WasRead id) (parts a s.past) x.out tt s.between.outgoing;
-        incoming = fits.0;
-      };
-    }
+        outgoing =
+            past_out x.out out
+            (what_comes_leaves_its_own (Act.WasRead id) (parts a s.past) x.out tt s.between.outgoing);
+        incoming = past_coming coming2 come fits;
+      }
+
+  given : (read_in a.streams id).1 ≡ message
+  given =
+      sym (reads_keep_the_status a id).given ∙ ap (λ (z : Shown × Option ReceivedMessage). z.1) e
+
+  read_within : x.coming.over id ≡ false → HasRead x a id message
+  read_within within =
+      let fits =
+      reads_are_alike (receiving (parts a s.past)) id live.stream x.coming live.there within f.within_coming
+      f.sound_coming.invariant s.between.incoming in
+      let event = receivers_events_are_received x.coming (Event.Read id) tt in
+      let same = λ (t : ℕ). ap (λ (g : ℕ → Bool). g t) event.over in
+      record {
+        coming2 = after_one x id;
+        does = read_does x.coming id message
+            (subst (λ (z : Option ReceivedMessage). IsReadAs z (x.coming.reads id) ((after_one x id).reads id)) given
+            fits.1) fits.2;
+        sound =
+            sound_after (Event.Read id)
+            (each_event_keeps_the_invariant x.coming (Event.Read id) f.within_coming f.sound_coming.invariant)
+            f.sound_coming;
+        same_spans = same;
+        sender = event.sender;
+        other = other_by_receiver x (Event.Read id) tt f.other;
+        stands = read_stands (after_one x id) same fits.0;
+      }
+
+  read_past : x.coming.over id ≡ true → HasRead x a id message
+  read_past past = record {
+    coming2 = x.coming;
+    does = read_past_does x.coming id message past;
+    sound = f.sound_coming;
+    same_spans = λ t. refl;
+    sender = refl;
+    other = f.other;
+    stands =
+        read_stands x.coming (λ t. refl)
+        (past_coming x.coming (reading_changes_past x.coming.over (parts a s.past) id past) s.between.incoming);
+  }
+
+  has_read : HasRead x a id message
+  has_read = ⊎_elim
+      (λ (past : x.coming.over id ≡ true). read_past past)
+      (λ (within : x.coming.over id ≡ false). read_within within)
+      (cases_Bool (x.coming.over id))
 
 -- Events of the receiver were such a read, and more that gives nothing.
 settled_read : {x : Surroundings} {a : Shown} (b : Shown) (id : ℕ) (message : Option ReceivedMessage)
     (coming2 : Direction) → Faces x a
     → Does nothing_added (read_by (replies.Read message) id) None_brought x.coming coming2
-    → IsSound coming2 → StandsAt (record x { coming = coming2 }) b → OtherStands (record x { coming = coming2 })
-    → IsAt b x.here → coming2.sender ≡ x.coming.sender
+    → IsSound coming2 → ((s : ℕ) → coming2.over s ≡ x.coming.over s) → StandsAt (record x { coming = coming2 }) b
+    → OtherStands (record x { coming = coming2 }) → IsAt b x.here → coming2.sender ≡ x.coming.sender
     → Settles x b nothing_added (read_by (replies.Read message) id) None_brought
-settled_read {x} b id message coming2 f does sound stands other at same = record {
+settled_read {x} b id message coming2 f does sound spans stands other at same = record {
   out2 = x.out;
   coming2 = coming2;
   here2 = x.here;
@@ -166,6 +270,7 @@ settled_read {x} b id message coming2 f does sound stands other at same = record
   does_coming = does;
   sound_out = f.sound_out;
   sound_coming = sound;
+  both = λ t. f.both t ∙ sym (spans t);
   stands = stands;
   other = other;
   goes = stays_put x.here;
@@ -177,25 +282,19 @@ settled_read {x} b id message coming2 f does sound stands other at same = record
 
 module _ {x : Surroundings} {a : Shown} (id : ℕ) (message : Option ReceivedMessage) (f : Faces x a)
     (h : HasRead x a id message) where
-  -- a direction in which a stream was read is sound
-  sound_read : IsSound (after_one x id)
-  sound_read = sound_after (Event.Read id) tt
-      (each_event_keeps_the_invariant x.coming (Event.Read id) f.within_coming f.sound_coming.invariant) f.sound_coming
-
   -- the read does no more, or an ABORT waits besides
-  read_stays : (b : Shown) → IsAt b x.here → OpenAt (record x { coming = after_one x id }) b
+  read_stays : (b : Shown) → IsAt b x.here → OpenAt (record x { coming = h.coming2 }) b
       → Settles x b nothing_added (read_by (replies.Read message) id) None_brought
   read_stays b at stands =
-      settled_read b id message (after_one x id) f h.does sound_read (inl stands)
-      (other_by_receiver x (Event.Read id) tt f.other) at
-      (receivers_events_are_received x.coming (Event.Read id) tt).sender
+      settled_read b id message h.coming2 f h.does h.sound h.same_spans (inl stands) h.other at h.sender
 
   -- the read leaves the receive buffer exhausted, and that closes
-  read_closes : (b : Shown) → IsAt b x.here → IsOver b → HasNoReset b → ((own : ℕ) → IsTruthful own (read_plainly a id)
+  read_closes : (b : Shown) → IsAt b x.here → IsOver b → HasNoReset b → ((own : ℕ) → IsTruthful own (with_read a id)
       → IsTruthful own b) → Settles x b nothing_added (read_by (replies.Read message) id) None_brought
   unfolding happens
   read_closes b at over none truthful =
-      let coming2 = after_one x id in
+      let coming2 = h.coming2 in
+      let received = receivers_events_are_received coming2 Event.Close tt in
       let closes = goes_by_receiver None_brought coming2 Event.Close tt (λ n. n) (λ o n. n) (λ o n. n) in
       let stands : ClosedAt (record x { coming = happens coming2 Event.Close }) b = record {
         closed = over.closed;
@@ -208,35 +307,33 @@ module _ {x : Surroundings} {a : Shown} (id : ℕ) (message : Option ReceivedMes
       } in
       settled_read b id message (happens coming2 Event.Close) f
       (does_on (read_by (replies.Read message) id) x.coming coming2 (happens coming2 Event.Close) h.does closes)
-      (sound_after Event.Close tt (keeps_close coming2 sound_read.invariant) sound_read)
+      (sound_after Event.Close (keeps_close coming2 h.sound.invariant) h.sound)
+      (λ t. ap (λ (g : ℕ → Bool). g t) received.over ∙ h.same_spans t)
       (inr (inl stands))
-      (other_by_receiver (record x { coming = coming2 }) Event.Close tt
-      (other_by_receiver x (Event.Read id) tt f.other))
+      (other_by_receiver (record x { coming = coming2 }) Event.Close tt h.other)
       at
-      ((receivers_events_are_received coming2 Event.Close tt).sender
-      ∙ (receivers_events_are_received x.coming (Event.Read id) tt).sender)
+      (received.sender ∙ h.sender)
 
   -- a server that listens stays as it is, but for the ABORT
-  read_exhausted : (closed : Bool) → is_closed_state (read_plainly a id).state ≡ closed → IsAt (read_plainly a id) x.here
-      → Settles x (exhausted (read_plainly a id)) nothing_added (read_by (replies.Read message) id) None_brought
+  read_exhausted : (closed : Bool) → is_closed_state (with_read a id).state ≡ closed → IsAt (with_read a id) x.here
+      → Settles x (exhausted (with_read a id)) nothing_added (read_by (replies.Read message) id) None_brought
   read_exhausted false e at =
-      let c = read_plainly a id in
+      let c = with_read a id in
       let closes = exhaustion_closes c in
-      read_closes (exhausted c) (at_exhausted c closes at) (closes.ends e)
-      (exhaustion_begins_no_reset c h.stands.no_reset) closes.truthful
+      read_closes (exhausted c) (at_exhausted c closes at) (closes.ends e) (exhaustion_ends_resets c e) closes.truthful
   read_exhausted true e at =
-      let c = read_plainly a id in
+      let c = with_read a id in
       let closes = exhaustion_closes c in
       let stays = closes.stays e in
       let on = stays.0 h.stands.past h.stands.binds in
       read_stays (exhausted c) (at_exhausted c closes at)
-      (open_on (record x { coming = after_one x id }) [] h.stands record {
+      (open_on (record x { coming = h.coming2 }) [] h.stands record {
         past2 = on.0;
         leads = on.1;
         nobody = tt;
-        orderly = tt;
+        in_order = h.stands.in_order;
         same = stays.1;
-        none = exhaustion_begins_no_reset c h.stands.no_reset;
+        resets = exhaustion_resets_no_more c h.coming2.over h.stands.resets;
         size = refl;
         outgoing = h.stands.between.outgoing;
         incoming = h.stands.between.incoming;
@@ -246,19 +343,19 @@ read_open : {x : Surroundings} {a b : Shown} (id : ℕ) (message : Option Receiv
     → read_from_stream a id ≡ (b, message) → Faces x a → OpenAt x a
     → Settles x b nothing_added (read_by (replies.Read message) id) None_brought
 read_open {x} {a} {b} id message live e f s =
-    let h = plainly_read id message live e f s in
-    let reads = reads_plainly a id s.no_reset in
-    let at : IsAt (read_plainly a id) x.here = at_same a (read_plainly a id) x.here reads.same f.at in
+    let h = has_read id message live e f s in
+    let reads = reads_keep_the_status a id in
+    let at : IsAt (with_read a id) x.here = at_same a (with_read a id) x.here reads.same f.at in
     let left : (read_from_stream a id).0 ≡ b = ap (λ (z : Shown × Option ReceivedMessage). z.0) e in
     subst (λ (z : Shown). Settles x z nothing_added (read_by (replies.Read message) id) None_brought) left
     (⊎_elim
     (λ (exhausts : read_exhausts a id ≡ true).
     subst (λ (z : Shown). Settles x z nothing_added (read_by (replies.Read message) id) None_brought)
     (sym (reads.exhausts exhausts))
-    (read_exhausted id message f h (is_closed_state (read_plainly a id).state) refl at))
+    (read_exhausted id message f h (is_closed_state (with_read a id).state) refl at))
     (λ (plain : read_exhausts a id ≡ false).
     subst (λ (z : Shown). Settles x z nothing_added (read_by (replies.Read message) id) None_brought)
-    (sym (reads.plainly plain)) (read_stays id message f h (read_plainly a id) at h.stands))
+    (sym (reads.plainly plain)) (read_stays id message f h (with_read a id) at h.stands))
     (cases_Bool (read_exhausts a id)))
 
 -- A closed association reads nothing
@@ -283,6 +380,11 @@ read_closed a b id message live e s =
           (subst HoldsNothing left nothing.1) s,
     )
 
+-- no message is none, whoever looks
+none_either : (b : Bool) (message : Option ReceivedMessage) → message ≡ None → (if b then message else None) ≡ None
+none_either true message e = e
+none_either false message e = refl
+
 -- a read that gave nothing
 none_read : {x : Surroundings} {b : Shown} (id : ℕ) (message : Option ReceivedMessage) → message ≡ None
     → SettlesQuietly x b → Settles x b nothing_added (read_by (replies.Read message) id) None_brought
@@ -298,20 +400,20 @@ none_read {x} id message e h =
         is = d.is;
         accepted = d.accepted;
         size = d.size;
-        reads =
-            read_alone x.coming.reads h.coming2.reads id message
-            (subst (λ (z : Option ReceivedMessage). IsReadAs z (x.coming.reads id) (h.coming2.reads id)) (sym e)
-            (d.reads id)) (λ s b. d.reads s);
+        reads = λ s within. subst (λ (z : Option ReceivedMessage). IsReadAs z (x.coming.reads s) (h.coming2.reads s))
+            (sym (none_either (id == s) message e)) (d.reads s within);
         taken = d.taken;
         passed = d.passed;
         datas = d.datas;
         forwards = d.forwards;
         sacks = d.sacks;
         spans = d.spans;
+        ends = d.ends;
         reach_on = d.reach_on;
       };
       sound_out = h.sound_out;
       sound_coming = h.sound_coming;
+      both = h.both;
       stands = h.stands;
       other = h.other;
       goes = h.goes;

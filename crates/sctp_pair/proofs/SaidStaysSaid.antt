@@ -11,12 +11,13 @@ use Rattle.sctp_model.specs.Machine.{Direction}
 use Rattle.sctp_model.proofs.Lists.{all_weaker}
 use Rattle.sctp_sides.specs.Meeting.{IsNoEarlier, Stage}
 use Rattle.sctp_sides.specs.SideLaws.{OfEachChunk}
-use Rattle.sctp_sides.proofs.Proved.{greetings_stay_true}
+use Rattle.sctp_sides.proofs.Proved.{greetings_stay_true, more_is_asked_past}
 use Rattle.sctp_fit.specs.Forwards.{IsForwardSaid}
 use Rattle.sctp_fit.specs.Incoming.{IsSaid}
 use Rattle.sctp_directions.specs.Said.{Says}
 use Rattle.sctp_pair.specs.Steps.{packet_in}
 use Rattle.sctp_pair.specs.Fits.{AreSaid, IsSaidBy}
+use Rattle.sctp_pair.proofs.BetweenDirections.{SpansGoOn}
 
 -- whatever DATA was given out in a direction stays given out
 abbrev pub KeepsDatas : Direction → Direction → Type 0
@@ -36,8 +37,7 @@ pub record StageGoesOn (s t : Stage) (out coming out2 coming2 : Direction) : Typ
   pub datas : KeepsDatas out out2
   pub forwards : KeepsForwards out out2
   pub sacks : KeepsSacks coming coming2
-  -- no span begins anew
-  pub spans : (s : ℕ) → out2.over s ≡ false → out.over s ≡ false
+  pub spans : SpansGoOn out out2
 
 -- what DATA and FORWARD TSNs say is said of streams within their span, and stays said of those that still are
 pub data_stays_said : (initial : ℕ) {over over2 : ℕ → Bool} (c : ChunkPayloadData) (d : Data)
@@ -59,16 +59,17 @@ module _ (own peer : ℕ) {s t : Stage} {out coming out2 coming2 : Direction}
     (g : StageGoesOn s t out coming out2 coming2) where
   -- one chunk
   chunk_grows : (c : Chunk) → Says own peer out coming c → Says own peer out2 coming2 c
-  chunk_grows (chunks.Data c) (k, d, there, said) = (k, d, g.datas k d there, data_stays_said own c d g.spans said)
+  chunk_grows (chunks.Data c) (k, d, there, said) = (k, d, g.datas k d there, data_stays_said own c d g.spans.within said)
   chunk_grows (chunks.SelectiveAck c) (k, x, there, made) = (k, x, g.sacks k x there, made)
   chunk_grows (chunks.ForwardTsn c) (k, f, there, said) =
-      (k, f, g.forwards k f there, forward_stays_said own c f g.spans said)
+      (k, f, g.forwards k f there, forward_stays_said own c f g.spans.within said)
   chunk_grows c h = absurd h
 
-  -- a chunk of the handshake says it of a later stage, too
+  -- a chunk of the handshake says it of a later stage, too, and one that resets streams of more that are past their span
   said_by_grows : (c : Chunk) → IsSaidBy own peer s out coming c → IsSaidBy own peer t out2 coming2 c
   said_by_grows c (inl said) = inl (chunk_grows c said)
-  said_by_grows c (inr greets) = inr (greetings_stay_true own s t c g.goes greets)
+  said_by_grows c (inr (inl greets)) = inr (inl (greetings_stay_true own s t c g.goes greets))
+  said_by_grows c (inr (inr resets)) = inr (inr (more_is_asked_past out.over out2.over c g.spans.over resets))
 
   -- one packet
   packet_grows : (packet : Option Packet) → OfEachChunk (IsSaidBy own peer s out coming) packet

@@ -21,18 +21,18 @@ use Rattle.sctp_pair.specs.declared.step.Step.TheVariants as steps
 use Rattle.sctp_pair.specs.Ends.{Ends, end_of, packets_of}
 use Rattle.sctp_pair.specs.Steps.{AtSide, Buffers, ComesTo, Delivers, Expires, Finds, Measures, Opens, Reads, SendsAt}
 use Rattle.sctp_pair.specs.Steps.{AcceptsStream, ClosesOne, Limits, Lists, Sets, ShowsOrRefuses, Steps, PollsEvent}
-use Rattle.sctp_pair.specs.Steps.{Writes}
+use Rattle.sctp_pair.specs.Steps.{Stops, Writes}
 use Rattle.sctp_pair.specs.Steps.{WritesFirst}
 use Rattle.sctp_pair.specs.Steps.{packet_in}
 use Rattle.sctp_streams.specs.declared.setting.Setting.TheVariants as settings
 use Rattle.sctp_streams.specs.Stream.{is_read_half_open, ordered_and_reliable, params_of}
-use Rattle.sctp_pair.specs.World.{is_loose, is_side, loose_after, loose_of}
+use Rattle.sctp_pair.specs.World.{EndsSpan, is_loose, is_side, loose_after, loose_of}
 use Rattle.sctp_fit.specs.Incoming.{tsn_before}
 use Rattle.sctp_pair.specs.World.{HasData, HasForward, World, other_side, packet_brought, packet_of_bytes}
 use Rattle.sctp_pair.specs.Fits.{AreSaid, Fits, LeadsSafely}
 use Rattle.sctp_pair.proofs.BetweenDirections.{Faces, None_brought, Settles, SettlesQuietly, Surroundings}
 use Rattle.sctp_pair.proofs.BetweenDirections.{nothing_added, nothing_read}
-use Rattle.sctp_pair.proofs.CallsAreSteps.{IsCallAt, around_a, around_b, faces_a, faces_b, settled_a, settled_b}
+use Rattle.sctp_pair.proofs.CallsAreSteps.{IsCallAt, IsCallEnding, around_a, around_b, faces_a, faces_b, settled_a, settled_b}
 use Rattle.sctp_pair.proofs.AcceptedAndRead.{IsQuiet, quiet_call, read_call, write_call}
 use Rattle.sctp_pair.proofs.PacketCall.{brings_more, brought_by, packet_settles}
 use Rattle.sctp_pair.proofs.PacketChunks.{Brings_of}
@@ -42,6 +42,7 @@ use Rattle.sctp_pair.proofs.ReadCall.{read_by, reads_settle}
 use Rattle.sctp_pair.proofs.QuietCalls.{buffers_same, finds_same, measures_same, opens_settle, same_settles}
 use Rattle.sctp_pair.proofs.StreamCalls.{accepts_settle, closes_settle, limits_settle, lists_same, sets_settle}
 use Rattle.sctp_pair.proofs.StreamCalls.{shows_same}
+use Rattle.sctp_pair.proofs.StopCall.{Ended_by, stops_settle}
 use Rattle.sctp_pair.proofs.StreamCalls.{IsCovered, reliability_settles}
 use Rattle.sctp_pair.proofs.TimedCalls.{expires_settle, tells_settle}
 use Rattle.sctp_pair.proofs.WriteCall.{first_writes_settle, writes_settle, written_by}
@@ -103,8 +104,28 @@ covered_at side w id unordered kind value replies.Done =
     (set_or_loose unordered kind value)
 covered_at side w id unordered kind value r = tt
 
+-- the span that a stop ends is that of its stream
+ends_by : (r : Reply) (side : Side2) (id s : ℕ) → Ended_by r id s → EndsSpan (steps.Stop side id) r s
+ends_by replies.Done side id s e = e
+ends_by r side id s e = absurd e
+
 -- From the pair of the world, which fits it, a step with this reply leads to q.
 module _ (q : Ends) (r : Reply) (w : World) (fits : Fits w.ends w) where
+  -- A stop neither writes nor reads, and may end the span of its stream.
+  stop_call : (side : Side2) (id initial : ℕ)
+      → IsCallEnding (Ended_by r id) (steps.Stop side id) r side w initial nothing_added nothing_read None_brought
+  stop_call side id initial =
+      let quiet = quiet_call (steps.Stop side id) r side w initial (λ y s. (refl, refl)) in
+      record {
+        adds = quiet.adds;
+        reads = quiet.reads;
+        brings = quiet.brings;
+        passes = quiet.passes;
+        adds_alone = quiet.adds_alone;
+        reads_alone = quiet.reads_alone;
+        ends = ends_by r side id;
+      }
+
   -- A change of one side's association leads safely where it settles and is what the step does.
   change_leads : (side : Side2) (step : Step) (Changes : Shown → Shown → Type 0) (Added : Shown → ℕ → List Message)
       (Read : ℕ → Option letters.ReceivedMessage)
@@ -167,6 +188,7 @@ module _ (q : Ends) (r : Reply) (w : World) (fits : Fits w.ends w) where
             λ n b. subst (λ z. HasForward z (tsn_before (tsn w.initial_b n))) (brought_here sides.A number now r w) b;
         adds_alone = λ s. refl;
         reads_alone = λ s. refl;
+        ends = λ s n. absurd n;
       }
   come_leads sides.B number now (h, e) =
       settled_b (steps.Deliver sides.B number now) r w q [] fits (ap (λ (z : Ends). z.a) e)
@@ -181,6 +203,7 @@ module _ (q : Ends) (r : Reply) (w : World) (fits : Fits w.ends w) where
             λ n b. subst (λ z. HasForward z (tsn_before (tsn w.initial_a n))) (brought_here sides.B number now r w) b;
         adds_alone = λ s. refl;
         reads_alone = λ s. refl;
+        ends = λ s n. absurd n;
       }
 
   -- What sets the order and the reliability of a stream leads safely.
@@ -201,6 +224,18 @@ module _ (q : Ends) (r : Reply) (w : World) (fits : Fits w.ends w) where
       (reliability_settles id (params_of unordered kind value) r (covered_at sides.B w id unordered kind value r) h
       (faces_b step r w fits)) tt
       (quiet_call step r sides.B w w.initial_a (λ y s. (refl, refl)))
+
+  -- A stop leads safely.
+  stop_leads : (side : Side2) (id : ℕ) → AtSide side w.ends (λ a b. Stops a id r b) q
+      → LeadsSafely (steps.Stop side id) r w q
+  stop_leads sides.A id (h, e) =
+      settled_a (steps.Stop sides.A id) r w q [] fits (ap (λ (z : Ends). z.b) e)
+      (ap (λ (z : Ends). z.packets_a) e ∙ sym (append-nil w.ends.packets_a)) (ap (λ (z : Ends). z.packets_b) e) (h, e)
+      (stops_settle id r h (faces_a (steps.Stop sides.A id) r w fits)) tt (stop_call sides.A id w.initial_b)
+  stop_leads sides.B id (h, e) =
+      settled_b (steps.Stop sides.B id) r w q [] fits (ap (λ (z : Ends). z.a) e)
+      (ap (λ (z : Ends). z.packets_b) e ∙ sym (append-nil w.ends.packets_b)) (ap (λ (z : Ends). z.packets_a) e) (h, e)
+      (stops_settle id r h (faces_b (steps.Stop sides.B id) r w fits)) tt (stop_call sides.B id w.initial_a)
 
   -- each step
   step_at : (step : Step) → Steps step w.ends r q → LeadsSafely step r w q
@@ -243,6 +278,7 @@ module _ (q : Ends) (r : Reply) (w : World) (fits : Fits w.ends w) where
   step_at (steps.Finish side id) h =
       quiet_leads side (steps.Finish side id) (λ a b. Sets a id settings.WriteHalfClosed r b)
       (λ x a b c. sets_settle id settings.WriteHalfClosed r (λ s n. n) c) (λ y s. (refl, refl)) h h
+  step_at (steps.Stop side id) h = stop_leads side id h
   step_at (steps.SetReliabilityParams side id unordered kind value) h = set_leads side id unordered kind value h
   step_at (steps.SetDefaultPayloadType side id kind) h =
       quiet_leads side (steps.SetDefaultPayloadType side id kind)

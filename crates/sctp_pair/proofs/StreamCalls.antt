@@ -21,9 +21,12 @@ use Rattle.sctp_assoc.specs.Calls.{with_max_send_message_size}
 use Rattle.sctp_assoc.specs.Closing.{closed_by, is_closed_state}
 use Rattle.sctp_assoc.specs.Shown.{Shown}
 use Rattle.sctp_sides.specs.NoReset.{HasNoReset}
+use Rattle.sctp_sides.specs.PastSpan.{ResetsPastOnly}
 use Rattle.sctp_sides.specs.SideLaws.{IsSameStatus}
 use Rattle.sctp_sides.proofs.Proved.{accept_leads_on, accepted_streams_keep_the_status, faults_close}
-use Rattle.sctp_sides.proofs.Proved.{accepted_streams_begin_no_reset, closes_begin_no_reset, limits_begin_no_reset}
+use Rattle.sctp_sides.proofs.Proved.{accepted_streams_begin_no_reset, accepted_streams_reset_no_more}
+use Rattle.sctp_sides.proofs.Proved.{closes_end_resets, limits_begin_no_reset, limits_reset_no_more}
+use Rattle.sctp_sides.proofs.Proved.{settings_reset_no_more}
 use Rattle.sctp_sides.proofs.Proved.{limit_leads_on, limits_keep_the_status, settings_begin_no_reset}
 use Rattle.sctp_sides.proofs.Proved.{found_streams_are_live, setting_leads_on, settings_hold_nothing}
 use Rattle.sctp_sides.proofs.Proved.{settings_keep_the_status, the_same_handshake_is_the_same_stage}
@@ -56,6 +59,7 @@ module _ (x : Surroundings) (a : Shown) (id : ℕ) (setting : Setting) (f : Face
   adjusted_settles orderly e = unseen_settles (Act.Adjusted id setting ∷ []) record {
     same = settings_keep_the_status a id setting;
     none = settings_begin_no_reset a id setting;
+    past = settings_reset_no_more a id setting;
     empty = settings_hold_nothing a id setting;
     leads = setting_leads_on a (adjusted a id setting) id setting refl;
     nobody = (tt, tt);
@@ -123,6 +127,7 @@ accepted_settles {x} {a} {b} id working e f =
     idle_settles
     (subst (λ z. IsSameStatus a z × (z.streams ≡ a.streams)) is (accepted_streams_keep_the_status a))
     (λ none. subst HasNoReset is (accepted_streams_begin_no_reset a none))
+    (λ over h. subst (ResetsPastOnly over) is (accepted_streams_reset_no_more a over h))
     (accept_leads_on a b id e) working f
 
 accepted_if_failed : (a b : Shown) (id : Option ℕ) → a.failed ≡ true → accepted_stream a ≡ (b, id) → b ≡ a
@@ -151,6 +156,7 @@ limit_settles {x} {a} {b} size working e f =
     idle_settles
     (subst (λ z. IsSameStatus a z × (z.streams ≡ a.streams)) (sym e) (limits_keep_the_status a size))
     (λ none. subst HasNoReset (sym e) (limits_begin_no_reset a size none))
+    (λ over h. subst (ResetsPastOnly over) (sym e) (limits_reset_no_more a size over h))
     (limit_leads_on a b size e) working f
 
 -- Writes take messages of up to so many bytes from now on.
@@ -175,7 +181,7 @@ module _ (x : Surroundings) (a : Shown) (f : Faces x a) where
       (λ (opened : is_closed_state a.state ≡ false).
       let ended = closes.ends opened in
       by_working (SettlesQuietly x b) working f
-      (λ s. settles_by_receiver Event.Close f tt (λ n. n) (λ o n. n) (λ o n. n) tt
+      (λ s. settles_by_receiver Event.Close f tt (λ n. n) (λ o n. n) (λ o n. n)
       (λ works. (the_same_handshake_is_the_same_stage a b closes.side closes.handshake).0
       ∙ f.at (sym closes.failed ∙ works))
       (inr (inl record {
@@ -185,7 +191,7 @@ module _ (x : Surroundings) (a : Shown) (f : Faces x a) where
         stopped = closed_receivers_are_not_open x.coming;
         nothing_left = ended.holds_nothing;
         truthful = closes.truthful x.own s.truthful;
-        no_reset = closes_begin_no_reset a reasons.AssociationClosed s.no_reset;
+        no_reset = closes_end_resets a reasons.AssociationClosed opened;
       })))
       (λ s. absurd (true≢false (sym s.closed ∙ opened))))
       (cases_Bool (is_closed_state a.state))

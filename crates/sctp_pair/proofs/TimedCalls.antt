@@ -13,8 +13,10 @@ use Rattle.sctp_assoc.specs.Happened.{acts_of_timeouts}
 use Rattle.sctp_assoc.specs.Shown.{Shown}
 use Rattle.sctp_assoc.specs.Timeouts.{after_timeouts}
 use Rattle.sctp_sides.specs.NoReset.{HasNoReset}
+use Rattle.sctp_sides.specs.PastSpan.{ResetsPastOnly}
 use Rattle.sctp_sides.proofs.Proved.{poll_leads_on, timeouts_lead_on, timeouts_mark_at_most, timers_keep_the_status}
-use Rattle.sctp_sides.proofs.Proved.{timers_begin_no_reset, told_events_begin_no_reset, told_events_keep_the_status}
+use Rattle.sctp_sides.proofs.Proved.{timers_begin_no_reset, timers_reset_no_more, told_events_begin_no_reset}
+use Rattle.sctp_sides.proofs.Proved.{told_events_keep_the_status, told_events_reset_no_more}
 use Rattle.sctp_pair.specs.declared.step.Reply.{Reply}
 use Rattle.sctp_pair.specs.declared.step.Reply.TheVariants as replies
 use Rattle.sctp_pair.specs.Steps.{Expires, PollsEvent}
@@ -30,6 +32,8 @@ told_settles : {x : Surroundings} {a b : Shown} (event : Option Event) → a.fai
 told_settles {x} {a} {b} event working e f =
     idle_settles (told_events_keep_the_status a b event e)
     (λ none. subst HasNoReset (ap (λ (z : Shown × Option Event). z.0) e) (told_events_begin_no_reset a none))
+    (λ over h. subst (ResetsPastOnly over) (ap (λ (z : Shown × Option Event). z.0) e)
+    (told_events_reset_no_more a over h))
     (poll_leads_on a b event e) working f
 
 -- The oldest event is told: the directions see nothing of it.
@@ -74,6 +78,7 @@ expired_settles {x} {a} now working f =
     unseen_settles acts record {
       same = stays.0;
       none = timers_begin_no_reset a now;
+      past = timers_reset_no_more a now;
       empty = empty_still a (after_timeouts a now) stays.1;
       leads = timeouts_lead_on a (after_timeouts a now) now refl;
       nobody = timeouts_are_not_peer_known acts shape;

@@ -22,17 +22,17 @@ use Rattle.sctp_assoc.specs.Leads.{parts}
 use Rattle.sctp_assoc.specs.Calls.{first_filled, first_refusal, written}
 use Rattle.sctp_assoc.specs.Shown.{Shown}
 use Rattle.sctp_sides.specs.SideLaws.{WasWritable}
-use Rattle.sctp_sides.proofs.Proved.{accepted_writes_fit, write_leads_on, writes_begin_no_reset}
-use Rattle.sctp_sides.proofs.Proved.{writes_keep_the_status}
+use Rattle.sctp_sides.proofs.Proved.{accepted_writes_fit, write_leads_on, writes_keep_the_status}
+use Rattle.sctp_sides.proofs.Proved.{writes_reset_no_more}
 use Rattle.sctp_pair.specs.declared.step.Reply.{Reply}
 use Rattle.sctp_pair.specs.declared.step.Reply.TheVariants as replies
 use Rattle.sctp_pair.specs.Steps.{Writes, WritesFirst}
 use Rattle.sctp_pair.specs.World.{IsOrderedAndReliable, messages_on}
 use Rattle.sctp_pair.proofs.BetweenDirections.{orderly_acts_keep_order}
 use Rattle.sctp_pair.proofs.BetweenDirections.{Does, Faces, None_brought, OpenAt, Settles, Surroundings}
-use Rattle.sctp_pair.proofs.BetweenDirections.{does_by_goes, goes_nowhere, nothing_read, other_by_sender}
-use Rattle.sctp_pair.proofs.BetweenDirections.{sound_after}
-use Rattle.sctp_pair.proofs.QuietCalls.{by_working, open_on, same_settles}
+use Rattle.sctp_pair.proofs.BetweenDirections.{does_by_goes, goes_nowhere, none_ends, nothing_read, other_by_sender}
+use Rattle.sctp_pair.proofs.BetweenDirections.{same_spans_go_on, sound_after}
+use Rattle.sctp_pair.proofs.QuietCalls.{by_working, open_on, same_settles, still_in_order}
 use Rattle.sctp_pair.proofs.HandshakeStages.{at_same, stays_put}
 
 -- what a write with this reply adds to what was accepted on stream s
@@ -76,13 +76,15 @@ write_does a id n named bytes t w there some =
       accepted = λ s. writes_are_accepted_last w id s t kind bytes some
           ∙ ap (λ o. w.sender.plan.accepted s ++ (if id == s then messages_on o named bytes else [])) (sym there);
       size = sent.0.size;
-      reads = λ s. ap (λ f. f s) sent.0.reads;
+      reads = λ s within. ap (λ f. f s) sent.0.reads;
       taken = λ o m. inl (subst (λ (r : Receiver). mem o r.taken ≡ true) sent.0.receiver m);
       passed = inl (ap (λ (r : Receiver). r.passed) sent.0.receiver);
       datas = sent.0.datas;
       forwards = sent.0.forwards;
       sacks = λ k x e. subst (λ (ks : List Sack). slice_get ks k ≡ Some x) (sym sent.0.sacks) e;
-      spans = λ s e. ap (λ (f : ℕ → Bool). f s) (sym sent.0.over) ∙ e;
+      spans = same_spans_go_on w (happens w (Event.Write id (message_on t kind bytes))) sent.0.over;
+      ends =
+          none_ends w (happens w (Event.Write id (message_on t kind bytes))) (λ s. ap (λ (f : ℕ → Bool). f s) sent.0.over);
       reach_on = sent.1;
     }
 
@@ -95,15 +97,19 @@ written_settles {x} {a} id n named bytes can f s =
     let e : Event = Event.Write id (message_on t (type_on t named) bytes) in
     let out2 : Direction = happens x.out e in
     let sent = senders_events_are_sent x.out e tt in
+    let spans = same_spans_go_on x.out out2 sent.0.over in
     let m = write_leads_on a (written a id named bytes) id named bytes refl s.past s.binds in
     let stands : OpenAt (record x { out = out2 }) (written a id named bytes) =
     open_on x (Act.Wrote id named bytes ∷ []) s record {
       past2 = m.0;
       leads = m.1;
       nobody = (tt, tt);
-      orderly = (orderly_acts_keep_order x.loose (Act.Wrote id named bytes) (λ z n. n), tt);
+      in_order =
+          λ u within tight. still_in_order x (Act.Wrote id named bytes ∷ []) s
+          (orderly_acts_keep_order x.loose (Act.Wrote id named bytes) (λ z n. n), tt) u
+          (spans.within u within) tight;
       same = writes_keep_the_status a id named bytes;
-      none = writes_begin_no_reset a id named bytes s.no_reset;
+      resets = writes_reset_no_more a id named bytes x.coming.over s.resets;
       size = sent.0.size;
       outgoing =
           its_writes_are_accepted (parts a s.past) id named bytes t x.out there can.some f.sound_out.invariant
@@ -118,8 +124,9 @@ written_settles {x} {a} id n named bytes can f s =
       does_out = write_does a id n named bytes t x.out there can.some;
       does_coming = does_by_goes None_brought x.coming x.coming (goes_nowhere None_brought x.coming);
       sound_out =
-          sound_after e tt (senders_events_keep_the_invariant x.out e tt tt f.sound_out.invariant) f.sound_out;
+          sound_after e (senders_events_keep_the_invariant x.out e tt tt f.sound_out.invariant) f.sound_out;
       sound_coming = f.sound_coming;
+      both = λ u. ap (λ (g : ℕ → Bool). g u) sent.0.over ∙ f.both u;
       stands = inl stands;
       other = other_by_sender x e tt f.sound_out.invariant f.other;
       goes = stays_put x.here;

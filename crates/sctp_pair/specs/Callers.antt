@@ -14,7 +14,8 @@ use Rattle.sctp_pair.specs.declared.step.Step.TheVariants as steps
 use Rattle.sctp_pair.specs.Counted.{AreFew, FitsCounted, Tally, nothing_tallied, pieces_of, tallied}
 use Rattle.sctp_pair.specs.Ends.{Ends}
 use Rattle.sctp_pair.specs.Steps.{Runs, Writing, reading_of, writing_of}
-use Rattle.sctp_pair.specs.World.{IsSafeWorld, IsWorldStep, World, empty_world, is_side, loosens, message_read}
+use Rattle.sctp_pair.specs.World.{IsSafeWorld, IsWorldStep, World, empty_world, ends_span, is_side, loosens}
+use Rattle.sctp_pair.specs.World.{message_read}
 use Rattle.sctp_pair.specs.World.{other_side}
 
 -- One step and its reply
@@ -112,10 +113,16 @@ stays_in_order (a ∷ ss) (r ∷ rs) x s = not (loosens a r x s) && stays_in_ord
 stays_in_order [] rs x s = true
 stays_in_order (a ∷ ss) [] x s = true
 
--- On a stream that the other side kept in order, what either side read is, message by message and in order, a front of
--- what the other side wrote on it.
+-- no step stopped stream s, at either side
+abbrev pub stays_in_span : List Step → List Reply → ℕ → Bool
+stays_in_span (a ∷ ss) (r ∷ rs) s = not (ends_span a r s) && stays_in_span ss rs s
+stays_in_span [] rs s = true
+stays_in_span (a ∷ ss) [] s = true
+
+-- On a stream that neither side stopped, and that the other side kept in order, what either side read is, message by
+-- message and in order, a front of what the other side wrote on it.
 abbrev pub ReadsAreFronts : List Step → List Reply → Type 0
-ReadsAreFronts ss rs = (x : Side2) (s : ℕ) → stays_in_order ss rs x s ≡ true
+ReadsAreFronts ss rs = (x : Side2) (s : ℕ) → stays_in_span ss rs s ≡ true → stays_in_order ss rs x s ≡ true
     → IsFrontOf (read_in ss rs (other_side x) s) (written_in ss rs x s)
 
 -- a message is under the payload type that its write names, if that names one
@@ -137,16 +144,17 @@ AreAt (message ∷ messages) (index ∷ indexes) written =
 AreAt [] (index ∷ indexes) written = ⊥
 AreAt (message ∷ messages) [] written = ⊥
 
--- On each stream, in order or not, each message that either side read was written by the other side, whole, and is read
--- at most once.
+-- On each stream that neither side stopped, in order or not, each message that either side read was written by the other
+-- side, whole, and is read at most once.
 abbrev pub ReadsWereWritten : List Step → List Reply → Type 0
-ReadsWereWritten ss rs = (x : Side2) (s : ℕ)
+ReadsWereWritten ss rs = (x : Side2) (s : ℕ) → stays_in_span ss rs s ≡ true
     → (indexes : List ℕ) × AreDistinct indexes
     × AreAt (messages_read ss rs (other_side x) s) indexes (messages_written ss rs x s)
 
--- a side that was handed no packet yet reads nothing
+-- a side that was handed no packet yet reads nothing on a stream that neither side stopped
 abbrev pub NothingIsReadBeforeADelivery : List Step → List Reply → Type 0
-NothingIsReadBeforeADelivery ss rs = (x : Side2) (s : ℕ) → read_undelivered ss rs x s ≡ []
+NothingIsReadBeforeADelivery ss rs = (x : Side2) (s : ℕ) → stays_in_span ss rs s ≡ true
+    → read_undelivered ss rs x s ≡ []
 
 -- All steps of a pair
 

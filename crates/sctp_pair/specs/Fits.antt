@@ -9,6 +9,7 @@ use Rattle.sctp_assoc.specs.Calls.{is_established}
 use Rattle.sctp_assoc.specs.Closing.{is_closed_state}
 use Rattle.sctp_sides.specs.Meeting.{Greets, HasCome, IsDoneAmongClients, IsTruthful, MayHear, Stage, stage_of}
 use Rattle.sctp_sides.specs.NoReset.{HasNoReset}
+use Rattle.sctp_sides.specs.PastSpan.{ResetsPast, ResetsPastOnly}
 use Rattle.sctp_sides.specs.SideLaws.{HoldsNothing, OfEachChunk}
 use Rattle.sctp_assoc.specs.Shown.{Shown}
 use Rattle.sctp_directions.specs.Said.{Says}
@@ -21,8 +22,8 @@ use Rattle.sctp_pair.specs.World.{IsSafeWorld, IsWithinLimits, IsWorldStep, Worl
 
 -- An association that was neither lost nor failed (a server that listens, in state Closed, is one, too) stands between
 -- its own direction and the one that comes to it; own and peer are their initial TSNs. What it knows of the peer's is
--- true. The loose streams are those that a step set to send other messages than ordered, reliable ones. No step stops a
--- stream, so no reset of one is ever under way (RFC 6525 section 5).
+-- true. The loose streams are those that a step set to send other messages than ordered, reliable ones. Its resets
+-- concern streams past their span alone (RFC 6525 section 5).
 pub record StandsOpen (loose : ℕ → Bool) (own peer : ℕ) (a : Shown) (out coming : Direction) : Type 0 where
   pub past : History
   pub own_is : past.own ≡ own
@@ -34,9 +35,9 @@ pub record StandsOpen (loose : ℕ → Bool) (own peer : ℕ) (a : Shown) (out c
   pub truthful : IsTruthful own a
   pub size : out.sender.plan.size ≡ a.sender.max_payload_size
   pub between : FitsBetween (parts a past) out coming
-  -- a stream sends ordered, reliable messages as long as no step sets it otherwise
-  pub in_order : (s : ℕ) → loose s ≡ false → IsKeptInOrder a.streams s
-  pub no_reset : HasNoReset a
+  -- a stream within its span sends ordered, reliable messages as long as no step sets it otherwise
+  pub in_order : (s : ℕ) → out.over s ≡ false → loose s ≡ false → IsKeptInOrder a.streams s
+  pub resets : ResetsPastOnly coming.over a
 
 -- A closed one is lost and receives nothing more, the streams that were opened since then are empty, and what waits to
 -- go out is truthful; no reset of a stream is under way.
@@ -76,20 +77,22 @@ abbrev pub IsSilent : Stage → Direction → Type 0
 IsSilent s w = s.completed ≡ false → w.sender.plan.places ≡ []
 
 -- a chunk that a side in this stage gives out: DATA or FORWARD TSN of its own direction, a SACK for the one that comes
--- to it, its handshake's, or an ERROR
+-- to it, its handshake's, an ERROR, or a RE-CONFIG that resets streams past their span or responds to one
 abbrev pub IsSaidBy : ℕ → ℕ → Stage → Direction → Direction → Chunk → Type 0
-IsSaidBy own peer s out coming chunk = Says own peer out coming chunk ⊎ Greets own s chunk
+IsSaidBy own peer s out coming chunk = Says own peer out coming chunk ⊎ (Greets own s chunk ⊎ ResetsPast out.over chunk)
 
 -- each datagram that a side gave out, if it spells a packet, is of such chunks
 abbrev pub AreSaid : ℕ → ℕ → Stage → Direction → Direction → List (List ℕ) → Type 0
 AreSaid own peer s out coming packets =
     AllByRecursion (λ (bytes : List ℕ). OfEachChunk (IsSaidBy own peer s out coming) (packet_in bytes)) packets
 
--- A pair stands in a world: both directions are sound, and both sides stand between them.
+-- A pair stands in a world: both directions are sound, the same streams are past their span in both, and both sides
+-- stand between them.
 pub record StandsIn (p : Ends) (w : World) : Type 0 where
   pub is : p ≡ w.ends
   pub sound_ab : IsSound w.ab
   pub sound_ba : IsSound w.ba
+  pub spans : (s : ℕ) → w.ab.over s ≡ w.ba.over s
   pub side_a : Stands w.loose_a w.initial_a w.initial_b w.ends.a w.ab w.ba
   pub side_b : Stands w.loose_b w.initial_b w.initial_a w.ends.b w.ba w.ab
   pub stage_a : Stage

@@ -9,7 +9,7 @@ use Rattle.sctp_wire_types.specs.Errors.{refusal_number}
 use Rattle.sctp_wire.specs.declared.packet.Packet.{Packet}
 use Rattle.sctp_wire.specs.Packets.{packet_at}
 use Rattle.sctp_assoc.specs.Calls.{accepted_stream, adjusted, buffered_of, deadline_of, event_polled}
-use Rattle.sctp_assoc.specs.Calls.{first_filled, has_begun_closing, is_writable, read_takes_memory, refusal_to_read}
+use Rattle.sctp_assoc.specs.Calls.{first_filled, first_refusal, has_begun_closing, is_writable, read_takes_memory, refusal_to_read}
 use Rattle.sctp_assoc.specs.Closing.{closed_by, is_closed_state}
 use Rattle.sctp_streams.specs.declared.event.AssociationError.TheVariants as reasons
 use Rattle.sctp_streams.specs.declared.setting.Setting.{Setting}
@@ -17,7 +17,7 @@ use Rattle.sctp_streams.specs.declared.setting.Setting.TheVariants as settings
 use Rattle.sctp_streams.specs.Stream.{StreamView, is_read_half_open, params_of}
 use Rattle.sctp_streams.specs.Streams.{live_ids, stream_at}
 use Rattle.sctp_assoc.specs.Calls.{open_refusal, opened, read_from_stream, refusal_to_write, stream_refusal}
-use Rattle.sctp_assoc.specs.Calls.{with_max_send_message_size, written}
+use Rattle.sctp_assoc.specs.Calls.{stop_refusal, stop_takes_memory, stopped, with_max_send_message_size, written}
 use Rattle.sctp_assoc.specs.Chunks.{after_packet}
 use Rattle.sctp_assoc.specs.Happened.{PollsOn, acts_of_poll, forwards_of_poll}
 use Rattle.sctp_assoc.specs.Inbound.{taken_packet}
@@ -84,6 +84,18 @@ Reads a id (replies.Read message) b = (refusal_to_read a id ≡ None) × (read_f
 Reads a id (replies.Refused n) b =
     (IsNumberOf (refusal_to_read a id) n × (b ≡ a)) ⊎ ((read_takes_memory a id ≡ true) × Fails a n b)
 Reads a id _ b = ⊥
+
+-- why a stop is refused, want of memory aside
+abbrev pub refusal_to_stop : Shown → ℕ → Option Error
+refusal_to_stop a id = first_refusal (stream_refusal a id) (stop_refusal a id)
+
+-- a stream is stopped; memory is wanted only where its read half is open
+abbrev pub Stops : Shown → ℕ → Reply → Shown → Type 0
+Stops a id replies.Done b = (refusal_to_stop a id ≡ None) × (b ≡ stopped a id)
+Stops a id (replies.Refused n) b =
+    (IsNumberOf (refusal_to_stop a id) n × (b ≡ a))
+    ⊎ ((refusal_to_stop a id ≡ None) × (stop_takes_memory a id ≡ true) × Fails a n b)
+Stops a id _ b = ⊥
 
 -- something is set on a live stream
 abbrev pub Sets : Shown → ℕ → Setting → Reply → Shown → Type 0
@@ -247,6 +259,7 @@ Steps (steps.WriteChunks side id chunks) p r q = AtSide side p (λ a b. WritesFi
 Steps (steps.Read side id) p r q = AtSide side p (λ a b. Reads a id r b) q
 Steps (steps.ReadSctp side id) p r q = AtSide side p (λ a b. Reads a id r b) q
 Steps (steps.Finish side id) p r q = AtSide side p (λ a b. Sets a id settings.WriteHalfClosed r b) q
+Steps (steps.Stop side id) p r q = AtSide side p (λ a b. Stops a id r b) q
 Steps (steps.SetReliabilityParams side id unordered kind value) p r q =
     AtSide side p (λ a b. Sets a id (settings.Reliability (params_of unordered kind value)) r b) q
 Steps (steps.SetDefaultPayloadType side id kind) p r q =

@@ -152,38 +152,43 @@ HasForward (Some packet) t =
     ⊎ ((k : ℕ) × (c : ChunkIForwardTsn) × (slice_get packet.chunks k ≡ Some (chunks.IForwardTsn c))
     × (c.new_cumulative_tsn ≡ t))
 
--- A step with this reply may end the span of stream s: it resets, retires or stops the stream at either end. So far
--- none does (a loss is no such end: it closes the receiver).
+-- A step with this reply may end the span of stream s: it stops the stream, at either end. What resets and retires a
+-- stream follows a stop of it (a loss is no such end: it closes the receiver).
+abbrev pub ends_span : Step → Reply → ℕ → Bool
+ends_span (steps.Stop side id) replies.Done s = id == s
+ends_span step reply s = false
+
 abbrev pub EndsSpan : Step → Reply → ℕ → Type 0
-EndsSpan step reply s = ⊥
+EndsSpan step reply s = ends_span step reply s ≡ true
 
 -- neither closed nor failed
 abbrev pub IsOpen : Shown → Type 0
 IsOpen a = (a.failed ≡ false) × (is_closed_state a.state ≡ false)
 
--- What a step does to the direction from one side to the other, of this initial TSN: its write is accepted, its read
--- gives the next message, and nothing is taken in but DATA of the packet that it delivers. Whatever else it does are
--- events of the model; the acknowledged reach never moves back, and a sender that isn't open afterwards assigned no
--- offset. What a step may leave out of the promise is bounded, too: whose span ends, what is passed over or given up,
--- and who stops receiving.
+-- What a step does to the direction from one side to the other, of this initial TSN: its write is accepted, its read of
+-- a stream within its span gives the next message, and nothing is taken in but DATA of the packet that it delivers.
+-- Whatever else it does are events of the model; the acknowledged reach never moves back, and a sender that isn't open
+-- afterwards assigned no offset. What a step may leave out of the promise is bounded, too: whose span ends, what is
+-- passed over or given up, and who stops receiving.
 pub record IsDirectionStep (step : Step) (reply : Reply) (sender receiver : Side2) (w : World) (q : Ends) (initial : ℕ)
     (before after : Direction) : Type 0 where
   pub events : List Event
   pub happened : after ≡ run events before
   pub accepted : (s : ℕ)
       → after.sender.plan.accepted s ≡ before.sender.plan.accepted s ++ accepted_at step reply sender s w
-  -- on a stream that is not loose it is ordered and reliable
-  pub in_order : (s : ℕ) → loose_of sender w s ≡ false
+  -- on a stream within its span that is not loose it is ordered and reliable
+  pub in_order : (s : ℕ) → before.over s ≡ false → loose_of sender w s ≡ false
       → AllByRecursion IsOrderedAndReliable (accepted_at step reply sender s w)
-  pub read : (s : ℕ) → IsReadAs (message_read step reply receiver s) (before.reads s) (after.reads s)
+  pub read : (s : ℕ) → before.over s ≡ false
+      → IsReadAs (message_read step reply receiver s) (before.reads s) (after.reads s)
   pub taken : (o : ℕ) → mem o after.receiver.taken ≡ true
       → (mem o before.receiver.taken ≡ true) ⊎ HasData (packet_brought step reply receiver w) (tsn initial o)
   pub reach_on : before.sender.reach ≤ after.sender.reach
   pub no_more : IsOpen (end_of sender q) ⊎ (after.sender.plan.places ≡ before.sender.plan.places)
   -- the payload size, by which messages are cut, stays
   pub size : after.sender.plan.size ≡ before.sender.plan.size
-  -- a stream's span ends only where the step resets, retires or stops the stream at either end (RFC 6525 section 5),
-  -- and does not begin again
+  -- a stream's span ends only where the step stops the stream, at either end (RFC 6525 section 5), and does not begin
+  -- again
   pub span : (s : ℕ) → after.over s ≡ true → (before.over s ≡ true) ⊎ EndsSpan step reply s
   pub span_over : (s : ℕ) → before.over s ≡ true → after.over s ≡ true
   -- what the receiver passed over moves only to the new cumulative TSN of a FORWARD TSN in the packet that the step

@@ -7,7 +7,7 @@ ghost use Rattle.sctp_assoc.specs.Gather.{bytes_within};
 ghost use Rattle.sctp_pair.specs.Steps.{Buffers, Delivers, Expires, Fails, Finds, GivesOut, HadFailed, Opens, Reads};
 ghost use Rattle.sctp_pair.specs.Steps.{AcceptsStream, ClosesOne, Keeps, Limits, Lists, Sets, ShowsOrRefuses, TakesIn};
 ghost use Rattle.sctp_pair.specs.Steps.{TakesPacket};
-ghost use Rattle.sctp_pair.specs.Steps.{PollsEvent, Writes, WritesFirst};
+ghost use Rattle.sctp_pair.specs.Steps.{PollsEvent, Stops, Writes, WritesFirst};
 ghost use Rattle.sctp_assoc.specs.Calls.{RefusesOrLacksMemory, first_filled, is_writable, open_refusal, opened};
 ghost use Rattle.sctp_assoc.specs.Calls.{refusal_to_write, written};
 ghost use Rattle.sctp_pair.specs.declared.step.Reply.TheVariants as replies;
@@ -202,6 +202,18 @@ pub(crate) fn finish(association: &mut Association, id: StreamId) -> Reply
 {
     match association.stream(id) {
         Ok(mut stream) => match stream.finish() {
+            Ok(()) => Reply::Done,
+            Err(error) => Reply::Refused(error.number()),
+        },
+        Err(error) => Reply::Refused(error.number()),
+    }
+}
+
+pub(crate) fn stop(association: &mut Association, id: StreamId) -> Reply
+    ensures { Stops association.old id result association.new }
+{
+    match association.stream(id) {
+        Ok(mut stream) => match stream.stop() {
             Ok(()) => Reply::Done,
             Err(error) => Reply::Refused(error.number()),
         },

@@ -233,11 +233,11 @@ impl Pair {
     /// as its streams are read and its packets acknowledged. It is enough, too, that each side accepts fewer than
     /// 16,384 pieces in all.
     ///
-    /// On each stream that no `SetReliabilityParams` of the writer's side had send other messages than ordered,
-    /// reliable ones, the messages that one side's reads answered are, in order, a prefix of those that the other
-    /// side's accepted writes gave (`front`). On every stream, each of them is one of those, whole, and none comes
-    /// twice (`written`). Nothing is read at a side before the first delivery to it that is answered `Done`
-    /// (`undelivered`).
+    /// This is said of streams that no `Stop`, at either side, was answered `Done` for. On each of them that no
+    /// `SetReliabilityParams` of the writer's side had send other messages than ordered, reliable ones, the messages
+    /// that one side's reads answered are, in order, a prefix of those that the other side's accepted writes gave
+    /// (`front`). On every one of them, each message is one of those, whole, and none comes twice (`written`). Nothing
+    /// is read on them at a side before the first delivery to it that is answered `Done` (`undelivered`).
     ///
     /// More is said over worlds, which docs/MODEL.md has in words. From each world that the pair fits, the steps lead
     /// from world to world, in each of which the pair stands. As long as each so far is within the limits, it is safe
@@ -334,6 +334,7 @@ impl Pair {
             Step::Read { side, id } => calls::read(self.end(*side), *id),
             Step::ReadSctp { side, id } => calls::read_sctp(self.end(*side), *id),
             Step::Finish { side, id } => calls::finish(self.end(*side), *id),
+            Step::Stop { side, id } => calls::stop(self.end(*side), *id),
             Step::SetReliabilityParams {
                 side,
                 id,

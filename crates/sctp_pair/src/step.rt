@@ -89,6 +89,12 @@ pub enum Step {
         side: Side2,
         id: StreamId,
     },
+    /// `Stream::stop`. From then on nothing is promised of the stream, at either side: its span is over. Its reply is
+    /// `Done`.
+    Stop {
+        side: Side2,
+        id: StreamId,
+    },
     /// `Stream::set_reliability_params`: whether messages that are written from now on are sent unordered, and how long
     /// each is tried. Its reply is `Done`.
     SetReliabilityParams {
