@@ -9,7 +9,7 @@ use Rattle.sctp_pair.specs.declared.step.Side2.{Side2}
 use Rattle.sctp_pair.specs.declared.step.Step.{Step}
 use Rattle.sctp_pair.specs.declared.step.Step.TheVariants as steps
 use Rattle.sctp_pair.specs.Ends.{Ends, end_of}
-use Rattle.sctp_pair.specs.World.{IsOpen}
+use Rattle.sctp_pair.specs.World.{EndsSpan, IsOpen}
 use Rattle.pair_callers.specs.BetweenWorlds.{GoesOn, from_side, to_side}
 use Rattle.pair_callers.specs.Lasting.{KeepsReliable, PassesNothing, ReceivesOn, StaysClosed, StaysInSpan, StaysOver}
 use Rattle.pair_callers.proofs.StepsByDirection.{Leads, goes_on, step_from, step_to}
@@ -66,7 +66,8 @@ pub polls_end_no_span : (side : Side2) (r : Reply) (p q : Ends) → Leads (steps
     → (x : Side2) → GoesOn p q (λ w v. StaysInSpan (from_side x w) (from_side x v))
 polls_end_no_span side r p q leads x =
     goes_on (steps.Poll side) r p q (λ w v. StaysInSpan (from_side x w) (from_side x v))
-    (λ w v before after h s e. stays_false ((from_side x w).over s) ((from_side x v).over s) ⊥ e (λ y. y)
+    (λ w v before after h s e. stays_false ((from_side x w).over s) ((from_side x v).over s)
+    (EndsSpan (steps.Poll side) r s) e (λ y. true≢false (sym y))
     ((step_from x (steps.Poll side) r w v h).span s)) leads
 
 pub polls_pass_nothing : (side : Side2) (r : Reply) (p q : Ends) → Leads (steps.Poll side) r p q

@@ -18,6 +18,7 @@ use Rattle.sctp_pair.specs.declared.step.Step.{Step}
 use Rattle.sctp_pair.specs.declared.step.Step.TheVariants as steps
 use Rattle.sctp_pair.specs.Ends.{Ends}
 use Rattle.sctp_pair.specs.World.{IsWorldStep, World, is_side, message_read}
+use Rattle.sctp_pair.proofs.Counted.{within_before}
 use Rattle.pair_callers.specs.BetweenWorlds.{GoesOn, GoesOnWithin, to_side}
 use Rattle.pair_callers.specs.Reading.{AreNumbered, IsOfAccepted, ReadsNext, letter_at, letters_of, message_in}
 use Rattle.pair_callers.proofs.StepsByDirection.{Leads, goes_on, goes_on_within, is_own, promised_to, step_to}
@@ -58,12 +59,12 @@ reads_next : (side : Side2) (id : ℕ) (r : Reply) (w v : World) → IsWorldStep
 reads_next side id r w v h =
     let d = step_to side (steps.Read side id) r w v h in
     record {
-      next = grows_by (message_in r) ((to_side side w).reads id) ((to_side side v).reads id)
+      next = λ span. grows_by (message_in r) ((to_side side w).reads id) ((to_side side v).reads id)
           (subst (λ (m : Option ReceivedMessage). IsReadAs m ((to_side side w).reads id) ((to_side side v).reads id))
-          (read_here side id r) (d.read id));
-      others = λ s ne. ap (λ (gs : List Got). map letter_read gs)
+          (read_here side id r) (d.read id span));
+      others = λ s span ne. ap (λ (gs : List Got). map letter_read gs)
           (subst (λ (m : Option ReceivedMessage). IsReadAs m ((to_side side w).reads s) ((to_side side v).reads s))
-          (read_other side id s r ne) (d.read s));
+          (read_other side id s r ne) (d.read s span));
     }
 
 pub reads_on : (side : Side2) (id : ℕ) (r : Reply) (p q : Ends) → Leads (steps.Read side id) r p q
@@ -111,10 +112,12 @@ reads_accepted side id (replies.Read None) p q leads = tt
 reads_accepted side id (replies.Read (Some m)) p q leads =
     goes_on_within (steps.Read side id) (replies.Read (Some m)) p q (λ w v. (to_side side v).over id ≡ false →
     IsOfAccepted (to_side side v) id (letter_received m))
-    (λ w v before after h safe span. of_accepted (to_side side v) id m ((to_side side w).reads id)
+    (λ w v before after h safe span.
+    let d = step_to side (steps.Read side id) (replies.Read (Some m)) w v h in
+    let within = within_before ((to_side side w).over id) ((to_side side v).over id) (d.span_over id) span in
+    of_accepted (to_side side v) id m ((to_side side w).reads id)
     (subst (λ (x : Option ReceivedMessage). IsReadAs x ((to_side side w).reads id) ((to_side side v).reads id))
-    (read_here side id (replies.Read (Some m)))
-    ((step_to side (steps.Read side id) (replies.Read (Some m)) w v h).read id))
+    (read_here side id (replies.Read (Some m))) (d.read id within))
     ((promised_to side v safe).safe id span))
     leads
 reads_accepted side id _ p q leads = tt

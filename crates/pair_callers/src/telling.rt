@@ -1,5 +1,5 @@
-// Telling: what the replies of all steps tell of a pair, with no world and no premise but that few pieces stay
-// unacknowledged and few messages unread; it is enough that little is written at all.
+// Telling: what the replies of all steps tell of the streams of a pair that none of them stopped, with no world and no
+// premise but that few pieces stay unacknowledged and few messages unread; it is enough that little is written at all.
 ghost use Rattle.std.specs.Prelude.{◌∷◌, ◌++◌, [], IfOk};
 ghost use Rattle.sctp_pair.specs.Callers.{AcceptFew, ReadsAreFronts};
 ghost use Rattle.pair_callers.specs.Telling.{HoldFromNew, HoldOverTwo};
@@ -10,8 +10,9 @@ use sctp_pair::{Pair, Reply, Step};
 use std::alloc::Global;
 use std::net::SocketAddr;
 
-/// Joins two associations by their tokens and runs the steps: each has a reply, what one side read is a front of what
-/// the other one wrote, each message of it was written, and nothing was read before the first delivery.
+/// Joins two associations by their tokens and runs the steps: each has a reply. On streams that none of them stopped
+/// what one side read is a front of what the other one wrote, each message of it was written, and nothing was read
+/// before the first delivery.
 pub fn run_joined(
     alloc: Global,
     config: &TransportConfig,
@@ -101,8 +102,9 @@ pub fn run_and_step(
     Ok((replies, reply))
 }
 
-/// Runs steps of a pair, and then others: what one side read since the pair was made is a front of what the other one
-/// wrote, and each message of it was written. The second run counts from what was acknowledged when it began.
+/// Runs steps of a pair, and then others: on streams that no step stopped since the pair was made, what one side read is
+/// a front of what the other one wrote, and each message of it was written. The second run counts from what was
+/// acknowledged when it began.
 pub fn run_twice(
     pair: &mut Pair,
     first: &[Step],
