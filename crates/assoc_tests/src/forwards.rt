@@ -1,8 +1,5 @@
 // FORWARD TSN that comes. The datagrams were spelled apart from this code.
-use crate::association::{joined, numbers};
-use crate::handshake::{answer, server_after};
-use sctp_assoc::Association;
-use std::alloc::Global;
+use crate::scene::{Beginning, JOINED, shown_after};
 use std::test::Fail;
 
 /// FORWARD TSN under the tag 1: new cumulative TSN 502, stream 2 up to the SSN 2.
@@ -35,39 +32,28 @@ static ERROR: &str = "\
 0900000800060004
 ";
 
-// What goes out after this datagram, and the last TSN in order then.
-fn after(alloc: Global, association: &mut Association, text: &str) -> Result<(String, u32), Fail> {
-    let answer = answer(alloc, association, text)?;
-    Ok((answer, numbers(association).1))
-}
-
-fn joined_after(alloc: Global, text: &str) -> Result<(String, u32), Fail> {
-    let mut association = joined(alloc, 1200, (1, 2))?;
-    after(alloc, &mut association, text)
-}
-
 #[test]
 fn a_forward_tsn_moves_the_last_tsn(rt: HostRuntime) -> Result<(), Fail> {
     for forward in [AHEAD, I_AHEAD] {
-        let (answer, last) = joined_after(rt.alloc(), forward)?;
-        assert_eq!(rt; answer.as_str(), "");
-        assert_eq!(rt; last, 502);
+        let shown = shown_after(rt.alloc(), JOINED, forward)?;
+        assert_eq!(rt; shown.told.text.as_str(), "");
+        assert_eq!(rt; shown.numbers.1, 502);
     }
     Ok(())
 }
 
 #[test]
 fn a_forward_tsn_that_is_behind_is_acknowledged_at_once(rt: HostRuntime) -> Result<(), Fail> {
-    let (answer, last) = joined_after(rt.alloc(), BEHIND)?;
-    assert_eq!(rt; answer.as_str(), SACK);
-    assert_eq!(rt; last, 499);
+    let shown = shown_after(rt.alloc(), JOINED, BEHIND)?;
+    assert_eq!(rt; shown.told.text.as_str(), SACK);
+    assert_eq!(rt; shown.numbers.1, 499);
     Ok(())
 }
 
 #[test]
 fn a_forward_tsn_that_is_not_in_use_is_refused(rt: HostRuntime) -> Result<(), Fail> {
-    let (answer, numbers, _) = server_after(rt.alloc(), AHEAD)?;
-    assert_eq!(rt; answer.as_str(), ERROR);
-    assert_eq!(rt; numbers, (0, 0, 0, (65_535, 65_535), false));
+    let shown = shown_after(rt.alloc(), Beginning::Server, AHEAD)?;
+    assert_eq!(rt; shown.told.text.as_str(), ERROR);
+    assert_eq!(rt; shown.numbers, (0, 0, 0, (65_535, 65_535), false));
     Ok(())
 }

@@ -1,9 +1,9 @@
 // A message that is read lies in the datagram that brought it: nothing was copied. The datagram was spelled apart from
 // this code.
-use crate::association::joined;
-use crate::handshake::{datagram, hand_over};
+use crate::scene::{JOINED, Scene, shown};
+use crate::wire::datagram;
 use bytes::Bytes;
-use sctp_assoc::{Association, Error};
+use sctp_assoc::Error;
 use std::alloc::Global;
 use std::test::Fail;
 
@@ -12,23 +12,10 @@ static DATA: &str = "\
 13881388000000017c72a500\
 00030013000001f4000100000000003561626300";
 
-// The bytes that a read of stream 1 gives.
-fn read_one(association: &mut Association) -> Result<Option<Bytes>, Error> {
-    let mut stream = association.stream(1)?;
-    match stream.read()? {
-        Some(message) => {
-            let mut message = message;
-            message.next(usize::MAX)
-        }
-        None => Ok(None),
-    }
-}
-
 // What is read where this datagram comes to an association that is gone then.
-fn read_of(alloc: Global, datagram: &Bytes) -> Result<Option<Bytes>, Fail> {
-    let mut association = joined(alloc, 1200, (1, 2))?;
-    hand_over(&mut association, datagram, 0)?;
-    Ok(read_one(&mut association)?)
+fn read_of(alloc: Global, datagram: &Bytes) -> Result<Option<Bytes>, Error> {
+    let shown = shown(alloc, JOINED, Scene::Reads(datagram))?;
+    Ok(shown.told.read)
 }
 
 fn is_of_three(bytes: &Option<Bytes>) -> bool {

@@ -1,7 +1,7 @@
 // SACKs with gap ack blocks. The datagrams were spelled apart from this code.
-use crate::association::{Standing, joined, standing, write_all};
-use crate::handshake::answer;
-use sctp_assoc::{Association, AssociationState, Error, Instant};
+use crate::scene::{JOINED, Outcome, Scene, shown};
+use crate::wire::datagrams;
+use sctp_assoc::AssociationState;
 use std::alloc::Global;
 use std::test::Fail;
 
@@ -18,60 +18,22 @@ static FOURTH_CAME: &str = "\
 0300001400000063001000000001000000030004
 ";
 
-// Messages of three bytes, of two and of one are in flight, from TSN 100 on.
-fn send(association: &mut Association) -> Result<(), Error> {
-    write_all(association, &[b"abc", b"de", b"f"])?;
-    let _ = association.poll_transmit(Instant::from_millis(0))?;
-    Ok(())
-}
-
-fn buffered(association: &mut Association) -> Result<u64, Error> {
-    Ok(association.stream(7)?.buffered_amount()? as u64)
-}
-
-// What is buffered before a SACK and behind it.
-fn buffered_around(
-    alloc: Global,
-    association: &mut Association,
-    sack: &str,
-) -> Result<(u64, u64), Fail> {
-    send(association)?;
-    let before = buffered(association)?;
-    let _ = answer(alloc, association, sack)?;
-    Ok((before, buffered(association)?))
-}
-
-fn released(alloc: Global, sack: &str) -> Result<(u64, u64), Fail> {
-    let mut association = joined(alloc, 1200, (1, 2))?;
-    buffered_around(alloc, &mut association, sack)
+// What an association shows once this SACK came, of whose three messages none was acknowledged before.
+fn shown_at(alloc: Global, sack: &str) -> Result<Outcome, Fail> {
+    let sacks = datagrams(alloc, sack)?;
+    Ok(shown(alloc, JOINED, Scene::Sends(sacks.as_slice()))?)
 }
 
 #[test]
 fn a_block_releases_the_bytes_that_it_names(rt: HostRuntime) -> Result<(), Fail> {
-    assert_eq!(rt; released(rt.alloc(), SECOND_CAME)?, (6, 4));
+    let shown = shown_at(rt.alloc(), SECOND_CAME)?;
+    assert_eq!(rt; shown.told.text.as_str(), "6 4\n");
     Ok(())
-}
-
-fn standing_after(
-    alloc: Global,
-    association: &mut Association,
-    sack: &str,
-) -> Result<Standing, Fail> {
-    send(association)?;
-    let _ = answer(alloc, association, sack)?;
-    Ok(standing(association))
-}
-
-fn left_by(alloc: Global, sack: &str) -> Result<Standing, Fail> {
-    let mut association = joined(alloc, 1200, (1, 2))?;
-    standing_after(alloc, &mut association, sack)
 }
 
 #[test]
 fn a_block_that_names_the_unsent_closes(rt: HostRuntime) -> Result<(), Fail> {
-    assert_eq!(rt;
-        left_by(rt.alloc(), FOURTH_CAME)?,
-        (AssociationState::Closed, 0)
-    );
+    let shown = shown_at(rt.alloc(), FOURTH_CAME)?;
+    assert_eq!(rt; shown.standing, (AssociationState::Closed, 0));
     Ok(())
 }
