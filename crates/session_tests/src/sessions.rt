@@ -1,5 +1,6 @@
 // Whole sessions over memory: output, errors and status are compared. The stored run of the program is one more: one
 // message and its acknowledgement.
+use crate::stopped::{RESET, UNREAD};
 use assoc_session::session;
 use std::alloc::{AllocError, Global};
 use std::process::Abort;
@@ -332,6 +333,8 @@ fn sessions_give_their_replies(rt: HostRuntime) -> Result<(), Fail> {
         POLICIES,
         GIVEN_UP,
         READ_LATE,
+        UNREAD,
+        RESET,
     ] {
         check_replies(&rt, text)?;
     }

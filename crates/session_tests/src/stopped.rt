@@ -1,0 +1,92 @@
+// Sessions in which a stream is stopped and reset (RFC 6525): each line is a step and its reply.
+
+/// A stream is stopped while its last message is unread at the other side: that is read all the same, and both
+/// directions are reset. What is stopped takes no more writes.
+pub(crate) static UNREAD: &str = "\
+snap 1200 100 500=ok
+open A 1 53=ok
+write A 1 6f6c64=wrote 3
+send A 0=packets 0 1
+deliver B 0 0=ok
+stop A 1=ok
+write A 1 61=refused 7
+time B 200=ok
+send B 200=packets 0 1
+deliver A 0 200=ok
+send A 200=packets 1 1
+deliver B 1 200=ok
+send B 200=packets 1 2
+deliver A 1 200=ok
+open A 1 53=refused 7
+read B 1=message 53 6f6c64
+event B=connected
+event B=opened 1
+event B=datagram
+event B=readable 1
+event B=finished 1
+event B=final 0
+event B=none
+deliver A 2 200=ok
+event A=connected
+event A=low 1
+event A=final 0
+event A=finished 1
+event A=none
+send A 200=packets 2 2
+deliver B 2 200=ok
+event B=reset-complete 1
+send B 200=packets 3 1
+deliver A 3 200=ok
+deliver B 3 200=ok
+event A=reset-complete 1
+event A=none
+event B=none
+deadline A=none
+deadline B=none
+";
+
+/// A stream of both sides is stopped. The request comes again late and changes nothing; the identifier opens again.
+pub(crate) static RESET: &str = "\
+snap 1200 100 500=ok
+open A 1 53=ok
+open B 1 53=ok
+stop A 1=ok
+write A 1 61=refused 7
+send A 0=packets 0 1
+deliver B 0 0=ok
+send B 0=packets 0 2
+deliver A 0 0=ok
+deliver A 1 0=ok
+open A 1 53=refused 7
+event A=connected
+event A=final 0
+event A=finished 1
+event A=none
+send A 0=packets 1 2
+deliver B 1 0=ok
+deliver B 2 0=ok
+event B=connected
+event B=final 0
+event B=finished 1
+event B=reset-complete 1
+event B=none
+deliver B 0 0=ok
+event B=none
+send B 0=packets 2 2
+deliver A 2 0=ok
+deliver A 3 0=ok
+event A=reset-complete 1
+event A=none
+ids A=ids
+ids B=ids
+open A 1 53=ok
+write A 1 6e6577=wrote 3
+send A 0=packets 3 1
+deliver B 3 0=ok
+read B 1=message 53 6e6577
+event B=opened 1
+event B=datagram
+event B=readable 1
+event B=none
+deadline A=at 3000
+";
