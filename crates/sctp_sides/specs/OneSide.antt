@@ -11,10 +11,12 @@ use Rattle.sctp_parts.specs.declared.timer.Timer.{Timer}
 use Rattle.sctp_parts.specs.Timers.{Timers, moment_of}
 use Rattle.sctp_streams.specs.declared.event.AssociationError.TheVariants as reasons
 use Rattle.sctp_streams.specs.declared.event.Event.{Event}
+use Rattle.sctp_streams.specs.declared.setting.Setting.TheVariants as settings
 use Rattle.sctp_streams.specs.declared.setting.Setting.{Setting}
 use Rattle.sctp_assoc.specs.Calls.{accepted_stream, adjusted, event_polled, failed_refusal, gone_refusal}
 use Rattle.sctp_assoc.specs.Calls.{is_cookie_echoed, is_cookie_wait, open_refusal, opened, read_from_stream}
-use Rattle.sctp_assoc.specs.Calls.{read_refusal, with_max_send_message_size, write_refusal, written}
+use Rattle.sctp_assoc.specs.Calls.{read_refusal, stop_refusal, stopped, with_max_send_message_size, write_refusal}
+use Rattle.sctp_assoc.specs.Calls.{written}
 use Rattle.sctp_assoc.specs.Closing.{closed_by}
 use Rattle.sctp_assoc.specs.Chunks.{after_packet}
 use Rattle.sctp_sides.specs.Laws.{losses}
@@ -56,6 +58,10 @@ pub data Call : Type 0 where
   HandleTimeout : ℕ → Call
   -- a datagram came at this moment; there is a packet where it spells one
   HandleEvent : Option Packet → ℕ → Call
+  -- no more is to be read of a stream, and it is to be reset (RFC 6525 section 5.1)
+  Stop : ℕ → Call
+  -- nor is more to be written on it
+  CloseStream : ℕ → Call
 
 abbrev pub told_by : Option Event → List Event
 told_by None = []
@@ -77,6 +83,8 @@ carried_out Call.Poll a = with_told (event_polled a)
 carried_out (Call.PollTransmit now) a = ((polled a now).0, [])
 carried_out (Call.HandleTimeout now) a = (after_timeouts a now, [])
 carried_out (Call.HandleEvent packet now) a = (after_packet a packet now, [])
+carried_out (Call.Stop id) a = (stopped a id, [])
+carried_out (Call.CloseStream id) a = (stopped (adjusted a id settings.WriteHalfClosed) id, [])
 
 -- why a call is refused, want of memory aside: a failed association refuses each, but for the question for a stream
 -- that the peer opened, of which it has none, and a limit that is set, which it leaves
@@ -87,15 +95,19 @@ call_refusal (Call.Set id setting) a = gone_refusal a id
 call_refusal Call.AcceptStream a = None
 call_refusal (Call.SetMaxSendMessageSize size) a = None
 call_refusal (Call.Read id) a = read_refusal a id
+call_refusal (Call.Stop id) a = stop_refusal a id
+call_refusal (Call.CloseStream id) a = stop_refusal a id
 call_refusal call a = failed_refusal a
 
--- a call that may find no memory in its middle
+-- a call that may find no memory in its middle; a stop does only where the read half of the stream is open
 abbrev pub has_a_middle : Call → Bool
 has_a_middle (Call.Read id) = true
 has_a_middle Call.Close = true
 has_a_middle (Call.PollTransmit now) = true
 has_a_middle (Call.HandleTimeout now) = true
 has_a_middle (Call.HandleEvent packet now) = true
+has_a_middle (Call.Stop id) = true
+has_a_middle (Call.CloseStream id) = true
 has_a_middle call = false
 
 -- a call that found no memory in its middle left b of the association a
