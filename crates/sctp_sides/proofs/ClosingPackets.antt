@@ -644,20 +644,23 @@ beside_goes_on : (a b : Shown) (x : Beside) → Remains a b → losses x.2 ≡ l
 beside_goes_on a b (r, m, queued) k e =
     record { state = k.state; lost = k.lost; told = e; handshake = k.handshake }
 
-stopped_goes_on : (retires : Bool) (a : Shown) (id : ℕ) → is_retiring a.resets id ≡ retires
+stopped_goes_on_if : (retires : Bool) (a : Shown) (id : ℕ) → is_retiring a.resets id ≡ retires
     → Remains a (stopped_open a id)
-stopped_goes_on true a id e =
+stopped_goes_on_if true a id e =
     let b : Shown = without_read_half_of a id in
     rw e (beside_goes_on a b (stopped_reading id b.resets b.streams b.events) (remains a b refl refl refl refl)
     (stopped_reading_tells id b.resets b.streams b.events))
-stopped_goes_on false a id e = rw e (remains a _ refl refl refl refl)
+stopped_goes_on_if false a id e = rw e (remains a _ refl refl refl refl)
+
+pub stopped_goes_on : (a : Shown) (id : ℕ) → Remains a (stopped_open a id)
+stopped_goes_on a id = stopped_goes_on_if (is_retiring a.resets id) a id refl
 
 stop_closes_if : (opened : Bool) (a : Shown) (id : ℕ)
     → IsClosedIf ((opened && is_exhausted (stopped_open a id)) && not (is_closed_state a.state)) a
     (if opened then relieved (stopped_open a id) else a)
 stop_closes_if true a id =
     let b : Shown = stopped_open a id in
-    let m : Remains a b = stopped_goes_on (is_retiring a.resets id) a id refl in
+    let m : Remains a b = stopped_goes_on a id in
     subst (λ (state : AssociationState).
     IsClosedIf (is_exhausted b && not (is_closed_state state)) a (relieved b)) m.state
     (relieved_closes (is_exhausted b) a b (remains_open a b m))

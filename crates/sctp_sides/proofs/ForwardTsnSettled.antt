@@ -16,17 +16,20 @@ use Rattle.sctp_wire.specs.declared.packet.Packet.{Packet}
 use Rattle.sctp_streams.specs.declared.event.AssociationError.{AssociationError}
 use Rattle.sctp_streams.specs.declared.event.AssociationError.TheVariants as reasons
 use Rattle.sctp_streams.specs.declared.event.Event.{Event}
+use Rattle.sctp_streams.specs.declared.setting.Setting.TheVariants as settings
 use Rattle.sctp_inbound.specs.declared.handshake.Handshake.{Handshake}
 use Rattle.sctp_inbound.specs.declared.receiver.AckTrigger.{AckTrigger}
 use Rattle.sctp_inbound.specs.declared.receiver.AckTrigger.TheVariants as triggers
 use Rattle.sctp_inbound.specs.Greeting.{information_of}
 use Rattle.sctp_inbound.specs.Handshake.{has_issued}
 use Rattle.sctp_receive_queues.specs.Messages.{ReceivedMessage}
+use Rattle.sctp_streams.specs.Stream.{is_read_half_open}
 use Rattle.sctp_streams.specs.Streams.{StreamMap, read_in}
-use Rattle.sctp_assoc.specs.Calls.{after_read, drained_behind, event_polled, is_established}
+use Rattle.sctp_assoc.specs.Calls.{adjusted, after_read, drained_behind, event_polled, holds_of, is_established}
+use Rattle.sctp_assoc.specs.Calls.{stopped_open}
 use Rattle.sctp_assoc.specs.Chunks.{after_chunks, after_packet, after_packet_of, checked_first, dispatched, ended}
 use Rattle.sctp_assoc.specs.Chunks.{on_chunk}
-use Rattle.sctp_assoc.specs.Closing.{closed_by, exhausted, is_closed_state, is_exhausted}
+use Rattle.sctp_assoc.specs.Closing.{closed_by, exhausted, is_closed_state, is_exhausted, relieved}
 use Rattle.sctp_assoc.specs.Handshake.{information_returned, on_cookie_ack, on_cookie_echo, on_heartbeat, on_init}
 use Rattle.sctp_assoc.specs.Handshake.{on_init_ack}
 use Rattle.sctp_assoc.specs.Shown.{Shown, uses_forward_tsn}
@@ -34,8 +37,7 @@ use Rattle.sctp_sides.specs.OneSide.{Call, carried_out, with_told}
 use Rattle.sctp_sides.specs.SideLaws.{Closes, Exhausts, IsSameStatus}
 use Rattle.sctp_assoc.specs.Skipping.{skips_of}
 use Rattle.sctp_sides.proofs.ClosingPackets.{Remains, drained_goes_on, forward_goes_on, on_data_goes_on}
-use Rattle.sctp_sides.proofs.ClosingPackets.{reconfig_goes_on}
-use Rattle.sctp_sides.proofs.ClosingPackets.{sack_goes_on}
+use Rattle.sctp_sides.proofs.ClosingPackets.{reconfig_goes_on, sack_goes_on, stopped_goes_on}
 use Rattle.sctp_sides.proofs.PacketLaws.{exhaustion_closes, faults_close, lost_associations_take_nothing}
 use Rattle.sctp_sides.proofs.PacketsByChunks.{chunks_carry}
 use Rattle.sctp_sides.proofs.Status.{accepted_streams_keep_the_status, limits_keep_the_status}
@@ -233,6 +235,14 @@ read_settles (streams, Some message) used a id h =
     let b : Shown = drained_behind a id streams in
     relieved_settles (is_exhausted b) used b (remaining_settles used a b (drained_goes_on a id streams) h)
 
+-- a stop of a stream, where its read half is open
+stop_settles : (opened used : Bool) (a : Shown) (id : ℕ) → IsSettled used a
+    → IsSettled used (if opened then relieved (stopped_open a id) else a)
+stop_settles true used a id h =
+    let b : Shown = stopped_open a id in
+    relieved_settles (is_exhausted b) used b (remaining_settles used a b (stopped_goes_on a id) h)
+stop_settles false used a id h = h
+
 told_settles : (x : Shown × Option Event) (used : Bool) (a : Shown) → event_polled a ≡ x → IsSettled used a
     → IsSettled used (with_told x).0
 told_settles (b, event) used a e h = same_settles used a b (told_events_keep_the_status a b event e).0 h
@@ -253,3 +263,8 @@ carried_settles Call.Poll used a h = told_settles (event_polled a) used a refl h
 carried_settles (Call.PollTransmit now) used a h = same_settles used a _ (polls_keep_the_status a now) h
 carried_settles (Call.HandleTimeout now) used a h = same_settles used a _ (timers_keep_the_status a now).0 h
 carried_settles (Call.HandleEvent packet now) used a h = packet_settles a.lost used a packet now refl h
+carried_settles (Call.Stop id) used a h = stop_settles (holds_of (λ s. is_read_half_open s.halves) a id) used a id h
+carried_settles (Call.CloseStream id) used a h =
+    let b : Shown = adjusted a id settings.WriteHalfClosed in
+    stop_settles (holds_of (λ s. is_read_half_open s.halves) b id) used b id
+    (same_settles used a b (settings_keep_the_status a id settings.WriteHalfClosed) h)

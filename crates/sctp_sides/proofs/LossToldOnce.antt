@@ -12,7 +12,7 @@ use Rattle.sctp_resets.specs.Resets.{ResetsView, event_told, event_told_at, with
 use Rattle.sctp_resets.specs.Telling.{next_told}
 use Rattle.sctp_assoc.specs.Calls.{accepted_stream, event_from, event_polled, fault_told, with_max_send_message_size}
 use Rattle.sctp_assoc.specs.Calls.{written}
-use Rattle.sctp_assoc.specs.Closing.{closed_by, is_closed_state}
+use Rattle.sctp_assoc.specs.Closing.{closed_by, is_closed_state, is_exhausted}
 use Rattle.sctp_assoc.specs.Chunks.{after_packet}
 use Rattle.sctp_sides.specs.Laws.{IsClosedIf, TellsNothing, DoesNotClose, closes, is_faulted_packet, loss_of, losses}
 use Rattle.sctp_sides.specs.OneSide.{Call, Calls, IsFresh, IsUnchanged, IsRun, carried_out, told_by, with_told}
@@ -26,9 +26,11 @@ use Rattle.sctp_sides.proofs.ClosingCalls.{accepted_streams_do_not_close, closes
 use Rattle.sctp_sides.proofs.ClosingCalls.{writes_do_not_close}
 use Rattle.sctp_sides.proofs.TimersOverChunks.{IsSound}
 use Rattle.sctp_sides.proofs.TimersOverRuns.{Fell, Works, accepted_works, call_sound, fell, fresh_ticks, sound_closed}
-use Rattle.sctp_assoc.specs.Calls.{read_exhausts, read_from_stream}
-use Rattle.sctp_sides.specs.Laws.{read_closes}
-use Rattle.sctp_sides.proofs.ClosingPackets.{exhausting_reads_alone_close}
+use Rattle.sctp_assoc.specs.Calls.{adjusted, holds_of, read_exhausts, read_from_stream, stopped, stopped_open}
+use Rattle.sctp_sides.specs.Laws.{read_closes, stop_closes}
+use Rattle.sctp_sides.proofs.ClosingPackets.{exhausting_reads_alone_close, exhausting_stops_alone_close}
+use Rattle.sctp_streams.specs.declared.setting.Setting.TheVariants as settings
+use Rattle.sctp_streams.specs.Stream.{is_read_half_open}
 
 -- Of these losses that were told, and those that wait, there is one where it was lost.
 record CountsLosses (n : ℕ) (a : Shown) : Type 0 where
@@ -114,6 +116,8 @@ closes_by Call.Poll a = false
 closes_by (Call.PollTransmit now) a = false
 closes_by (Call.HandleTimeout now) a = false
 closes_by (Call.HandleEvent packet now) a = closes a packet now
+closes_by (Call.Stop id) a = stop_closes a id
+closes_by (Call.CloseStream id) a = stop_closes (adjusted a id settings.WriteHalfClosed) id
 
 open_tells : (a b : Shown) → TellsNothing a b → TellsLosses false a (b, [])
 open_tells a b h = tells_nothing a b h.lost h.events
@@ -124,14 +128,30 @@ open_is_kept closed false ends e = refl
 open_is_kept true true ends e = absurd (false≢true e)
 open_is_kept false true ends e = absurd (false≢true (ends refl))
 
-read_is_kept : (exhausts closed lost : Bool) → (lost ≡ true → closed ≡ true) → (exhausts && not closed) ≡ true
+-- nor was one that is left exhausted, and is closed by that
+exhausted_is_kept : (exhausts closed lost : Bool) → (lost ≡ true → closed ≡ true) → (exhausts && not closed) ≡ true
     → lost ≡ false
-read_is_kept true closed lost ends e = open_is_kept closed lost ends e
-read_is_kept false closed lost ends e = absurd (false≢true e)
+exhausted_is_kept true closed lost ends e = open_is_kept closed lost ends e
+exhausted_is_kept false closed lost ends e = absurd (false≢true e)
 
 -- an association that was lost is closed
 abbrev EndsClosed : Shown → Type 0
 EndsClosed a = a.lost ≡ true → is_closed_state a.state ≡ true
+
+stop_tells : (a : Shown) (id : ℕ) → EndsClosed a → TellsLosses (stop_closes a id) a (stopped a id, [])
+stop_tells a id ends =
+    closing_tells (stop_closes a id) a (stopped a id) (exhausting_stops_alone_close a id)
+    (exhausted_is_kept (holds_of (λ s. is_read_half_open s.halves) a id && is_exhausted (stopped_open a id))
+    (is_closed_state a.state) a.lost ends)
+
+-- the same is told from before a setting on, which neither loses nor tells
+tells_behind : (closing : Bool) (a b : Shown) (x : Shown × List Event) → b.lost ≡ a.lost → b.events ≡ a.events
+    → TellsLosses closing b x → TellsLosses closing a x
+tells_behind closing a b x lost events t = record {
+  lost = t.lost ∙ ap (λ (z : Bool). closing || z) lost;
+  count = t.count ∙ ap (λ (z : List Event). losses z + (if closing then 1 else 0)) events;
+  once = λ e. sym lost ∙ t.once e;
+}
 
 carried_tells : (call : Call) (a : Shown) → EndsClosed a → TellsLosses (closes_by call a) a (carried_out call a)
 carried_tells (Call.OpenStream id kind) a ends = tells_nothing a _ refl refl
@@ -146,13 +166,17 @@ carried_tells Call.Close a ends =
     (closes_close a reasons.AssociationClosed) (open_is_kept (is_closed_state a.state) a.lost ends)
 carried_tells (Call.Read id) a ends =
     closing_tells (read_closes a id) a (read_from_stream a id).0 (exhausting_reads_alone_close a id)
-    (read_is_kept (read_exhausts a id) (is_closed_state a.state) a.lost ends)
+    (exhausted_is_kept (read_exhausts a id) (is_closed_state a.state) a.lost ends)
 carried_tells Call.Poll a ends = poll_tells a
 carried_tells (Call.PollTransmit now) a ends = unclosed_tells a (polled a now).0 (polls_do_not_close a now)
 carried_tells (Call.HandleTimeout now) a ends = unclosed_tells a (after_timeouts a now) (timers_do_not_close a now)
 carried_tells (Call.HandleEvent packet now) a ends =
     closing_tells (closes a packet now) a (after_packet a packet now) (faults_alone_close a packet now)
     (closes_once a.lost (is_faulted_packet a packet now))
+carried_tells (Call.Stop id) a ends = stop_tells a id ends
+carried_tells (Call.CloseStream id) a ends =
+    let b : Shown = adjusted a id settings.WriteHalfClosed in
+    tells_behind (stop_closes b id) a b (stopped b id, []) refl refl (stop_tells b id ends)
 
 counts_all : (n : ℕ) (x : Shown × List Event) → n + losses x.1 + losses x.0.events ≡ loss_count x.0.lost
     → CountsLosses (n + losses x.1) x.0

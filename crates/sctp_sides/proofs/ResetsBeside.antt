@@ -19,10 +19,10 @@ use Rattle.sctp_resets.specs.declared.answers.TimerChange.TheVariants as changes
 use Rattle.sctp_resets.specs.declared.performing.Handled.{Handled}
 use Rattle.sctp_resets.specs.declared.performing.Settled.{Settled}
 use Rattle.sctp_resets.specs.Channels.{channels}
-use Rattle.sctp_resets.specs.Resets.{Beside, Resetting, given_up, handled, read_out, responded, skips_done}
-use Rattle.sctp_resets.specs.Resets.{skips_done_of}
+use Rattle.sctp_resets.specs.Resets.{Beside, Resetting, ResetsView, given_up, handled, is_retiring, read_out}
+use Rattle.sctp_resets.specs.Resets.{responded, skips_done, skips_done_of, stopped_reading, waiting_for}
 use Rattle.sctp_resets.specs.Resets as resets
-use Rattle.sctp_assoc.specs.Calls.{drained_behind}
+use Rattle.sctp_assoc.specs.Calls.{drained_behind, stopped_open, without_read_half_of}
 use Rattle.sctp_assoc.specs.Resets.{after_param, after_reconfig_timer, asking_if, asks_again, behind_first}
 use Rattle.sctp_assoc.specs.Resets.{behind_params}
 use Rattle.sctp_assoc.specs.Resets.{channels_of, gives_up, handled_with, on_reconfig, on_request, on_response}
@@ -152,6 +152,21 @@ draining_changes a id streams =
     resetting_changes a
     (read_out a.sender.queue.next_message_id a.receiver.max_receive_message_size id a.resets
     (channels streams a.events a.to_accept))
+
+-- Stops
+
+stop_changes_if : (retires : Bool) (a : Shown) (id : ℕ) (x : Beside) (r : ResetsView)
+    → ChangesResets a
+    (if retires then with_beside (without_read_half_of a id) x else
+    record (without_read_half_of a id) { resets = r })
+stop_changes_if true a id (r, m, told) left = refl
+stop_changes_if false a id x left = refl
+
+pub stop_changes : (a : Shown) (id : ℕ) → ChangesResets a (stopped_open a id)
+stop_changes a id =
+    let b : Shown = without_read_half_of a id in
+    stop_changes_if (is_retiring a.resets id) a id (stopped_reading id b.resets b.streams b.events)
+    (waiting_for b.resets id)
 
 -- The timer of the active request
 

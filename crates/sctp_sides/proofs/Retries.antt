@@ -13,17 +13,19 @@ use Rattle.sctp_wire_types.specs.declared.packet.CommonHeader.{CommonHeader}
 use Rattle.sctp_wire_types.specs.Checks.{checked_chunk}
 use Rattle.sctp_wire.specs.declared.packet.Packet.{Packet}
 use Rattle.sctp_streams.specs.declared.event.Event.{Event}
+use Rattle.sctp_streams.specs.declared.setting.Setting.TheVariants as settings
+use Rattle.sctp_streams.specs.Stream.{is_read_half_open}
 use Rattle.sctp_inbound.specs.declared.receiver.AckTrigger.{AckTrigger}
 use Rattle.sctp_inbound.specs.declared.receiver.AckTrigger.TheVariants as triggers
 use Rattle.sctp_model.proofs.Lists.{all_join}
 use Rattle.sctp_directions.specs.Acts.{Act, CanAll, History, Parts, done, done_all}
 use Rattle.sctp_assoc.specs.declared.inbound.Flow.{Flow}
 use Rattle.sctp_assoc.specs.declared.inbound.Flow.TheVariants as flows
-use Rattle.sctp_assoc.specs.Calls.{is_established, read_exhausts}
+use Rattle.sctp_assoc.specs.Calls.{adjusted, holds_of, is_established, read_exhausts, stopped_open}
 use Rattle.sctp_assoc.specs.Chunks.{on_chunk}
-use Rattle.sctp_assoc.specs.Closing.{is_closed_state}
-use Rattle.sctp_assoc.specs.Happened.{acts_after, acts_of_chunk, acts_of_chunks, acts_of_close, acts_of_packet}
-use Rattle.sctp_assoc.specs.Happened.{acts_of_packet_of, acts_of_read, acts_of_timeouts}
+use Rattle.sctp_assoc.specs.Closing.{is_closed_state, is_exhausted}
+use Rattle.sctp_assoc.specs.Happened.{acts_after, acts_of_chunk, acts_of_chunks, acts_of_close, acts_of_close_stream}
+use Rattle.sctp_assoc.specs.Happened.{acts_of_packet, acts_of_packet_of, acts_of_read, acts_of_stop, acts_of_timeouts}
 use Rattle.sctp_assoc.specs.Leads.{Binds, Leads, parts}
 use Rattle.sctp_assoc.specs.Shown.{Shown, uses_forward_tsn}
 use Rattle.sctp_assoc.proofs.ActsKeepOffsets.{can_append}
@@ -110,6 +112,12 @@ read_acts a id = (
       (spans_acts (is_retiring a.resets id) (id ∷ []) (drained_behind a id (read_in a.streams id).0).streams)
       (some_if (read_exhausts a id) (acts_of_close a) (close_acts a)),
 )
+
+stop_acts : (a : Shown) (id : ℕ) → GiveNoneAgain (acts_of_stop a id)
+stop_acts a id =
+    let b : Shown = stopped_open a id in
+    some_if (holds_of (λ s. is_read_half_open s.halves) a id) _
+    (tt, some_if (is_exhausted b) (acts_of_close b) (close_acts b))
 
 unrefused_acts : (o : Option Error) (act : Act) → GivesNoneAgain act → GiveNoneAgain (acts_unless_refused o act)
 unrefused_acts None act h = (h, tt)
@@ -257,6 +265,9 @@ call_spares (Call.HandleTimeout now) a h binds uses =
     none_again_spare (acts_of_timeouts a now) (parts a h) (timeouts_acts a now)
 call_spares (Call.HandleEvent packet now) a h binds uses =
     none_again_spare (acts_of_packet a packet now) (parts a h) (packet_acts a packet now)
+call_spares (Call.Stop id) a h binds uses = none_again_spare (acts_of_stop a id) (parts a h) (stop_acts a id)
+call_spares (Call.CloseStream id) a h binds uses =
+    none_again_spare (acts_of_close_stream a id) (parts a h) (tt, stop_acts (adjusted a id settings.WriteHalfClosed) id)
 
 -- One call
 

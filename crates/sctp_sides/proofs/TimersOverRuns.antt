@@ -26,18 +26,19 @@ use Rattle.sctp_sides.specs.Witnesses.{LossesStopTheTimers, LostSidesWaitForNoth
 use Rattle.sctp_sides.specs.Witnesses.{NoHandshakeTimerRunsOnceEstablished, NothingInFlightIsNotTimed}
 use Rattle.sctp_sides.specs.Witnesses.{OutstandingDataIsTimed, SentInitsAreTimed, WaitsForNothing}
 use Rattle.sctp_sides.proofs.PollsLeave.{control_leaves, silent_is}
-use Rattle.sctp_sides.proofs.ResetsBeside.{draining_changes}
+use Rattle.sctp_sides.proofs.ResetsBeside.{draining_changes, stop_changes}
 use Rattle.sctp_sides.proofs.TimersRun.{AtRest, IsQuiet, IsSameTime, Ticks, closed_waits_for_nothing, ticks_beside}
 use Rattle.sctp_sides.proofs.TimersRun.{established_shakes_no_hands}
-use Rattle.sctp_sides.proofs.TimersRun.{none_armed, nothing_is_not_something, rest_by, same_time, ticks_by}
-use Rattle.sctp_sides.proofs.TimersRun.{time_by, unarmed}
+use Rattle.sctp_sides.proofs.TimersRun.{none_armed, nothing_is_not_something, rest_by, rest_quietly, same_time}
+use Rattle.sctp_sides.proofs.TimersRun.{ticks_by, time_by, unarmed}
 use Rattle.sctp_sides.proofs.TimersOverChunks.{IsSound, closed_rests, packets_sound}
 use Rattle.sctp_sides.proofs.TimersOverPolls.{polls_tick}
 use Rattle.sctp_sides.proofs.TimersOverTimeouts.{timeouts_tick, unarmed_timeouts_do_nothing}
 use Rattle.sctp_sides.proofs.TimersOverChunks.{exhausted_sound}
-use Rattle.sctp_assoc.specs.Calls.{after_read, drained_behind}
+use Rattle.sctp_assoc.specs.Calls.{adjusted, after_read, drained_behind, holds_of, stopped_open}
+use Rattle.sctp_assoc.specs.Calls.{without_read_half_of}
 use Rattle.sctp_assoc.specs.Chunks.{after_packet_of}
-use Rattle.sctp_assoc.specs.Resets.{with_resetting}
+use Rattle.sctp_assoc.specs.Resets.{with_beside, with_resetting}
 use Rattle.sctp_assoc.specs.declared.control.Control.{Control}
 use Rattle.sctp_assoc.specs.declared.control.Control.TheVariants as controls
 use Rattle.sctp_assoc.proofs.GivenApart.{with_own_control}
@@ -49,16 +50,22 @@ use Rattle.sctp_reset_requests.specs.Own.{OwnView, sent_first, sent_from}
 use Rattle.sctp_reset_requests.specs.Peer.{boundary_of}
 use Rattle.sctp_resets.specs.Channels.{channels}
 use Rattle.sctp_resets.specs.Draining.{Reading, drained_out}
-use Rattle.sctp_resets.specs.Resets.{Resetting, ResetsView, event_told, event_told_at, read_out, with_event, with_own}
-use Rattle.sctp_resets.specs.Resets.{with_read}
+use Rattle.sctp_generations.specs.Generations.{discarded}
+use Rattle.sctp_resets.specs.Resets.{Beside, Resetting, ResetsView, ended_unless, event_told, event_told_at, is_blocked}
+use Rattle.sctp_resets.specs.Resets.{is_retiring, read_out, stopped_reading, waiting_for, with_event, with_generations}
+use Rattle.sctp_resets.specs.Resets.{with_own, with_read}
 use Rattle.sctp_resets.specs.Telling.{next_told}
 use Rattle.std.specs.Prelude.{remove}
-use Rattle.std.proofs.Common.{◌&&◌, fold, slice_get}
+use Rattle.std.specs.List.{filter}
+use Rattle.std.proofs.Common.{◌&&◌, fold, not, slice_get}
 use Rattle.std.proofs.lemmas.Bool.{cond-true}
-use Rattle.sctp_assoc.specs.Closing.{exhausted, is_exhausted, out_of_resource}
+use Rattle.sctp_assoc.specs.Closing.{exhausted, is_exhausted, out_of_resource, relieved}
 use Rattle.sctp_assoc.specs.Control.{queued}
 use Rattle.sctp_receive_queues.specs.Messages.{ReceivedMessage}
-use Rattle.sctp_streams.specs.Streams.{StreamMap, read_in}
+use Rattle.sctp_streams.specs.declared.setting.Setting.TheVariants as settings
+use Rattle.sctp_streams.specs.Events.{is_told_of}
+use Rattle.sctp_streams.specs.Stream.{is_read_half_open, without_unread}
+use Rattle.sctp_streams.specs.Streams.{StreamMap, changed_stream, read_in}
 
 -- What is used of a failure.
 pub record Fell (a b : Shown) : Type 0 where
@@ -108,6 +115,8 @@ accepted_works Call.Poll a e = inl (unrefused a.failed _ _ e)
 accepted_works (Call.PollTransmit now) a e = inl (unrefused a.failed _ _ e)
 accepted_works (Call.HandleTimeout now) a e = inl (unrefused a.failed _ _ e)
 accepted_works (Call.HandleEvent packet now) a e = inl (unrefused a.failed _ _ e)
+accepted_works (Call.Stop id) a e = inl (unrefused a.failed _ _ e)
+accepted_works (Call.CloseStream id) a e = inl (unrefused a.failed _ _ e)
 
 write_ticks : (o : Option StreamView) (a : Shown) (id : ℕ) (named : Option PayloadProtocolIdentifier) (bytes : List ℕ)
     → Ticks a → Ticks (written_at o a id named bytes)
@@ -224,6 +233,47 @@ read_rests (streams, None) a id h = drained_rests a id streams h
 read_rests (streams, Some message) a id h =
     let b : Shown = drained_behind a id streams in relieved_rests (is_exhausted b) b (drained_rests a id streams h)
 
+-- a stop of a stream where its read half is open, which may leave the receive buffer exhausted
+
+stop_sound : (opened : Bool) (a : Shown) (id : ℕ) → Ticks a
+    → IsSound (if opened then relieved (stopped_open a id) else a)
+stop_sound true a id h =
+    let b : Shown = stopped_open a id in
+    relieved_sound (is_exhausted b) b (ticks_beside a b (stop_changes a id) h)
+stop_sound false a id h = inl h
+
+beside_rests : (a : Shown) (x : Beside) → x.0.own ≡ a.resets.own → AtRest a → AtRest (with_beside a x)
+beside_rests a (r, m, told) own h = rest_by a _ refl refl refl refl own h
+
+ended_keeps_requests : (blocked : Bool) (r : ResetsView) (id : ℕ) (m : StreamMap) (told : List Event)
+    → (ended_unless blocked r id m told).0.own ≡ r.own
+ended_keeps_requests true r id m told = refl
+ended_keeps_requests false r id m told = refl
+
+stopped_reading_keeps_requests : (id : ℕ) (r : ResetsView) (m : StreamMap) (told : List Event)
+    → (stopped_reading id r m told).0.own ≡ r.own
+stopped_reading_keeps_requests id r m told =
+    let s : ResetsView = with_generations r (discarded r.generations id) in
+    ended_keeps_requests (is_blocked s id) s id (changed_stream without_unread m id)
+    (filter (λ (e : Event). not (is_told_of id e)) told)
+
+-- a stream that waits to be reset is in no request yet
+open_stop_rests : (retires : Bool) (x : Beside) (a : Shown) (id : ℕ) → x.0.own ≡ a.resets.own → AtRest a
+    → AtRest (if retires then with_beside a x else record a { resets = waiting_for a.resets id })
+open_stop_rests true x a id own h = beside_rests a x own h
+open_stop_rests false x a id own h = rest_quietly a _ refl refl refl refl (λ q. (q.0, q.1)) h
+
+stop_rests : (opened : Bool) (a : Shown) (id : ℕ) → AtRest a
+    → AtRest (if opened then relieved (stopped_open a id) else a)
+stop_rests true a id h =
+    let b : Shown = without_read_half_of a id in
+    let c : Shown = stopped_open a id in
+    relieved_rests (is_exhausted c) c
+    (open_stop_rests (is_retiring a.resets id) (stopped_reading id b.resets b.streams b.events) b id
+    (stopped_reading_keeps_requests id b.resets b.streams b.events)
+    (rest_by a b refl refl refl refl refl h))
+stop_rests false a id h = h
+
 -- a poll of one that is closed, which asks for no reset
 
 none_sent : (active : Option SentRequest) (queued : List OwnRequest) (o : OwnView) (q : Outbound) → active ≡ None
@@ -291,6 +341,11 @@ ticks_carried Call.Poll a h = inl (poll_ticks (event_told a.resets a.events) a h
 ticks_carried (Call.PollTransmit now) a h = inl (polls_tick a now h)
 ticks_carried (Call.HandleTimeout now) a h = inl (timeouts_tick a now h)
 ticks_carried (Call.HandleEvent packet now) a h = packets_sound packet a now h
+ticks_carried (Call.Stop id) a h = stop_sound (holds_of (λ s. is_read_half_open s.halves) a id) a id h
+ticks_carried (Call.CloseStream id) a h =
+    let b : Shown = adjusted a id settings.WriteHalfClosed in
+    stop_sound (holds_of (λ s. is_read_half_open s.halves) b id) b id
+    (ticks_by a b (time_by a b refl refl refl refl refl refl) h)
 
 rest_carried : (call : Call) (a : Shown) → a.failed ≡ false → a.lost ≡ true → AtRest a
     → AtRest (carried_out call a).0
@@ -309,6 +364,10 @@ rest_carried (Call.HandleTimeout now) a works lost h =
     subst AtRest (sym (unarmed_timeouts_do_nothing a now h.stopped)) h
 rest_carried (Call.HandleEvent packet now) a works lost h =
     subst AtRest (sym (cond-true a.lost a (after_packet_of a packet now) lost)) h
+rest_carried (Call.Stop id) a works lost h = stop_rests (holds_of (λ s. is_read_half_open s.halves) a id) a id h
+rest_carried (Call.CloseStream id) a works lost h =
+    let b : Shown = adjusted a id settings.WriteHalfClosed in
+    stop_rests (holds_of (λ s. is_read_half_open s.halves) b id) b id (rest_by a b refl refl refl refl refl h)
 
 is_lost : (a : Shown) → a.failed ≡ false → AtRest a → a.lost ≡ true
 is_lost a e h = ⊎_elim (λ (f : a.failed ≡ true). absurd (false≢true (sym e ∙ f))) (λ (l : a.lost ≡ true). l) h.over

@@ -121,14 +121,19 @@ ticks_beside a b e h =
       unsent = h.fits.unsent;
     }
 
-pub rest_by : (a b : Shown) → b.failed ≡ a.failed → b.lost ≡ a.lost → b.state ≡ a.state → b.timers ≡ a.timers
-    → b.resets.own ≡ a.resets.own → AtRest a → AtRest b
-rest_by a b failed lost state timers own h = record {
+pub rest_quietly : (a b : Shown) → b.failed ≡ a.failed → b.lost ≡ a.lost → b.state ≡ a.state → b.timers ≡ a.timers
+    → (IsQuiet a.resets.own → IsQuiet b.resets.own) → AtRest a → AtRest b
+rest_quietly a b failed lost state timers quiet h = record {
   over = ⊎_elim (λ (e : a.failed ≡ true). inl (failed ∙ e)) (λ (e : a.lost ≡ true). inr (lost ∙ e)) h.over;
   closed = λ e. ap is_closed_state state ∙ h.closed (sym lost ∙ e);
   stopped = subst IsNoneArmed (sym timers) h.stopped;
-  quiet = λ e. subst IsQuiet (sym own) (h.quiet (sym failed ∙ e));
+  quiet = λ e. quiet (h.quiet (sym failed ∙ e));
 }
+
+pub rest_by : (a b : Shown) → b.failed ≡ a.failed → b.lost ≡ a.lost → b.state ≡ a.state → b.timers ≡ a.timers
+    → b.resets.own ≡ a.resets.own → AtRest a → AtRest b
+rest_by a b failed lost state timers own h =
+    rest_quietly a b failed lost state timers (λ q. subst IsQuiet (sym own) q) h
 
 -- States
 

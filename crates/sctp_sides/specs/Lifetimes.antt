@@ -17,7 +17,8 @@ use Rattle.sctp_outbound_queue.specs.Waiting.{Waiting}
 use Rattle.sctp_streams.specs.declared.event.Event.{Event}
 use Rattle.sctp_directions.specs.Acts.{Act, History, Parts, done, done_all}
 use Rattle.sctp_assoc.specs.Created.{created, joined}
-use Rattle.sctp_assoc.specs.Happened.{acts_of_close, acts_of_packet, acts_of_poll, acts_of_read, acts_of_timeouts}
+use Rattle.sctp_assoc.specs.Happened.{acts_of_close, acts_of_close_stream, acts_of_packet, acts_of_poll, acts_of_read}
+use Rattle.sctp_assoc.specs.Happened.{acts_of_stop, acts_of_timeouts}
 use Rattle.sctp_assoc.specs.Leads.{Binds, Leads, parts}
 use Rattle.sctp_assoc.specs.Shown.{Shown, uses_forward_tsn}
 use Rattle.sctp_sides.specs.OneSide.{Call, FailsInside, IsCarriedOut, IsFresh, IsUnchanged}
@@ -48,6 +49,8 @@ acts_of_call (Call.Read id) a = acts_of_read a id
 acts_of_call (Call.PollTransmit now) a = acts_of_poll a now
 acts_of_call (Call.HandleTimeout now) a = acts_of_timeouts a now
 acts_of_call (Call.HandleEvent packet now) a = acts_of_packet a packet now
+acts_of_call (Call.Stop id) a = acts_of_stop a id
+acts_of_call (Call.CloseStream id) a = acts_of_close_stream a id
 acts_of_call call a = []
 
 -- A call led from an association with a history by these acts to another one, and another history; one that is not

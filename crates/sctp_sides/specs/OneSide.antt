@@ -99,7 +99,8 @@ call_refusal (Call.Stop id) a = stop_refusal a id
 call_refusal (Call.CloseStream id) a = stop_refusal a id
 call_refusal call a = failed_refusal a
 
--- a call that may find no memory in its middle; a stop does only where the read half of the stream is open
+-- a call that may find no memory in its middle (a stop does only where the read half of the stream is open, a read only
+-- where it closes or ends a generation; neither is asked here)
 abbrev pub has_a_middle : Call → Bool
 has_a_middle (Call.Read id) = true
 has_a_middle Call.Close = true
