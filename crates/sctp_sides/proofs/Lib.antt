@@ -19,6 +19,12 @@ mod ForwardCauses
 mod ForwardKinds
 mod ForwardTsnSettled
 mod GapsFilled
+mod GenerationsInCalls
+mod GenerationsInChunks
+mod GenerationsInResets
+mod GenerationsInSending
+mod GenerationsKept
+mod GenerationsOverRuns
 mod GivingUpKeeps
 mod HandshakeChunks
 mod HandshakeTruth

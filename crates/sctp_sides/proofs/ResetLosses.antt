@@ -74,7 +74,7 @@ pub tells : (queued : List Event) (event : Event) → loss_of event ≡ 0 → lo
 tells queued event e = one_more_told queued event ∙ ap (λ (n : ℕ). losses queued + n) e ∙ omega arith
 
 -- what each step keeps, all of them do
-fold_keeps : {S T : Type 0} (count : S → ℕ) (f : S → T → S) → ((s : S) (t : T) → count (f s t) ≡ count s)
+pub fold_keeps : {S T : Type 0} (count : S → ℕ) (f : S → T → S) → ((s : S) (t : T) → count (f s t) ≡ count s)
     → (s : S) (ts : List T) → count (fold f s ts) ≡ count s
 fold_keeps count f keeps s [] = refl
 fold_keeps count f keeps s (t ∷ ts) = fold_keeps count f keeps (f s t) ts ∙ keeps s t

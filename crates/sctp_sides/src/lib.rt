@@ -32,6 +32,8 @@ ghost use Rattle.sctp_sides.specs.PastSpan.{TimersResetNoMore, ToldEventsResetNo
 ghost use Rattle.sctp_sides.specs.SideLaws.{OpenStopsResetThatStream, ReadsEndPast, ReadsLeadOn, ReconfigsEndPast};
 ghost use Rattle.sctp_sides.specs.SideLaws.{StopsAreInEstablished, StopsKeepTheStatus};
 ghost use Rattle.sctp_sides.specs.Causes.{CausesClose, ClosingPacketsHaveCauses, FaultsAreCauses};
+ghost use Rattle.sctp_sides.specs.Generations.{CreatedSidesHaveNoGeneration, FinalsAreToldOnce};
+ghost use Rattle.sctp_sides.specs.Generations.{GenerationsAreLiveOrFinal, JoinedSidesHaveNoGeneration};
 ghost use Rattle.sctp_sides.specs.Intake.{DataIsTakenIn, LaterDataIsKeptApart, NothingElseIsKeptApart};
 ghost use Rattle.sctp_sides.specs.Intake.{NothingElseIsTakenIn};
 ghost use Rattle.sctp_sides.specs.Lifetimes.{CreatedSidesHaveNothingToSend, JoinedSidesHaveNothingToSend};
@@ -268,6 +270,16 @@ pub fn at_most_one_loss()
     ensures created { CreatedSidesAreFresh }
     ensures joined { JoinedSidesAreFresh }
     ensures told { LossesAreToldOnce }
+{}
+
+/// Generations: over every list of calls that a side gets and that begins with no stream, each number that a stream was
+/// given is that of a live stream, or of a stream that ended and whose last counters were told or wait to be told, and
+/// of nothing twice, unless the side failed; and no last counters are told twice, whether it failed or not.
+pub fn generations_end_once()
+    ensures created { CreatedSidesHaveNoGeneration }
+    ensures joined { JoinedSidesHaveNoGeneration }
+    ensures live_or_final { GenerationsAreLiveOrFinal }
+    ensures told_once { FinalsAreToldOnce }
 {}
 
 /// Timing: over every list of calls each timer of DATA, of the handshake and of acknowledgements runs where it should,
