@@ -54,7 +54,6 @@ const MAX_PAYLOAD_SIZE: u32 = 65_519;
 ///
 /// A call that finds no memory may leave the association failed; then every call that answers a `Result` answers
 /// `ErrAssociationFailed` and changes nothing.
-#[derive(Drop)]
 pub struct Association {
     pub(crate) alloc: Global,
     pub(crate) side: Side,
@@ -82,6 +81,34 @@ pub struct Association {
     pub(crate) stats: AssociationStats,
     /// Requests to reset streams, and the generations of streams that ended and are still read.
     pub(crate) resets: Resets,
+}
+
+// Its parts are let go here, so that a crate that owns an association proves one call where it lets go of it.
+impl Drop for Association {
+    fn drop(self) {
+        let Association {
+            alloc: _alloc,
+            side: _side,
+            remote_addr: _remote_addr,
+            local_ip: _local_ip,
+            state: _state,
+            lost: _lost,
+            failed: _failed,
+            max_send_message_size: _max_send_message_size,
+            handshake: _handshake,
+            receiver: _receiver,
+            sender: _sender,
+            streams: _streams,
+            to_accept: _to_accept,
+            events: _events,
+            handshake_fault: _handshake_fault,
+            control: _control,
+            timers: _timers,
+            rto: _rto,
+            stats: _stats,
+            resets: _resets,
+        } = self;
+    }
 }
 
 impl Model for Association {

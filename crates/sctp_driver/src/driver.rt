@@ -37,13 +37,25 @@ use std::net::{IpAddr, Ipv4Addr, SocketAddr};
 ///
 /// A call that finds no memory may leave the association failed; `is_failed` says it. Then every call that asks the
 /// association for a `Result` answers `ErrAssociationFailed` and changes nothing.
-#[derive(Drop)]
 pub struct Driver {
     pub(crate) alloc: Global,
     pub(crate) association: Association,
     own_tag: u32,
     waiting: VecDeque<Bytes>,
     pub(crate) kept: VecDeque<Kept>,
+}
+
+// Its parts are let go here, so that a crate that owns a driver proves one call where it lets go of it.
+impl Drop for Driver {
+    fn drop(self) {
+        let Driver {
+            alloc: _alloc,
+            association: _association,
+            own_tag: _own_tag,
+            waiting: _waiting,
+            kept: _kept,
+        } = self;
+    }
 }
 
 impl Model for Driver {

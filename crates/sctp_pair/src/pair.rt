@@ -28,7 +28,6 @@ use std::net::SocketAddr;
 ///
 /// A pair is for simulators, for tests, and for whoever needs the promise of delivery: it is said of `run` and
 /// `step`.
-#[derive(Drop)]
 pub struct Pair {
     alloc: Global,
     a: Association,
@@ -37,6 +36,21 @@ pub struct Pair {
     packets_b: Vec<Bytes>,
     remote_a: SocketAddr,
     remote_b: SocketAddr,
+}
+
+// Its parts are let go here, so that a crate that owns a pair proves one call where it lets go of it.
+impl Drop for Pair {
+    fn drop(self) {
+        let Pair {
+            alloc: _alloc,
+            a: _a,
+            b: _b,
+            packets_a: _packets_a,
+            packets_b: _packets_b,
+            remote_a: _remote_a,
+            remote_b: _remote_b,
+        } = self;
+    }
 }
 
 impl Model for Pair {
