@@ -10,6 +10,7 @@ mod ClosingCauses
 mod ClosingPackets
 mod ClosingPolls
 mod DataIntake
+mod DataKeptOut
 mod DueSacks
 mod ExhaustedBuffers
 mod FaultCauses
@@ -33,16 +34,20 @@ mod LiveStreams
 mod LossToldOnce
 mod NothingElseTaken
 mod NothingLate
+mod OwnRequestsHeld
 mod PacketLaws
 mod PacketsByChunks
 mod PastOnly
 mod PolledPackets
 mod PastPackets
+mod PeerRequestsInChunks
+mod PeerRequestsOverRuns
 mod PollsInTime
 mod PollsLeave
 pub mod Proved
 mod ReconfigStatus
 mod ResetLosses
+mod RepeatsKnown
 mod RequestsTimed
 mod ResetsBeside
 mod ResetsNoMore

@@ -8,4 +8,5 @@ pub mod NoReset
 pub mod PastSpan
 pub mod OneSide
 pub mod SideLaws
+pub mod Repeats
 pub mod Witnesses

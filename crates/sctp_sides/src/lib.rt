@@ -1,6 +1,7 @@
 //! Laws of one side of SCTP: what every [`Association`](sctp_assoc::Association) keeps to, whatever its peer sends (but
 //! for what is said of a handshake, where the peer says what is so). They are said over the equations that its calls
-//! have for contracts, and no call needs them. No code runs here; each empty function carries laws that are proved.
+//! have for contracts, and no call needs them. No code runs here; each function carries laws that are proved, and is
+//! empty, or names by calls the laws of crates below on which they rest.
 #![tactic(auto)]
 
 ghost use Rattle.sctp_sides.specs.SideLaws.{AcceptedWritesFit, ChunksLeadOn, DataOpensOrTakes, EstablishedIsNotClosed};
@@ -46,6 +47,10 @@ ghost use Rattle.sctp_sides.specs.Laws.{PollsKeepWhatIsHeld, SacksAreSpelled, Sa
 ghost use Rattle.sctp_sides.specs.Laws.{PollsBeginWithWhatWaits, SacksOfferTheBuffer, SacksSayWhatWasTaken};
 ghost use Rattle.sctp_sides.specs.Laws.{BundlesFitThePacket, NewDataStaysInTheCongestionWindow, TimersDoNotClose};
 ghost use Rattle.sctp_sides.specs.Laws.{WhatWaitsIsGiven, WhatWaitsIsPolled, WritesAreHeld, WritesDoNotClose};
+ghost use Rattle.sctp_sides.specs.Repeats.{CompletedNumbersAreRepeats, CompletedRequestsStay, DataBehindIsForLater};
+ghost use Rattle.sctp_sides.specs.Repeats.{KeptDataReachesNoStream, LaterDataStaysOut, OwnRequestsWait};
+ghost use Rattle.sctp_sides.specs.Repeats.{RepeatsAreOnlyAnswered, RepeatsEndNoGeneration};
+ghost use Rattle.sctp_sides.specs.Repeats.{RepeatsRetireNothing, RepeatsStayKnown};
 ghost use Rattle.sctp_sides.specs.Witnesses.{CookiesAreTimedInCookieEchoedAlone, CreatedSidesAreFresh};
 ghost use Rattle.sctp_sides.specs.Witnesses.{DelayedSacksAreTimed, EchoedCookiesAreTimed, FailedSidesWaitForNothing};
 ghost use Rattle.sctp_sides.specs.Witnesses.{FailuresStopTheTimers, InitsAreTimedInCookieWaitAlone};
@@ -53,6 +58,8 @@ ghost use Rattle.sctp_sides.specs.Witnesses.{JoinedSidesAreFresh, LossesAreToldO
 ghost use Rattle.sctp_sides.specs.Witnesses.{LostSidesWaitForNothing, NoHandshakeTimerRunsOnceEstablished};
 ghost use Rattle.sctp_sides.specs.Witnesses.{NothingInFlightIsNotTimed, OutstandingDataIsTimed, PollsTimeRequests};
 ghost use Rattle.sctp_sides.specs.Witnesses.{SentInitsAreTimed, TimeoutsLeaveRequestsTimed};
+
+use sctp_reset_requests::{completed_requests_are_known, requests_are_held_back};
 
 /// Sending: the next piece that waits goes out with the next poll where nothing is in flight (RFC 4960 section 6.1),
 /// unless its message is given up by then.
@@ -302,3 +309,24 @@ pub fn timers_run_where_they_should()
     ensures failed { FailedSidesWaitForNothing }
     ensures lost { LostSidesWaitForNothing }
 {}
+
+/// Repeats: a request of the peer to reset streams whose number is at or below the last completed one, and is not in
+/// progress, is answered as performed and retires nothing; over every list of calls completed requests stay so. A
+/// request of this side waits until no other one is active and no DATA of its streams waits or is in flight, and DATA
+/// behind a request of the peer in progress stays out of its stream (RFC 6525 sections 5.1.2, 5.2.1 and 5.2.2).
+pub fn repeats_retire_nothing()
+    ensures repeats { CompletedNumbersAreRepeats }
+    ensures known { RepeatsRetireNothing }
+    ensures silent { RepeatsAreOnlyAnswered }
+    ensures retires { RepeatsEndNoGeneration }
+    ensures stay { CompletedRequestsStay }
+    ensures repeated { RepeatsStayKnown }
+    ensures held_back { OwnRequestsWait }
+    ensures behind { DataBehindIsForLater }
+    ensures kept_out { KeptDataReachesNoStream }
+    ensures stays_out { LaterDataStaysOut }
+{
+    // what holds of requests by their numbers alone
+    completed_requests_are_known();
+    requests_are_held_back();
+}
