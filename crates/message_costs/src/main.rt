@@ -38,7 +38,7 @@ fn answer_lines<R: BufRead + Drop, W: Write>(
     output: &mut W,
 ) -> Result<()> {
     for line in input.split(alloc, b'\n') {
-        let Demand { size, count, burst } = parse(alloc, line?.as_slice())?;
+        let Demand { size, count, burst } = parse(line?.as_slice())?;
         let mut message: Vec<u8> = vec![in alloc; 0; size]?;
         let bytes_read = ends::exchange(alloc, message.as_mut_slice(), count, burst)?;
         writeln!(
@@ -50,15 +50,24 @@ fn answer_lines<R: BufRead + Drop, W: Write>(
 }
 
 // Reads a line without its newline.
-fn parse(alloc: Global, line: &[u8]) -> Result<Demand> {
+fn parse(line: &[u8]) -> Result<Demand> {
     let text = str::from_utf8(line)?;
-    let fields: Vec<&str> = text.split(' ').collect(alloc)?;
-    match fields.as_slice() {
-        [size, count, burst] => Ok(Demand {
-            size: size.parse::<usize>()?,
-            count: count.parse::<u64>()?,
-            burst: burst.parse::<u64>()?,
-        }),
-        _ => bail!("not a size, a count and a burst: {text}"),
-    }
+    let mut fields = text.split(' ');
+    let (Some(size), Some(count), Some(burst), None) = (
+        fields.next(),
+        fields.next(),
+        fields.next(),
+        fields.next(),
+    ) else {
+        bail!("not a size, a count and a burst: {text}");
+    };
+    of_fields(size, count, burst)
+}
+
+fn of_fields(size: &str, count: &str, burst: &str) -> Result<Demand> {
+    Ok(Demand {
+        size: size.parse::<usize>()?,
+        count: count.parse::<u64>()?,
+        burst: burst.parse::<u64>()?,
+    })
 }
