@@ -60,7 +60,7 @@ use Rattle.sctp_assoc.specs.Calls.{event_polled, opened}
 use Rattle.sctp_assoc.specs.Calls.{with_max_send_message_size}
 use Rattle.sctp_assoc.specs.Closing.{closed_by}
 use Rattle.sctp_assoc.specs.Calls.{retransmits, t3_expired, written, written_at, is_beginning}
-use Rattle.sctp_assoc.specs.Calls.{is_cookie_echoed, is_cookie_wait, is_established}
+use Rattle.sctp_assoc.specs.Calls.{is_cookie_echoed, is_cookie_wait, is_established, sends_data}
 use Rattle.sctp_assoc.specs.Closing.{is_closed_state}
 use Rattle.sctp_assoc.specs.Chunks.{after_chunks, after_packet, after_packet_of, after_sack}
 use Rattle.sctp_assoc.specs.Chunks.{checked_first, counted_sack, dispatched, ended, goes_on}
@@ -74,8 +74,9 @@ use Rattle.sctp_assoc.specs.Handshake.{acknowledged_cookie, after_t1_init, answe
 use Rattle.sctp_assoc.specs.Handshake.{cookie_queued, echoed, information_returned, init_queued, learned, on_cookie_ack}
 use Rattle.sctp_assoc.specs.Handshake.{on_cookie_echo, on_heartbeat, on_init, on_init_ack, sends_cookie, sends_init}
 use Rattle.sctp_assoc.specs.Handshake.{t1_cookie_expired, t1_init_expired, with_echo}
-use Rattle.sctp_assoc.specs.Timeouts.{after_handshake_timers, after_timeouts}
+use Rattle.sctp_assoc.specs.Timeouts.{after_handshake_timers, after_shutdown_timer, after_timeouts}
 use Rattle.sctp_assoc.specs.Shown.{Shown}
+use Rattle.sctp_assoc.specs.Shutdown.{after_t2_shutdown, shutdown_answered, shutdown_continued, shutdown_taken}
 use Rattle.sctp_assoc.specs.Skipping.{skips_of}
 pub use Rattle.sctp_assoc.proofs.DataLeadsOn.{asks_keeps, asks_same, data_leads, next_leads}
 pub use Rattle.sctp_assoc.proofs.ClosesLeadOn.{close_leads, exhausted_leads}
@@ -150,7 +151,7 @@ module _ (a : Shown) (cumulative_tsn_ack : ℕ) (blocks : List GapAckBlock) (win
     sack_taken_leads : tsns_up_to a.sender cumulative_tsn_ack ≤ length a.sender.queue.in_flight
         → Leads (Act.Acknowledged (tsns_up_to a.sender cumulative_tsn_ack) blocks
         (reports_of a.sender cumulative_tsn_ack blocks) ∷ []) a h
-        (after_sack (counted_sack a) cumulative_tsn_ack blocks window now)
+        (shutdown_continued (after_sack (counted_sack a) cumulative_tsn_ack blocks window now))
         (record h { base = h.base + tsns_up_to a.sender cumulative_tsn_ack })
     sack_taken_leads within =
         let n = tsns_up_to a.sender cumulative_tsn_ack in
@@ -160,7 +161,7 @@ module _ (a : Shown) (cumulative_tsn_ack : ℕ) (blocks : List GapAckBlock) (win
         let same = acknowledged_parts (counted_sack a) (progress_of a.sender cumulative_tsn_ack blocks) now x k in
         let all = reported_parts a cumulative_tsn_ack blocks window now h within small in
         leads_by (Act.Acknowledged n blocks (reports_of a.sender cumulative_tsn_ack blocks) ∷ []) a
-        (after_sack (counted_sack a) cumulative_tsn_ack blocks window now) h binds
+        (shutdown_continued (after_sack (counted_sack a) cumulative_tsn_ack blocks window now)) h binds
         (within, tt) (same ∙ sym all)
         (ap past_of (acknowledged_receiver (counted_sack a) (progress_of a.sender cumulative_tsn_ack blocks) now x))
         (record { peer = refl; taken = refl; passed = refl })
@@ -184,7 +185,7 @@ module _ (a : Shown) (cumulative_tsn_ack : ℕ) (blocks : List GapAckBlock) (win
           cumulative_tsn_ack blocks refl refl e),
     )
 
-    sack_leads : (c : Bool) → is_established a.state ≡ c
+    sack_leads : (c : Bool) → sends_data a.state ≡ c
         → (k : History) × Leads (acts_of_sack a cumulative_tsn_ack blocks) a h
         (on_sack a cumulative_tsn_ack blocks window trigger now).0 k
     unfolding on_sack
@@ -281,15 +282,15 @@ module _ (a : Shown) (trigger : AckTrigger) (h : History) (binds : Binds a h) wh
       data_leads a piece trigger h binds
   kind_leads header (chunks.SelectiveAck sack) now =
       sack_leads a sack.cumulative_tsn_ack sack.gap_ack_blocks sack.advertised_receiver_window_credit trigger now h
-      binds (is_established a.state) refl
+      binds (sends_data a.state) refl
   kind_leads header (chunks.Init init) now = init_leads (is_beginning a.state) header init refl
   kind_leads header (chunks.InitAck init) now =
       init_ack_leads (is_cookie_wait a.state) (comes_back a.handshake header) header init now refl refl
   kind_leads header (chunks.Heartbeat x) now = heartbeat_leads x
   kind_leads header (chunks.HeartbeatAck x) now = (h, leads_nowhere a a h binds refl refl)
   kind_leads header (chunks.Abort x) now = (h, leads_nowhere a a h binds refl refl)
-  kind_leads header (chunks.Shutdown x) now = (h, leads_nowhere a a h binds refl refl)
-  kind_leads header chunks.ShutdownAck now = (h, leads_nowhere a a h binds refl refl)
+  kind_leads header (chunks.Shutdown x) now = (h, leads_nowhere a (shutdown_taken a) h binds refl refl)
+  kind_leads header chunks.ShutdownAck now = (h, leads_nowhere a (shutdown_answered a) h binds refl refl)
   kind_leads header (chunks.Error x) now = (h, leads_nowhere a a h binds refl refl)
   kind_leads header (chunks.CookieEcho x) now =
       cookie_echo_leads (has_issued a.handshake x) (is_beginning a.state) (is_established a.state) x refl refl refl
@@ -327,6 +328,8 @@ goes_leads : (x : Shown × Flow) (h : History) (more : Shown → AckTrigger → 
     → Binds x.0 h → (k : History) × Leads (acts_after x acts) x.0 h (goes_on x more) k
 goes_leads (b, flows.Next trigger) h more acts on binds = on b trigger binds
 goes_leads (b, flows.Fault fault) h more acts on binds =
+    (h, close_leads (is_closed_state b.state) b reasons.AssociationClosed h refl binds)
+goes_leads (b, flows.Closed) h more acts on binds =
     (h, close_leads (is_closed_state b.state) b reasons.AssociationClosed h refl binds)
 goes_leads (b, flows.Exhausted) h more acts on binds = (h, exhausted_leads b h binds)
 
@@ -571,10 +574,17 @@ handshake_timers_lead a now h binds =
     (t1_cookie_leads (expiry_of names.T1Cookie now b.timers).expired (expiry_of names.T1Cookie now b.timers).failed b
     now h one.binds)
 
+-- nor does the timer of the answer to SHUTDOWN or SHUTDOWN ACK
+shutdown_timer_leads : (a : Shown) (now : ℕ) (h : History) → Binds a h → Leads [] a h (after_shutdown_timer a now) h
+shutdown_timer_leads a now h binds =
+    let one = handshake_timers_lead a now h binds in
+    let b : Shown = after_handshake_timers a now in
+    leads_on [] [] one (leads_nowhere b (after_t2_shutdown b now) h one.binds refl refl)
+
 pub timeouts_lead_on : (a b : Shown) (now : ℕ) → b ≡ after_timeouts a now → LeadsOn (acts_of_timeouts a now) a b
 timeouts_lead_on a b now e h binds =
-    let first = handshake_timers_lead a now h binds in
-    let c : Shown = after_handshake_timers a now in
+    let first = shutdown_timer_leads a now h binds in
+    let c : Shown = after_shutdown_timer a now in
     let t3 =
     t3_leads (expiry_of names.T3RTX now c.timers).expired (expiry_of names.T3RTX now c.timers).failed c now h
     first.binds in

@@ -2,10 +2,12 @@ pub mod ActsKeepOffsets
 mod BesideOne
 pub mod CallsLeadOn
 pub mod ClosesLeadOn
+pub mod ContinuedShutdown
 pub mod DataCame
 pub mod DataLeadsOn
 mod FilledBuffers
 pub mod Dropping
+pub mod EndsOfPolls
 pub mod ForwardCame
 mod FreshHistory
 pub mod Giving

@@ -1,5 +1,5 @@
 -- Where memory may lack: what takes some takes it by what stands in chunk and state.
-use Rattle.std.proofs.Common.{◌≡◌, ◌≢◌, refl, sym, ap, ◌∙◌, subst, ℕ, ◌+◌, Bool, true, false, not, ◌||◌}
+use Rattle.std.proofs.Common.{◌≡◌, ◌≢◌, refl, sym, ap, ◌∙◌, subst, ℕ, ◌+◌, Bool, true, false, not, ◌||◌, ◌&&◌}
 use Rattle.std.proofs.Common.{if◌then◌else◌, is_some, nat_lt, length, List, [], ◌∷◌, suc, Option, Some, None}
 use Rattle.std.proofs.Common.{arith, ◌<◌, ◌==◌, ⊎_elim}
 use Rattle.std.proofs.lemmas.Bool.{and_from, false≢true, lt-ltb, ne_eqb, or_cases, or_left, or_parts, or_right, true≢false}
@@ -32,6 +32,7 @@ use Rattle.sctp_outbound.specs.Abandonment.{expires}
 use Rattle.sctp_outbound.specs.Forward.{gives_forward}
 use Rattle.sctp_wire_types.specs.declared.chunk.SkippedStream.{SkippedStream}
 use Rattle.sctp_assoc.specs.declared.inbound.Flow.TheVariants as flows
+use Rattle.sctp_assoc.specs.Calls.{is_established}
 use Rattle.sctp_assoc.specs.Closing.{is_closed_state}
 use Rattle.sctp_assoc.specs.Chunks.{counted_data, on_chunk, stream_found}
 use Rattle.sctp_assoc.specs.Memory.{chunk_takes_memory, chunks_take_memory, data_takes_memory, keeps_message}
@@ -41,11 +42,12 @@ use Rattle.sctp_assoc.specs.Resets.{settling_takes_memory}
 use Rattle.sctp_assoc.specs.Gather.{ack_polled, both_of, bundled, data_bundled, data_gives, data_polled, exchange_gives}
 use Rattle.sctp_assoc.specs.Gather.{fast_gives, fast_polled, fast_sent, fell_in_poll, is_due, late_abandoned}
 use Rattle.sctp_assoc.specs.Gather.{marks_give, marks_polled, marks_sent, new_gives, new_sent, requests_give}
-use Rattle.sctp_assoc.specs.Gather.{requests_polled}
+use Rattle.sctp_assoc.specs.Gather.{data_after, requests_polled}
 use Rattle.sctp_assoc.specs.Shown.{Shown, uses_forward_tsn}
 use Rattle.sctp_assoc.specs.Skipping.{skip_takes_memory, some_takes_memory, with_skip}
+use Rattle.sctp_assoc.proofs.ContinuedShutdown.{continued_is_established}
 use Rattle.sctp_assoc.proofs.PartsOfPolls.{ack_sender, requests_leave}
-use Rattle.sctp_assoc.proofs.PolledSteps.{data_poll_stays}
+use Rattle.sctp_assoc.proofs.PolledSteps.{data_poll_state, data_poll_stays}
 use Rattle.sctp_assoc.proofs.SacksTell.{positive}
 use Rattle.sctp_assoc.proofs.StreamsFound.{stream_receiver, stream_resets}
 use Rattle.sctp_assoc.proofs.TakingSettles.{SettlesNoMore}
@@ -217,6 +219,15 @@ module _ (header : CommonHeader) (c : Chunk) (cs : List Chunk) (a : Shown) (trig
       (takes_memory_after (on_chunk a header c trigger now) (λ b next. chunks_take_memory header cs b next now))
       (rw (e, still) refl)
 
+  -- so does the end of a shutdown
+  pub closed_takes : (b : Shown)
+      → on_chunk a header c trigger now ≡ (b, flows.Closed) → is_closed_state b.state ≡ false
+      → chunks_take_memory header (c ∷ cs) a trigger now ≡ true
+  closed_takes b e still =
+      or_right (chunk_takes_memory a header c now)
+      (takes_memory_after (on_chunk a header c trigger now) (λ b next. chunks_take_memory header cs b next now))
+      (rw (e, still) refl)
+
 -- polling
 
 pub none_longer : {X : Type 0} (xs : List X) → nat_lt 0 (length xs) ≡ false → xs ≡ []
@@ -281,23 +292,29 @@ module _ (a : Shown) (now : ℕ) where
   data_is_given e = or_left _ _ (or_left _ _ (or_left _ _ e))
 
   -- streams that are to be reset
-  pub requests_are_given : requests_give (data_polled a now).0 ≡ true → exchange_gives a now ≡ true
-  requests_are_given e = or_left _ _ (or_left _ _ (or_right _ _ e))
+  pub requests_are_given : (is_established (data_after a now).0.state && requests_give (data_after a now).0) ≡ true
+      → exchange_gives a now ≡ true
+  requests_are_given e =
+      let b = (data_polled a now).0 in
+      let same : is_established (data_after a now).0.state ≡ is_established a.state =
+      continued_is_established b ∙ ap is_established (data_poll_state a now) in
+      or_left _ _ (or_left _ _ (or_right _ _
+      (subst (λ (established : Bool). (established && requests_give b) ≡ true) same e)))
 
   -- an acknowledgement that is due behind the DATA and the requests was due before them
-  pub ack_is_given : is_due (requests_polled (data_polled a now).0).0.receiver.ack_state ≡ true
+  pub ack_is_given : is_due (requests_polled (data_after a now).0).0.receiver.ack_state ≡ true
       → exchange_gives a now ≡ true
   ack_is_given due =
       or_left _ _ (or_right _ _
       (subst (λ (z : Receiver). is_due z.ack_state ≡ true)
-      ((requests_leave (data_polled a now).0).receiver ∙ (data_poll_stays a now).receiver) due))
+      ((requests_leave (data_after a now).0).receiver ∙ (data_poll_stays a now).receiver) due))
 
   -- FORWARD TSN that is due behind the acknowledgement was due before it
-  pub forward_is_given : gives_forward (ack_polled (requests_polled (data_polled a now).0).0).0.sender ≡ true
+  pub forward_is_given : gives_forward (ack_polled (requests_polled (data_after a now).0).0).0.sender ≡ true
       → exchange_gives a now ≡ true
   forward_is_given due =
       or_right _ _ (subst (λ (z : Sender). gives_forward z ≡ true)
-      ((ack_sender (requests_polled (data_polled a now).0).0).0 ∙ (requests_leave (data_polled a now).0).sender) due)
+      ((ack_sender (requests_polled (data_after a now).0).0).0 ∙ (requests_leave (data_after a now).0).sender) due)
 
 -- FORWARD TSN that comes
 

@@ -12,15 +12,18 @@ use Rattle.sctp_wire.proofs.DataCarried.{header_stays}
 use Rattle.sctp_assoc.specs.declared.control.Control.{Control}
 use Rattle.sctp_assoc.specs.Gather.{AckIsReadAgain, AreControlReadAgain, AreReadAgain, ControlReadAgain}
 use Rattle.sctp_assoc.specs.Gather.{ExchangeIsReadAgain, ForwardIsReadAgain, IsReadAgain, ack_after, ack_polled}
-use Rattle.sctp_assoc.specs.Gather.{after_both, bundled, data_polled, fast_polled, fast_sent, forward_after}
-use Rattle.sctp_assoc.specs.Gather.{forward_polled, late_abandoned, marks_polled, marks_sent, new_polled, new_sent}
+use Rattle.sctp_assoc.specs.Gather.{after_both, bundled, data_after, data_polled, fast_polled, fast_sent}
+use Rattle.sctp_assoc.specs.Gather.{forward_after, forward_polled, late_abandoned, marks_polled, marks_sent}
+use Rattle.sctp_assoc.specs.Gather.{new_polled, new_sent}
 use Rattle.sctp_assoc.specs.Gather.{requests_after, requests_polled}
 use Rattle.sctp_assoc.specs.Gather.{fell_in_poll, packet_bytes, single_chunk_packet, spelled, with_low_told}
 use Rattle.sctp_streams.specs.declared.event.Event.{Event}
 use Rattle.sctp_streams.specs.LowMarks.{low_event}
 use Rattle.sctp_assoc.specs.Shown.{Shown}
+use Rattle.sctp_assoc.specs.Shutdown.{shutdown_continued}
+use Rattle.sctp_assoc.proofs.ContinuedShutdown.{continued_leaves}
 use Rattle.sctp_assoc.proofs.PartsOfPolls.{LeavesTheRest, ack_sender, after_ack, after_forward, behind_both}
-use Rattle.sctp_assoc.proofs.PartsOfPolls.{both_first, both_second, requests_leave}
+use Rattle.sctp_assoc.proofs.PartsOfPolls.{both_first, both_second, left_on, requests_leave}
 
 one_spelled : (r : Result (List ℕ) Fault) (given bytes : List ℕ) → r ≡ Ok given → spelled r ≡ bytes ∷ [] → bytes ≡ given
 one_spelled (Ok x) given bytes e f = cc
@@ -60,9 +63,14 @@ pub forward_again_as : (x y : Shown) → x.sender ≡ y.sender → x.handshake �
     → ForwardIsReadAgain y
 forward_again_as x y sender handshake again = rw (← sender, ← handshake) again
 
+-- what DATA leaves, and a shutdown that goes on behind it
+pub continued_as : (a : Shown) (now : ℕ) {b c : Shown} → (data_polled a now).0 ≡ b → c ≡ shutdown_continued b
+    → (data_after a now).0 ≡ c
+continued_as a now left continued = ap shutdown_continued left ∙ sym continued
+
 -- what the parts of a poll leave, one behind another
 module _ (a : Shown) (now : ℕ) (before asked : List (List ℕ)) {b c d : Shown} {acked : List (List ℕ)}
-    (left : (data_polled a now).0 ≡ b)
+    (left : (data_after a now).0 ≡ b)
     (requests : after_both before (requests_polled b) ≡ (c, asked))
     (acks : after_both asked (ack_polled c) ≡ (d, acked))
   where
@@ -70,8 +78,9 @@ module _ (a : Shown) (now : ℕ) (before asked : List (List ℕ)) {b c d : Shown
         → ForwardIsReadAgain d → ExchangeIsReadAgain a now
     poll_again data_again ack_again forward_again =
         let x = (data_polled a now).0 in
-        let y = (requests_polled x).0 in
-        let rest = requests_leave x in
+        let behind = (data_after a now).0 in
+        let y = (requests_polled behind).0 in
+        let rest = left_on x behind y (continued_leaves x) (requests_leave behind) in
         let there : y ≡ c = asked_as before left requests in (
           data_again,
           ack_again_before x y rest (subst AckIsReadAgain (sym there) ack_again),

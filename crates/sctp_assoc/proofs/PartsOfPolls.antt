@@ -9,6 +9,7 @@ use Rattle.sctp_parts.specs.Timers.{Timers, moment_of, started}
 use Rattle.sctp_inbound.specs.Receiver.{acknowledged}
 use Rattle.sctp_reset_requests.specs.Own.{OwnView, asked, repeated, sent_first}
 use Rattle.sctp_resets.specs.Resets.{ResetsView, request_asked, request_sent, with_asked, with_own}
+use Rattle.sctp_assoc.specs.Calls.{is_established}
 use Rattle.sctp_assoc.specs.Gather.{ack_after, ack_polled, after_both, first_request_behind, first_request_polled}
 use Rattle.sctp_assoc.specs.Gather.{forward_after, forward_polled, is_due, repeat_polled, request_made, requests_polled}
 use Rattle.sctp_assoc.specs.Gather.{sack_packet, with_request_again, with_request_asked, with_request_sent}
@@ -79,7 +80,7 @@ left_back a b rest = record {
   generations = sym rest.generations;
 }
 
-left_on : (a b c : Shown) → LeavesTheRest a b → LeavesTheRest b c → LeavesTheRest a c
+pub left_on : (a b c : Shown) → LeavesTheRest a b → LeavesTheRest b c → LeavesTheRest a c
 left_on a b c first next = record {
   sender = next.sender ∙ first.sender;
   receiver = next.receiver ∙ first.receiver;
@@ -186,11 +187,17 @@ behind_repeat before (a, more) b c packets again made =
     ∙ ap (λ (z : Shown × List (List ℕ)). after_both z.1 (first_request_polled (request_made z.0))) again
     ∙ ap (λ (z : Shown). after_both packets (first_request_polled z)) (sym made)
 
-pub requests_are : (a b c : Shown) (before packets : List (List ℕ))
+-- in Established alone
+abbrev pub requests_if : Bool → Shown → Shown × List (List ℕ)
+requests_if established a = if established then first_request_behind (repeat_polled a) else (a, [])
+
+pub requests_are : (a b c : Shown) (before packets : List (List ℕ)) → is_established a.state ≡ true
     → after_both before (repeat_polled a) ≡ (b, packets) → c ≡ request_made b
     → after_both before (requests_polled a) ≡ after_both packets (first_request_polled c)
 unfolding requests_polled
-requests_are a b c before packets again made = behind_repeat before (repeat_polled a) b c packets again made
+requests_are a b c before packets established again made =
+    ap (λ (e : Bool). after_both before (requests_if e a)) established
+    ∙ behind_repeat before (repeat_polled a) b c packets again made
 
 -- the active request again, and then the one that is made
 pub requests_made_leave : (a : Shown) → LeavesTheRest a (request_made (repeat_polled a).0)
@@ -200,11 +207,15 @@ requests_made_leave a =
     let made = asked b.resets.own b.sender.queue b.resets.peer in
     left_on a b (request_made b) (repeat_leaves a again.0 again.1) (made_leaves b made.0 made.1)
 
-pub requests_leave : (a : Shown) → LeavesTheRest a (requests_polled a).0
-unfolding requests_polled
-requests_leave a =
+leave_if : (established : Bool) (a : Shown) → LeavesTheRest a (requests_if established a).0
+leave_if true a =
     let again = repeated a.resets.own in
     behind_leaves a (repeat_polled a) (repeat_leaves a again.0 again.1)
+leave_if false a = left_itself a
+
+pub requests_leave : (a : Shown) → LeavesTheRest a (requests_polled a).0
+unfolding requests_polled
+requests_leave a = leave_if (is_established a.state) a
 
 run_leaves : (runs : Bool) (a : Shown) (timers : Timers)
     → LeavesTheRest a (if runs then record a { timers = timers } else a)

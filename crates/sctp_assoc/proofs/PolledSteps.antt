@@ -16,7 +16,7 @@ use Rattle.sctp_outbound.specs.Abandonment.{dropped_by, expired_by, given_up_bef
 use Rattle.sctp_outbound.specs.Sender.{marked_by, missing_by}
 use Rattle.sctp_outbound.specs.Sender.{sent_new}
 use Rattle.sctp_directions.specs.Acts.{Act, History}
-use Rattle.sctp_assoc.specs.Gather.{AckIsReadAgain, both_of, data_polled, fast_polled, fast_sent}
+use Rattle.sctp_assoc.specs.Gather.{AckIsReadAgain, both_of, data_after, data_polled, fast_polled, fast_sent}
 use Rattle.sctp_assoc.specs.Gather.{late_abandoned, late_dropped, marks_polled, marks_sent, new_polled, new_sent}
 use Rattle.sctp_assoc.specs.Gather.{spent_abandoned}
 use Rattle.sctp_assoc.specs.Happened.{acks_given, acts_of_ack, acts_of_data_poll, acts_of_drops, acts_of_expiry}
@@ -197,6 +197,23 @@ data_poll_stays a now =
     ∙ spent_waits uses causes.Fast (both_of (marks_polled a now))
     ∙ spent_waits uses causes.Timer (both_of (late_abandoned a now))
     ∙ late_waits uses now (both_of a))
+
+-- and so does the state
+pub data_poll_state : (a : Shown) (now : ℕ) → (data_polled a now).0.state ≡ a.state
+unfolding data_polled
+data_poll_state a now = refl
+
+-- a shutdown that goes on behind it changes nothing of that
+pub data_after_stays : (a : Shown) (now : ℕ) → IsSentBeside a (data_after a now).0
+data_after_stays a now =
+    let same = data_poll_stays a now in
+    record {
+      receiver = same.receiver;
+      handshake = same.handshake;
+      acts = same.acts;
+      acks = same.acks;
+      again = same.again;
+    }
 
 -- and what its packets carry is its DATA
 pub data_poll_carries : (a : Shown) (now : ℕ) → all_of (data_polled a now).1 ≡ filter data_fits (data_of_poll a now)

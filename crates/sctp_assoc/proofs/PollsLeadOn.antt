@@ -18,13 +18,15 @@ use Rattle.sctp_inbound.specs.Receiver.{acknowledged, past_of}
 use Rattle.sctp_outbound.specs.declared.sender.Sender.{Sender}
 use Rattle.sctp_outbound.specs.Forward.{forward_given, forward_of, gives_forward, is_front_abandoned}
 use Rattle.sctp_directions.specs.Acts.{Act, History, Parts, all_data_given, done_all}
-use Rattle.sctp_assoc.specs.Calls.{is_established}
+use Rattle.sctp_assoc.specs.Calls.{exchanges_data, is_established}
 use Rattle.sctp_assoc.specs.Gather.{AreControlReadAgain, AreReadAgain, ForwardIsReadAgain, IsReadAgain, PollIsReadAgain}
 use Rattle.sctp_assoc.specs.Gather.{AreRequestsReadAgain, ControlRequestsReadAgain, PollRequestsReadAgain}
-use Rattle.sctp_assoc.specs.Gather.{ack_after, ack_polled, after_both, control_polled, data_polled, exchange_polled}
+use Rattle.sctp_assoc.specs.Gather.{ShutdownIsReadAgain, ack_after, ack_polled, after_both, control_polled, data_after}
+use Rattle.sctp_assoc.specs.Gather.{data_polled, exchange_polled}
 use Rattle.sctp_assoc.specs.Gather.{forward_after, forward_chunk, forward_polled, forwards_given, is_due, packet_bytes}
-use Rattle.sctp_assoc.specs.Gather.{polled, requests_after, requests_polled, sack_packet, without_control}
-use Rattle.sctp_assoc.specs.Happened.{Polls, PollsOn, acks_given, acts_of_ack, acts_of_data_poll}
+use Rattle.sctp_assoc.specs.Gather.{open_polled, polled, requests_after, requests_polled, sack_packet, shutdown_polled}
+use Rattle.sctp_assoc.specs.Gather.{without_control}
+use Rattle.sctp_assoc.specs.Happened.{Polls, PollsOn, acks_given, acts_of_ack, acts_of_data_poll, acts_of_exchange}
 use Rattle.sctp_assoc.specs.Happened.{acts_of_forwarding, acts_of_poll, exchange_given, forwards_of_poll}
 use Rattle.sctp_assoc.specs.Happened.{AsksForNothing, requests_given}
 use Rattle.sctp_assoc.specs.Leads.{Binds, Leads, parts}
@@ -39,19 +41,21 @@ use Rattle.sctp_assoc.proofs.Giving.{Gives}
 use Rattle.sctp_assoc.proofs.Leading.{leads_beside, leads_by, leads_nowhere, leads_on, past_itself}
 use Rattle.sctp_assoc.proofs.MarksOutstanding.{AreMarkedRight, acts_marked}
 use Rattle.sctp_assoc.proofs.ControlSaid.{control_is_said}
+use Rattle.sctp_assoc.proofs.EndsOfPolls.{polls_ending}
 use Rattle.sctp_assoc.proofs.GivenApart.{again_with, control_changes, with_own_control}
 use Rattle.sctp_assoc.proofs.PartsOfPolls.{ack_sender, acked_if, after_ack, after_forward, both_first, both_second}
 use Rattle.sctp_assoc.proofs.PartsOfPolls.{reconfig_run_leaves, requests_leave}
 use Rattle.sctp_assoc.proofs.PolledSteps.{IsSentBeside, data_of_poll, data_poll_carries, data_poll_gives}
-use Rattle.sctp_assoc.proofs.PolledSteps.{data_poll_stays}
+use Rattle.sctp_assoc.proofs.PolledSteps.{data_after_stays, data_poll_stays}
 use Rattle.sctp_assoc.proofs.QuietRequests.{none_requested, own_stays}
-use Rattle.sctp_assoc.proofs.RequestsGiven.{beside_requests, parts_left, requests_of, requests_said}
+use Rattle.sctp_assoc.proofs.RequestsGiven.{beside_requests, parts_left, requests_of, requests_said, requests_sent}
+use Rattle.sctp_assoc.proofs.RequestsGiven.{sent_behind_data}
 use Rattle.sctp_assoc.proofs.RequestsOver.{control_over, requested_over}
 use Rattle.sctp_assoc.proofs.RequestsReadAgain.{requests_again_if}
 use Rattle.sctp_assoc.proofs.WhatCame.{same_held}
 
 abbrev polled_if : Bool → Shown → ℕ → Shown × List (List ℕ)
-polled_if c a now = if c then forward_after (ack_after (requests_after (data_polled a now))) else (a, [])
+polled_if c a now = if c then forward_after (ack_after (requests_after (data_after a now))) else (a, [])
 
 ack_leads_if : (due : Bool) (b : Shown) (h : History) → Binds b h
     → Leads (if due then Act.Reported ∷ [] else []) b h (acked_if due b).0 h
@@ -158,7 +162,7 @@ exchange_behind first y =
 -- the packets of DATA, of the requests, of the acknowledgement and of FORWARD TSN
 pub packets_said : (x : Shown × List (List ChunkPayloadData)) (a : Shown) → IsSentBeside a x.0
     → (forward_after (ack_after (requests_after x))).1
-    ≡ datagrams_of (header_of a.handshake) x.1 ++ requests_given (header_of a.handshake) (requests_of x.0)
+    ≡ datagrams_of (header_of a.handshake) x.1 ++ requests_given (header_of a.handshake) (requests_sent x.0)
     ++ acks_given a
     ++ (if gives_forward x.0.sender then packet_bytes (header_of a.handshake) (forward_chunk x.0) else [])
 packets_said (b, bundles) a same =
@@ -169,7 +173,7 @@ packets_said (b, bundles) a same =
     let handshake : acked.0.handshake ≡ b.handshake = (ack_sender y).1 ∙ rest.handshake in
     let acks : acked.1 ≡ acks_given a = ack_said y ∙ (beside_requests a b y same rest).acks in
     let first = datagrams_of (header_of b.handshake) bundles in
-    let requests = requests_given (header_of b.handshake) (requests_of b) in
+    let requests = requests_given (header_of b.handshake) (requests_sent b) in
     ap (λ (z : Shown × List (List ℕ)). z.1) (exchange_behind first (requests_polled b))
     ∙ both_second (first ++ (requests_polled b).1 ++ acked.1) (forward_polled acked.0)
     ∙ ap (λ (z : List (List ℕ)). first ++ (requests_polled b).1 ++ acked.1 ++ z) (forward_said acked.0)
@@ -179,7 +183,7 @@ packets_said (b, bundles) a same =
     packet_bytes (header_of acked.0.handshake) (chunks.ForwardTsn (forward_of s)) else [])) sender
     ∙ ap (λ (k : Handshake). first ++ requests ++ acks_given a ++ (if gives_forward b.sender then
     packet_bytes (header_of k) (forward_chunk b) else [])) (handshake ∙ same.handshake)
-    ∙ ap (λ (k : Handshake). datagrams_of (header_of k) bundles ++ requests_given (header_of k) (requests_of b)
+    ∙ ap (λ (k : Handshake). datagrams_of (header_of k) bundles ++ requests_given (header_of k) (requests_sent b)
     ++ acks_given a ++ (if gives_forward b.sender then
     packet_bytes (header_of a.handshake) (forward_chunk b) else [])) same.handshake
 
@@ -212,10 +216,11 @@ poll_of x xs a h given same binds gives =
     (sym (after_is x))
     (leads_on (xs ++ acts_of_ack a) (acts_of_forwarding (gives_forward x.0.sender)) acked forward)
 
--- what the packets of DATA carry that a poll gives in a state that is Established or not
+-- what the packets of DATA carry that a poll gives in a state in which DATA is exchanged or not
 abbrev bundles_if : Bool → Shown → ℕ → List (List ChunkPayloadData)
 bundles_if c a now = if c then (data_polled a now).1 else []
 
+-- and the requests to reset streams behind them, in Established or not
 abbrev requests_if : Bool → Shown → ℕ → List ParamOutgoingResetRequest
 requests_if c a now = if c then requests_of (data_polled a now).0 else []
 
@@ -229,7 +234,7 @@ acts_if c a now = if c then acts_of_data_poll a now ++ acts_of_ack a ++ acts_of_
 module _ (a : Shown) (now : ℕ) (h : History) (binds : Binds a h) where
   polls_if : (c : Bool) → Leads (acts_if c a now) a h (polled_if c a now).0 h
   polls_if true =
-      poll_of (data_polled a now) (acts_of_data_poll a now) a h (data_of_poll a now) (data_poll_stays a now) binds
+      poll_of (data_after a now) (acts_of_data_poll a now) a h (data_of_poll a now) (data_after_stays a now) binds
       (data_poll_gives a now h binds.first binds.marked)
   polls_if false = leads_nowhere a a h binds refl refl
 
@@ -243,9 +248,9 @@ module _ (a : Shown) (now : ℕ) (h : History) (binds : Binds a h) where
       (data_poll_gives a now h binds.first binds.marked)))
   joined_if false = refl
 
-  exchange_leads : Leads (acts_of_poll a now) a h (exchange_polled a now).0 h
+  pub exchange_leads : Leads (acts_of_exchange a now) a h (exchange_polled a now).0 h
   unfolding exchange_polled
-  exchange_leads = polls_if (is_established a.state)
+  exchange_leads = polls_if (exchanges_data a.state)
 
 -- the FORWARD TSN after a poll is that of what is in flight once DATA was selected
 forward_of_after : (x : Shown × List (List ChunkPayloadData))
@@ -258,23 +263,28 @@ forward_of_after x =
 said_if : (c : Bool) (a : Shown) (now : ℕ)
     → (polled_if c a now).1
     ≡ (if c then datagrams_of (header_of a.handshake) (bundles_if c a now)
-    ++ requests_given (header_of a.handshake) (requests_if c a now) ++ acks_given a
+    ++ requests_given (header_of a.handshake) (requests_if (is_established a.state) a now) ++ acks_given a
     ++ (if forwards_if c a now then packet_bytes (header_of a.handshake) (forward_chunk (polled_if c a now).0) else [])
     else [])
 said_if true a now =
-    packets_said (data_polled a now) a (data_poll_stays a now)
-    ∙ ap (λ (z : Chunk). datagrams_of (header_of a.handshake) (data_polled a now).1
-    ++ requests_given (header_of a.handshake) (requests_of (data_polled a now).0) ++ acks_given a
-    ++ (if gives_forward (data_polled a now).0.sender then packet_bytes (header_of a.handshake) z else []))
-    (sym (forward_of_after (data_polled a now)))
+    let header = header_of a.handshake in
+    let gives = gives_forward (data_polled a now).0.sender in
+    packets_said (data_after a now) a (data_after_stays a now)
+    ∙ ap (λ (requests : List ParamOutgoingResetRequest). datagrams_of header (data_polled a now).1
+    ++ requests_given header requests ++ acks_given a
+    ++ (if gives then packet_bytes header (forward_chunk (data_polled a now).0) else [])) (sent_behind_data a now)
+    ∙ ap (λ (z : Chunk). datagrams_of header (data_polled a now).1
+    ++ requests_given header (requests_if (is_established a.state) a now) ++ acks_given a
+    ++ (if gives then packet_bytes header z else []))
+    (sym (forward_of_after (data_after a now)))
 said_if false a now = refl
 
 exchange_said : (a : Shown) (now : ℕ)
     → (exchange_polled a now).1
-    ≡ exchange_given a (bundles_if (is_established a.state) a now) (requests_if (is_established a.state) a now)
+    ≡ exchange_given a (bundles_if (exchanges_data a.state) a now) (requests_if (is_established a.state) a now)
     (forwards_of_poll a now) (exchange_polled a now).0
 unfolding exchange_polled
-exchange_said a now = said_if (is_established a.state) a now
+exchange_said a now = said_if (exchanges_data a.state) a now
 
 -- and each is read again
 data_again_if : (c : Bool) (a : Shown) (now : ℕ) → c ≡ true
@@ -294,19 +304,19 @@ forward_again_if true a now again e =
     let header : header_of (ack_polled b).0.handshake ≡ header_of a.handshake =
     ap header_of (stays.1 ∙ (data_poll_stays a now).handshake) in
     let chunk : forward_chunk (ack_polled b).0
-    ≡ forward_chunk (forward_after (ack_after (requests_after (data_polled a now)))).0 =
-    ap (λ (s : Sender). chunks.ForwardTsn (forward_of s)) stays.0 ∙ sym (forward_of_after (data_polled a now)) in
+    ≡ forward_chunk (forward_after (ack_after (requests_after (data_after a now)))).0 =
+    ap (λ (s : Sender). chunks.ForwardTsn (forward_of s)) stays.0 ∙ sym (forward_of_after (data_after a now)) in
     subst (λ (k : CommonHeader).
-    IsReadAgain k (forward_chunk (forward_after (ack_after (requests_after (data_polled a now)))).0)) header
+    IsReadAgain k (forward_chunk (forward_after (ack_after (requests_after (data_after a now)))).0)) header
     (subst (IsReadAgain (header_of (ack_polled b).0.handshake)) chunk (again refl due))
 
 forward_again : (a : Shown) (now : ℕ) → PollIsReadAgain a now → forwards_of_poll a now ≡ true
     → IsReadAgain (header_of a.handshake) (forward_chunk (exchange_polled a now).0)
 unfolding exchange_polled
-forward_again a now again e = forward_again_if (is_established a.state) a now (λ c. (again c).2) e
+forward_again a now again e = forward_again_if (exchanges_data a.state) a now (λ c. (again c).2) e
 
 -- the timer of a request to reset streams changes nothing that the directions see
-beside_timer : (xs : List Act) (a b : Shown) (now : ℕ) (h k : History) → Leads xs a h b k
+pub beside_timer : (xs : List Act) (a b : Shown) (now : ℕ) (h k : History) → Leads xs a h b k
     → Leads xs a h (with_reconfig_run b now) k
 beside_timer xs a b now h k m =
     let rest = reconfig_run_leaves b now in
@@ -314,15 +324,15 @@ beside_timer xs a b now h k m =
     (ap past_of rest.receiver) m
 
 -- nor do the requests of this side, and what waits beside DATA
-beside_control : (xs : List Act) (a b c : Shown) (h k : History) (own : OwnView) (control : List Control)
+pub beside_control : (xs : List Act) (a b c : Shown) (h k : History) (own : OwnView) (control : List Control)
     → c ≡ with_own_control (without_control a) own control → Leads xs c h b k → Leads xs a h b k
 beside_control xs a b c h k own control e m =
     let n = subst (λ (z : Shown). Leads xs z h b k) e m in
     record { can = n.can; there = n.there; binds = n.binds }
 
 -- what a poll gives and does rests on none of that
-acts_apart : (a : Shown) (own : OwnView) (control : List Control) (now : ℕ)
-    → acts_of_poll (with_own_control (without_control a) own control) now ≡ acts_of_poll a now
+pub acts_apart : (a : Shown) (own : OwnView) (control : List Control) (now : ℕ)
+    → acts_of_exchange (with_own_control (without_control a) own control) now ≡ acts_of_exchange a now
 unfolding data_polled
 acts_apart a own control now = refl
 
@@ -338,7 +348,7 @@ module _ (a : Shown) (own : OwnView) (control : List Control) (now : ℕ) (h : H
     (own_over : (over : ℕ → Bool) → OwnOver over a.resets.own → OwnOver over own)
   where
     polls_with : (b : Shown) → b ≡ with_own_control (without_control a) own control → PollRequestsReadAgain b now
-        → Polls (acts_of_poll b now) (forwards_of_poll b now) a h (with_reconfig_run (exchange_polled b now).0 now)
+        → Polls (acts_of_exchange b now) (forwards_of_poll b now) a h (with_reconfig_run (exchange_polled b now).0 now)
         (given ++ (exchange_polled b now).1)
     polls_with b e requests_again =
         let bound : Binds (with_own_control (without_control a) own control) h = record {
@@ -351,24 +361,24 @@ module _ (a : Shown) (own : OwnView) (control : List Control) (now : ℕ) (h : H
         let same_parts : parts b h ≡ parts a h = ap (λ (z : Shown). parts z h) e in
         let said_again : PollIsReadAgain b now =
         subst (λ (z : Shown). PollIsReadAgain z now) (sym e) (again_with (without_control a) own control now again) in
-        let established : is_established b.state ≡ is_established a.state =
-        ap (λ (z : Shown). is_established z.state) e in
+        let exchanges : exchanges_data b.state ≡ exchanges_data a.state =
+        ap (λ (z : Shown). exchanges_data z.state) e in
         let header : header_of b.handshake ≡ header_of a.handshake = ap (λ (z : Shown). header_of z.handshake) e in
         let after = (exchange_polled b now).0 in
         let last = with_reconfig_run after now in
         let chunk : forward_chunk after ≡ forward_chunk last =
         ap (λ (s : Sender). chunks.ForwardTsn (forward_of s)) (sym (reconfig_run_leaves after now).sender) in
-        let bundles = bundles_if (is_established b.state) b now in
+        let bundles = bundles_if (exchanges_data b.state) b now in
         let requests = requests_if (is_established b.state) b now in
         let forwards = forwards_of_poll b now in
         record {
           leads =
-              beside_control (acts_of_poll b now) a last b h h own control e
-              (beside_timer (acts_of_poll b now) b after now h h (exchange_leads b now h stands));
+              beside_control (acts_of_exchange b now) a last b h h own control e
+              (beside_timer (acts_of_exchange b now) b after now h h (exchange_leads b now h stands));
           bundles = bundles;
           joined =
-              joined_if b now h stands (is_established b.state)
-              ∙ ap (λ (p : Parts). filter data_fits (all_data_given (acts_of_poll b now) p)) same_parts;
+              joined_if b now h stands (exchanges_data b.state)
+              ∙ ap (λ (p : Parts). filter data_fits (all_data_given (acts_of_exchange b now) p)) same_parts;
           requests = requests;
           quiet = λ asks_nothing.
               none_requested (is_established b.state) b now
@@ -379,60 +389,103 @@ module _ (a : Shown) (own : OwnView) (control : List Control) (now : ℕ) (h : H
           requests_again =
               subst (λ (k : CommonHeader). AreRequestsReadAgain k requests) header
               (requests_again_if (is_established b.state) b now requests_again);
+          ending = [];
+          ending_is = tt;
           said =
               ap (λ (z : List (List ℕ)). z ++ (exchange_polled b now).1) given_is
               ∙ ap (λ (z : List (List ℕ)). (control_polled a).1 ++ z)
               (exchange_said b now
               ∙ ap (λ (z : Shown). exchange_given z bundles requests forwards after) e
-              ∙ ap (λ (z : Chunk). if is_established a.state then
+              ∙ ap (λ (z : Chunk). if exchanges_data a.state then
               datagrams_of (header_of a.handshake) bundles ++ requests_given (header_of a.handshake) requests
-              ++ acks_given a ++ (if forwards then packet_bytes (header_of a.handshake) z else []) else []) chunk);
+              ++ acks_given a ++ (if forwards then packet_bytes (header_of a.handshake) z else []) else []) chunk)
+              ∙ sym (append-nil ((control_polled a).1 ++ exchange_given a bundles requests forwards last));
           data_again = λ c.
               subst (λ (k : CommonHeader). AreReadAgain k bundles) header
-              (data_again_if (is_established b.state) b now (established ∙ c) (said_again (established ∙ c)).0);
+              (data_again_if (exchanges_data b.state) b now (exchanges ∙ c) (said_again (exchanges ∙ c)).0);
           ack_again = λ c.
               (data_poll_stays (without_control a) now).again (again c).1;
           forward_again = λ c.
               subst (λ (z : Chunk). IsReadAgain (header_of a.handshake) z) chunk
               (subst (λ (k : CommonHeader). IsReadAgain k (forward_chunk after)) header
               (forward_again b now said_again c));
+          ending_again = tt;
         }
 
-polls : (a : Shown) (now : ℕ) (h : History) → PollIsReadAgain (without_control a) now
+-- in front of the chunks of a graceful end
+open_polls : (a : Shown) (now : ℕ) (h : History) → PollIsReadAgain (without_control a) now
     → PollRequestsReadAgain (control_polled a).0 now → Binds a h
-    → Polls (acts_of_poll a now) (forwards_of_poll a now) a h (polled a now).0 (polled a now).1
-polls a now h again requests_again binds =
+    → Polls (acts_of_exchange a now) (forwards_of_poll a now) a h (open_polled a now).0 (open_polled a now).1
+open_polls a now h again requests_again binds =
     let b : Shown = (control_polled a).0 in
     let own = b.resets.own in
     let control = b.control in
     let e = control_changes a in
     let given = (control_polled a).1 in
     let after = exchange_polled b now in
-    let acts : acts_of_poll b now ≡ acts_of_poll a now =
-    ap (λ (z : Shown). acts_of_poll z now) e ∙ acts_apart a own control now in
+    let acts : acts_of_exchange b now ≡ acts_of_exchange a now =
+    ap (λ (z : Shown). acts_of_exchange z now) e ∙ acts_apart a own control now in
     let forwards : forwards_of_poll b now ≡ forwards_of_poll a now =
     ap (λ (z : Shown). forwards_of_poll z now) e ∙ forwards_apart a own control now in
     let here =
     polls_with a own control now h given refl again binds (own_stays a) (λ over w. control_over over a w) b e
     requests_again in
-    let first : (polled a now).0 ≡ with_reconfig_run after.0 now =
+    let first : (open_polled a now).0 ≡ with_reconfig_run after.0 now =
     ap (λ (z : Shown). with_reconfig_run z now) (both_first given after) in
-    let second : (polled a now).1 ≡ given ++ after.1 = both_second given after in
-    subst (λ (c : Shown). Polls (acts_of_poll a now) (forwards_of_poll a now) a h c (polled a now).1) (sym first)
-    (subst (λ (z : List (List ℕ)). Polls (acts_of_poll a now) (forwards_of_poll a now) a h
+    let second : (open_polled a now).1 ≡ given ++ after.1 = both_second given after in
+    subst (λ (c : Shown). Polls (acts_of_exchange a now) (forwards_of_poll a now) a h c (open_polled a now).1)
+    (sym first)
+    (subst (λ (z : List (List ℕ)). Polls (acts_of_exchange a now) (forwards_of_poll a now) a h
     (with_reconfig_run after.0 now) z) (sym second)
-    (subst (λ (f : Bool). Polls (acts_of_poll a now) f a h (with_reconfig_run after.0 now) (given ++ after.1)) forwards
+    (subst (λ (f : Bool). Polls (acts_of_exchange a now) f a h (with_reconfig_run after.0 now) (given ++ after.1))
+    forwards
     (subst (λ (xs : List Act). Polls xs (forwards_of_poll b now) a h (with_reconfig_run after.0 now)
     (given ++ after.1)) acts here)))
 
+-- all of that leaves the handshake
+
+handshake_if : (c : Bool) (a : Shown) (now : ℕ) → (polled_if c a now).0.handshake ≡ a.handshake
+unfolding forward_polled
+handshake_if true a now =
+    let x = data_after a now in
+    ap (λ (z : Shown). z.handshake) (after_is x) ∙ (ack_sender (requests_polled x.0).0).1
+    ∙ (requests_leave x.0).handshake ∙ (data_after_stays a now).handshake
+handshake_if false a now = refl
+
+exchange_handshake : (a : Shown) (now : ℕ) → (exchange_polled a now).0.handshake ≡ a.handshake
+unfolding exchange_polled
+exchange_handshake a now = handshake_if (exchanges_data a.state) a now
+
+open_handshake : (a : Shown) (now : ℕ) → (open_polled a now).0.handshake ≡ a.handshake
+open_handshake a now =
+    let b : Shown = (control_polled a).0 in
+    let after = exchange_polled b now in
+    ap (λ (z : Shown). (with_reconfig_run z now).handshake) (both_first (control_polled a).1 after)
+    ∙ (reconfig_run_leaves after.0 now).handshake ∙ exchange_handshake b now
+    ∙ ap (λ (z : Shown). z.handshake) (control_changes a)
+
+polls : (a : Shown) (now : ℕ) (h : History) → PollIsReadAgain (without_control a) now
+    → PollRequestsReadAgain (control_polled a).0 now → ShutdownIsReadAgain (open_polled a now).0 → Binds a h
+    → Polls (acts_of_poll a now) (forwards_of_poll a now) a h (polled a now).0 (polled a now).1
+polls a now h again requests_again ending_again binds =
+    let b : Shown = (open_polled a now).0 in
+    let packets = (open_polled a now).1 in
+    let ending = shutdown_polled b now in
+    let here : Polls (acts_of_poll a now) (forwards_of_poll a now) a h ending.0 (packets ++ ending.1) =
+    polls_ending (open_polls a now h again requests_again binds) now (open_handshake a now) ending_again in
+    subst (λ (c : Shown). Polls (acts_of_poll a now) (forwards_of_poll a now) a h c (polled a now).1)
+    (sym (both_first packets ending))
+    (subst (λ (z : List (List ℕ)). Polls (acts_of_poll a now) (forwards_of_poll a now) a h ending.0 z)
+    (sym (both_second packets ending)) here)
+
 pub polls_on : (a b : Shown) (now : ℕ) (packets : List (List ℕ)) → polled a now ≡ (b, packets)
     → AreControlReadAgain a.control → ControlRequestsReadAgain a → PollIsReadAgain (without_control a) now
-    → PollRequestsReadAgain (control_polled a).0 now
+    → PollRequestsReadAgain (control_polled a).0 now → ShutdownIsReadAgain (open_polled a now).0
     → PollsOn (acts_of_poll a now) (forwards_of_poll a now) a b packets
-polls_on a b now packets e waiting in_front again requests_again =
+polls_on a b now packets e waiting in_front again requests_again ending_again =
     rw (ap (λ (x : Shown × List (List ℕ)). x.0) (sym e), ap (λ (x : Shown × List (List ℕ)). x.1) (sym e))
     (record {
       control_again = waiting;
       control_said = control_is_said a in_front;
-      from = λ h binds. polls a now h again requests_again binds;
+      from = λ h binds. polls a now h again requests_again ending_again binds;
     })

@@ -10,6 +10,7 @@ use Rattle.sctp_reset_requests.specs.Own.{with_active, with_repeat}
 use Rattle.sctp_resets.specs.Resets.{ResetsView, request_again, request_asked, request_sent, with_asked, with_own}
 use Rattle.sctp_assoc.specs.declared.control.Control.{Control}
 use Rattle.sctp_assoc.specs.declared.control.Control.TheVariants as controls
+use Rattle.sctp_assoc.specs.Calls.{is_established}
 use Rattle.sctp_assoc.specs.Gather.{after_both, control_polled, data_polled, first_request_behind, first_request_polled}
 use Rattle.sctp_assoc.specs.Gather.{listed, packet_bytes, repeat_polled, request_made, requests_of, requests_polled}
 use Rattle.sctp_assoc.specs.Gather.{with_control_given}
@@ -17,6 +18,7 @@ use Rattle.sctp_assoc.specs.Gather.{with_request_again, with_request_asked, with
 use Rattle.sctp_assoc.specs.Gather.{without_control}
 use Rattle.sctp_assoc.specs.Happened.{AsksForNothing}
 use Rattle.sctp_assoc.specs.Shown.{Shown}
+use Rattle.sctp_assoc.proofs.PartsOfPolls.{requests_if}
 
 nothing_asked_for : (ids : List ℕ) (last : Option ℕ) (o : OwnView) → ids ≡ [] → asked_for ids last o ≡ (o, false)
 nothing_asked_for ids None o e = refl
@@ -58,16 +60,21 @@ first_polled_if : (none : Bool) (a : Shown) → request_sent a.resets a.sender.q
 first_polled_if true a e = refl
 first_polled_if false a e = ap (with_request_sent a) e
 
-pub no_request_is_polled : (a : Shown) → a.resets.own.waiting ≡ [] → a.resets.own.queued ≡ []
-    → a.resets.own.active ≡ None → requests_polled a ≡ (a, [])
-unfolding requests_polled
-no_request_is_polled a waiting queued active =
+quiet_if : (established : Bool) (a : Shown) → a.resets.own.waiting ≡ [] → a.resets.own.queued ≡ []
+    → a.resets.own.active ≡ None → requests_if established a ≡ (a, [])
+quiet_if false a waiting queued active = refl
+quiet_if true a waiting queued active =
     ap (λ (x : ResetsView × Option ParamOutgoingResetRequest). first_request_behind (with_request_again a x))
     (no_request_goes_again a.resets active)
     ∙ ap (λ (x : ResetsView × Bool). after_both [] (first_request_polled (with_request_asked a x)))
     (no_request_is_asked a.resets a.sender.queue waiting)
     ∙ ap (after_both [])
     (first_polled_if (length a.control == 0) a (no_request_is_sent a.resets a.sender.queue queued))
+
+pub no_request_is_polled : (a : Shown) → a.resets.own.waiting ≡ [] → a.resets.own.queued ≡ []
+    → a.resets.own.active ≡ None → requests_polled a ≡ (a, [])
+unfolding requests_polled
+no_request_is_polled a waiting queued active = quiet_if (is_established a.state) a waiting queued active
 
 -- none is listed
 

@@ -1,14 +1,17 @@
 -- The requests to reset streams that a poll gives, and what they leave for the rest of it.
-use Rattle.std.proofs.Common.{◌≡◌, refl, sym, ap, ◌∙◌, ℕ, Bool, true, false, ◌==◌, length}
+use Rattle.std.proofs.Common.{◌≡◌, refl, sym, ap, ◌∙◌, ℕ, Bool, true, false, ◌==◌, if◌then◌else◌, length}
 use Rattle.std.proofs.Common.{List, [], ◌∷◌, ◌++◌, Option, Some, None}
 use Rattle.std.proofs.lemmas.List.{append-nil, append_assoc}
 use Rattle.sctp_wire_types.specs.declared.packet.CommonHeader.{CommonHeader}
 use Rattle.sctp_wire_types.specs.declared.param.Param.TheVariants as params
 use Rattle.sctp_wire_types.specs.declared.param.ParamOutgoingResetRequest.{ParamOutgoingResetRequest}
+use Rattle.sctp_parts.specs.declared.state.AssociationState.{AssociationState}
 use Rattle.sctp_inbound.specs.Handshake.{header_of}
 use Rattle.sctp_reset_requests.specs.Own.{OwnView, repeated, sent_first}
 use Rattle.sctp_resets.specs.Resets.{with_own}
 use Rattle.sctp_directions.specs.Acts.{History}
+use Rattle.sctp_assoc.specs.Calls.{is_established}
+use Rattle.sctp_assoc.specs.Gather.{data_after, data_polled}
 use Rattle.sctp_assoc.specs.Gather.{first_request_behind, first_request_polled, packet_bytes, repeat_polled}
 use Rattle.sctp_assoc.specs.Gather.{first_listed, listed, request_made, request_packet, requests_polled}
 pub use Rattle.sctp_assoc.specs.Gather.{requests_of}
@@ -18,9 +21,12 @@ use Rattle.sctp_assoc.specs.Happened.{acks_given, acts_of_ack, requests_given}
 use Rattle.sctp_assoc.specs.Leads.{parts}
 use Rattle.sctp_assoc.specs.Resets.{reconfig_of}
 use Rattle.sctp_assoc.specs.Shown.{Shown}
+use Rattle.sctp_assoc.specs.Shutdown.{shutdown_continued}
+use Rattle.sctp_assoc.proofs.ContinuedShutdown.{continued_in_established, continued_is_established}
 use Rattle.sctp_assoc.proofs.PacketsReadAgain.{ack_again_before}
-use Rattle.sctp_assoc.proofs.PartsOfPolls.{LeavesTheRest, both_second, first_request_if, requests_made_leave}
-use Rattle.sctp_assoc.proofs.PolledSteps.{IsSentBeside}
+use Rattle.sctp_assoc.proofs.PartsOfPolls.{LeavesTheRest, both_second, first_request_if, requests_if}
+use Rattle.sctp_assoc.proofs.PartsOfPolls.{requests_made_leave}
+use Rattle.sctp_assoc.proofs.PolledSteps.{IsSentBeside, data_poll_state}
 
 given_join : (header : CommonHeader) (xs ys : List ParamOutgoingResetRequest)
     → requests_given header xs ++ requests_given header ys ≡ requests_given header (xs ++ ys)
@@ -64,12 +70,41 @@ behind_said (b, packets) header xs same said =
     ∙ ap (λ (z : List (List ℕ)). z ++ requests_given header (first_listed none c)) said
     ∙ given_join header xs (first_listed none c)
 
-pub requests_said : (a : Shown) → (requests_polled a).1 ≡ requests_given (header_of a.handshake) (requests_of a)
-unfolding requests_polled
-requests_said a =
+said_if : (established : Bool) (a : Shown)
+    → (requests_if established a).1
+    ≡ requests_given (header_of a.handshake) (if established then requests_of a else [])
+said_if true a =
     let again = repeated a.resets.own in
     behind_said (repeat_polled a) (header_of a.handshake) (listed again.1)
     (ap header_of (requests_made_leave a).handshake) (again_said a again.0 again.1)
+said_if false a = refl
+
+-- what goes out, in Established alone
+abbrev pub requests_sent : Shown → List ParamOutgoingResetRequest
+requests_sent a = if is_established a.state then requests_of a else []
+
+pub requests_said : (a : Shown) → (requests_polled a).1 ≡ requests_given (header_of a.handshake) (requests_sent a)
+unfolding requests_polled
+requests_said a = said_if (is_established a.state) a
+
+-- that a shutdown went on behind DATA changes nothing of it
+behind_if : (established : Bool) (a : Shown) → is_established a.state ≡ established
+    → (if established then requests_of (shutdown_continued a) else []) ≡ (if established then requests_of a else [])
+behind_if true a e = ap requests_of (continued_in_established a e)
+behind_if false a e = refl
+
+sent_behind : (a : Shown) → requests_sent (shutdown_continued a) ≡ requests_sent a
+sent_behind a =
+    ap (λ (e : Bool). if e then requests_of (shutdown_continued a) else []) (continued_is_established a)
+    ∙ behind_if (is_established a.state) a refl
+
+pub sent_behind_data : (a : Shown) (now : ℕ)
+    → requests_sent (data_after a now).0
+    ≡ (if is_established a.state then requests_of (data_polled a now).0 else [])
+sent_behind_data a now =
+    let b = (data_polled a now).0 in
+    sent_behind b ∙ ap (λ (state : AssociationState). if is_established state then requests_of b else [])
+    (data_poll_state a now)
 
 -- what the directions see stays
 pub parts_left : (b c : Shown) (h : History) → LeavesTheRest b c → parts c h ≡ parts b h

@@ -1,16 +1,20 @@
 -- The requests to reset streams that a poll gives are read as what they were made of.
 use Rattle.std.proofs.Common.{◌≡◌, refl, sym, ap, ◌∙◌, subst, ℕ, ◌==◌, length, List, []}
 use Rattle.std.proofs.Common.{Bool, true, false, if◌then◌else◌}
+use Rattle.std.proofs.lemmas.Bool.{false≢true}
 use Rattle.sctp_inbound.specs.declared.handshake.Handshake.{Handshake}
 use Rattle.sctp_inbound.specs.Handshake.{header_of}
 use Rattle.sctp_reset_requests.specs.Own.{repeated}
 use Rattle.sctp_resets.proofs.ListsOver.{all_appended}
+use Rattle.sctp_assoc.specs.Calls.{exchanges_data, is_established}
 use Rattle.sctp_assoc.specs.Gather.{AreRequestsReadAgain, IsRequestReadAgain, PollRequestsReadAgain, after_both}
-use Rattle.sctp_assoc.specs.Gather.{control_polled, data_polled, first_listed, listed, repeat_polled, request_made}
+use Rattle.sctp_assoc.specs.Gather.{control_polled, data_after, data_polled, first_listed, listed, repeat_polled}
+use Rattle.sctp_assoc.specs.Gather.{request_made}
 use Rattle.sctp_assoc.specs.Gather.{requests_of}
 use Rattle.sctp_assoc.specs.Shown.{Shown}
+use Rattle.sctp_assoc.proofs.ContinuedShutdown.{continued_in_established, established_exchanges}
 use Rattle.sctp_assoc.proofs.PartsOfPolls.{both_first, requests_made_leave}
-use Rattle.sctp_assoc.proofs.PolledSteps.{data_poll_stays}
+use Rattle.sctp_assoc.proofs.PolledSteps.{data_poll_state, data_poll_stays}
 
 -- the active one again, and behind it the oldest that was never sent
 pub both_again : (a b c : Shown) (before packets : List (List ℕ)) → after_both before (repeat_polled a) ≡ (b, packets)
@@ -30,13 +34,22 @@ both_again a b c before packets repeats made again first =
     (requests_made_leave a).handshake here)
 
 -- those behind DATA, as the state behind it says them
-pub data_requests_again : (a b : Shown) (now : ℕ) → (data_polled a now).0 ≡ b
-    → AreRequestsReadAgain (header_of b.handshake) (requests_of b)
-    → AreRequestsReadAgain (header_of a.handshake) (requests_of (data_polled a now).0)
-data_requests_again a b now left again =
-    subst (λ (k : Handshake). AreRequestsReadAgain (header_of k) (requests_of (data_polled a now).0))
-    (data_poll_stays a now).handshake
-    (subst (λ (z : Shown). AreRequestsReadAgain (header_of z.handshake) (requests_of z)) (sym left) again)
+pub data_requests_again : (a b : Shown) (now : ℕ) → (data_after a now).0 ≡ b
+    → (is_established b.state ≡ true → AreRequestsReadAgain (header_of b.handshake) (requests_of b))
+    → PollRequestsReadAgain a now
+data_requests_again a b now left again e =
+    let x = (data_polled a now).0 in
+    let established : is_established x.state ≡ true = ap is_established (data_poll_state a now) ∙ e in
+    let same : b ≡ x = sym left ∙ continued_in_established x established in
+    let here : is_established x.state ≡ true → AreRequestsReadAgain (header_of x.handshake) (requests_of x) =
+    subst (λ (z : Shown). is_established z.state ≡ true
+    → AreRequestsReadAgain (header_of z.handshake) (requests_of z)) same again in
+    subst (λ (k : Handshake). AreRequestsReadAgain (header_of k) (requests_of x)) (data_poll_stays a now).handshake
+    (here established)
+
+-- none goes out where no DATA is exchanged
+pub no_requests_again : (a : Shown) (now : ℕ) → exchanges_data a.state ≡ false → PollRequestsReadAgain a now
+no_requests_again a now e established = absurd (false≢true (sym e ∙ established_exchanges a.state established))
 
 -- and behind what waited in front of it
 pub requests_behind : (a b : Shown) (now : ℕ) (packets : List (List ℕ)) → control_polled a ≡ (b, packets)

@@ -16,10 +16,11 @@ use Rattle.sctp_outbound.specs.Forward.{forward_asked}
 use Rattle.sctp_outbound.specs.Sacks.{progress_of, sack_taken}
 use Rattle.sctp_outbound.specs.Sender.{sack_outcome, t3_after_sack}
 use Rattle.sctp_assoc.specs.declared.inbound.Flow.TheVariants as flows
-use Rattle.sctp_assoc.specs.Calls.{is_established}
+use Rattle.sctp_assoc.specs.Calls.{sends_data}
 use Rattle.sctp_assoc.specs.Chunks.{after_sack, counted_sack, on_sack, with_acknowledged}
 use Rattle.sctp_assoc.specs.Memory.{sack_takes_memory}
 use Rattle.sctp_assoc.specs.Shown.{Shown, uses_forward_tsn}
+use Rattle.sctp_assoc.specs.Shutdown.{shutdown_continued}
 
 pub some_mapped : (ids : List ℕ) → 0 < length ids → 0 < length (map low_event ids)
 some_mapped [] l = l
@@ -43,7 +44,7 @@ some_fell m n f g lacks =
 
 module _ (a : Shown) (cumulative_tsn_ack : ℕ) (blocks : List GapAckBlock) (window now : ℕ) (s : Sender) (e : Estimate)
     (m : StreamMap)
-    (established : is_established a.state ≡ true)
+    (sends : sends_data a.state ≡ true)
     (taken : sack_outcome a.sender cumulative_tsn_ack blocks ≡ outcomes.Taken)
     (is : sack_taken cumulative_tsn_ack blocks window now a.sender a.estimate a.streams ≡ (s, e, m))
   where
@@ -54,15 +55,21 @@ module _ (a : Shown) (cumulative_tsn_ack : ℕ) (blocks : List GapAckBlock) (win
         → queued ≡ a.events ++ map low_event ids → ids ≡ fallen a.streams m
         → on_sack a cumulative_tsn_ack blocks window trigger now
         ≡ (
-          record (counted_sack a) { sender = asked; estimate = e; streams = m; events = queued; timers = timers },
+          shutdown_continued (record (counted_sack a) {
+            sender = asked;
+            estimate = e;
+            streams = m;
+            events = queued;
+            timers = timers;
+          }),
           flows.Next trigger,
         )
     unfolding on_sack
     taken_leaves trigger asked timers queued ids due timed told those =
-        rw (established, taken, due, timed, told, those)
+        rw (sends, taken, due, timed, told, those)
         (ap (λ x. (
-          with_acknowledged (counted_sack a)
-              (progress_of a.sender cumulative_tsn_ack blocks) now x,
+          shutdown_continued (with_acknowledged (counted_sack a)
+              (progress_of a.sender cumulative_tsn_ack blocks) now x),
           flows.Next trigger,
         ))
         is)
@@ -71,4 +78,4 @@ module _ (a : Shown) (cumulative_tsn_ack : ℕ) (blocks : List GapAckBlock) (win
     taken_takes some =
         let there : (after_sack a cumulative_tsn_ack blocks window now).streams ≡ m =
         ap (λ x. (with_acknowledged a (progress_of a.sender cumulative_tsn_ack blocks) now x).streams) is in
-        rw (established, taken, there) (positive _ (some_mapped (fallen a.streams m) some))
+        rw (sends, taken, there) (positive _ (some_mapped (fallen a.streams m) some))

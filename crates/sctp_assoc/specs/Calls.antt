@@ -49,6 +49,28 @@ is_established states.ShutdownPending = false
 is_established states.ShutdownReceived = false
 is_established states.ShutdownSent = false
 
+-- DATA of this side may wait or be unacknowledged: new DATA is sent then, and SACKs are read (RFC 4960 section 9.2)
+abbrev pub sends_data : AssociationState → Bool
+sends_data states.Closed = false
+sends_data states.CookieWait = false
+sends_data states.CookieEchoed = false
+sends_data states.Established = true
+sends_data states.ShutdownAckSent = false
+sends_data states.ShutdownPending = true
+sends_data states.ShutdownReceived = true
+sends_data states.ShutdownSent = false
+
+-- DATA may come: what came is acknowledged then, and what is in flight goes again
+abbrev pub exchanges_data : AssociationState → Bool
+exchanges_data states.Closed = false
+exchanges_data states.CookieWait = false
+exchanges_data states.CookieEchoed = false
+exchanges_data states.Established = true
+exchanges_data states.ShutdownAckSent = false
+exchanges_data states.ShutdownPending = true
+exchanges_data states.ShutdownReceived = true
+exchanges_data states.ShutdownSent = true
+
 -- Closed, CookieWait or CookieEchoed: an INIT is answered then
 abbrev pub is_beginning : AssociationState → Bool
 is_beginning states.Closed = true

@@ -33,11 +33,12 @@ use Rattle.sctp_outbound.specs.Sender.{sack_outcome, t3_after_sack}
 use Rattle.sctp_resets.specs.Resets.{is_hidden, refusal_of, with_deferred}
 use Rattle.sctp_assoc.specs.declared.inbound.Flow.{Flow}
 use Rattle.sctp_assoc.specs.declared.inbound.Flow.TheVariants as flows
-use Rattle.sctp_assoc.specs.Calls.{is_established}
+use Rattle.sctp_assoc.specs.Calls.{sends_data}
 use Rattle.sctp_assoc.specs.Closing.{closed_by, exhausted, is_exhausted}
 use Rattle.sctp_assoc.specs.Handshake.{on_cookie_ack, on_cookie_echo, on_heartbeat, on_init, on_init_ack}
 use Rattle.sctp_assoc.specs.Resets.{on_reconfig, settled, skips_applied_of}
 use Rattle.sctp_assoc.specs.Shown.{Shown, all_waiting, uses_forward_tsn}
+use Rattle.sctp_assoc.specs.Shutdown.{on_shutdown, on_shutdown_ack, on_shutdown_complete, shutdown_continued}
 use Rattle.sctp_assoc.specs.Skipping.{on_forward, skips_of}
 
 -- DATA
@@ -164,13 +165,14 @@ on_counted_sack outcomes.NotInFlight a cumulative_tsn_ack blocks window trigger 
 on_counted_sack outcomes.NamesTheUnsent a cumulative_tsn_ack blocks window trigger now =
     (a, flows.Fault errors.ErrTsnRequestNotExist)
 on_counted_sack outcomes.Taken a cumulative_tsn_ack blocks window trigger now =
-    (after_sack a cumulative_tsn_ack blocks window now, flows.Next trigger)
+    (shutdown_continued (after_sack a cumulative_tsn_ack blocks window now), flows.Next trigger)
 
--- a SACK counts in Established alone; one whose cumulative TSN ack is not in flight, or whose gap ack blocks name a TSN
--- that is not, is a fault
+-- a SACK counts while DATA of this side may be unacknowledged; one whose cumulative TSN ack is not in flight, or whose
+-- gap ack blocks name a TSN that is not, is a fault. Where it leaves nothing to send and nothing in flight, a shutdown
+-- that waited for that goes on
 unfoldable pub on_sack : Shown → ℕ → List GapAckBlock → ℕ → AckTrigger → ℕ → Shown × Flow
 on_sack a cumulative_tsn_ack blocks window trigger now =
-    if is_established a.state then
+    if sends_data a.state then
     on_counted_sack (sack_outcome a.sender cumulative_tsn_ack blocks) (counted_sack a) cumulative_tsn_ack blocks window
     trigger now
     else (a, flows.Next trigger)
@@ -191,6 +193,9 @@ dispatched a header (chunks.ForwardTsn forward) trigger now =
 dispatched a header (chunks.IForwardTsn forward) trigger now =
     on_forward a forward.new_cumulative_tsn (skips_of forward.entries) trigger now
 dispatched a header (chunks.Reconfig reconfig) trigger now = on_reconfig a reconfig trigger
+dispatched a header (chunks.Shutdown cumulative_tsn_ack) trigger now = on_shutdown a trigger
+dispatched a header chunks.ShutdownAck trigger now = on_shutdown_ack a trigger
+dispatched a header chunks.ShutdownComplete trigger now = (a, on_shutdown_complete a.state trigger)
 dispatched a header (chunks.Abort abort) trigger now = (a, flows.Fault errors.ErrAbortChunk)
 dispatched a header (chunks.Error error) trigger now = (a, flows.Fault errors.ErrAbortChunk)
 dispatched a header chunk trigger now = (a, flows.Fault errors.ErrChunkTypeUnhandled)
@@ -209,6 +214,7 @@ on_chunk a header chunk trigger now = checked_first (checked_chunk chunk) a head
 abbrev pub goes_on : Shown × Flow → (Shown → AckTrigger → Shown) → Shown
 goes_on (a, flows.Next trigger) more = more a trigger
 goes_on (a, flows.Fault fault) more = closed_by a reasons.AssociationClosed
+goes_on (a, flows.Closed) more = closed_by a reasons.AssociationClosed
 goes_on (a, flows.Exhausted) more = exhausted a
 
 -- the acknowledgement that a packet's chunks asked for is arranged at its end
@@ -218,7 +224,8 @@ ended a trigger now = record a {
   timers = ended_packet_timers a.timers trigger now;
 }
 
--- the chunks in order; a fault ends the packet and closes an open association, and so does an exhausted receive buffer
+-- the chunks in order; a fault ends the packet and closes an open association, and so do an exhausted receive buffer and
+-- the end of a shutdown
 abbrev pub after_chunks : CommonHeader → List Chunk → Shown → AckTrigger → ℕ → Shown
 after_chunks header [] a trigger now = ended a trigger now
 after_chunks header (c ∷ cs) a trigger now =

@@ -27,6 +27,7 @@ use Rattle.sctp_resets.specs.Resets.{met_peer, no_resets}
 use Rattle.sctp_wire_types.specs.declared.config.ServerConfig.{ServerConfig}
 use Rattle.sctp_assoc.specs.Handshake.{sends_init}
 use Rattle.sctp_assoc.specs.Shown.{Shown}
+use Rattle.sctp_assoc.specs.Shutdown.{nothing_due}
 
 -- the token of a side with this configuration: the INIT that it would send
 abbrev pub token_of : Settings → ℕ → ℕ → ChunkInit
@@ -57,7 +58,9 @@ fresh_association config size remote_addr local_ip side state handshake peer_las
   to_accept = [];
   events = [];
   handshake_fault = None;
+  endpoint_event = None;
   control = [];
+  shutdown_due = nothing_due;
   timers = stopped_timers config.max_init_retransmits config.max_data_retransmits config.rto_max_ms;
   estimate = initial_estimate config.rto_initial_ms config.rto_min_ms config.rto_max_ms;
   counts = no_counts;

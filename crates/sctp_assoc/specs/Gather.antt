@@ -1,6 +1,6 @@
 -- What a poll for packets gives, and in which order (RFC 4960 sections 6.1, 6.2 and 6.10).
 use Rattle.std.specs.Prelude.{◌≡◌, ℕ, Bool, true, false, List, [], ◌∷◌, ◌++◌, ◌&&◌, ◌||◌, if◌then◌else◌, length, map}
-use Rattle.std.specs.Prelude.{◌==◌, ◌-◌, ⊤, fold, is_some, nat_lt, take, Option, Some, None, Result, Ok, Err}
+use Rattle.std.specs.Prelude.{◌==◌, ◌-◌, ⊤, fold, not, is_some, nat_lt, take, Option, Some, None, Result, Ok, Err}
 use Rattle.std.specs.List.{AllByRecursion}
 use Rattle.sctp_wire_types.specs.declared.chunk.Chunk.{Chunk}
 use Rattle.sctp_wire_types.specs.declared.chunk.Chunk.TheVariants as chunks
@@ -18,8 +18,10 @@ use Rattle.sctp_wire.specs.Packets.{packet_at, packet_is_plain, written}
 use Rattle.sctp_parts.specs.declared.state.AckState.{AckState}
 use Rattle.sctp_parts.specs.declared.state.AckState.TheVariants as acks
 use Rattle.sctp_parts.specs.declared.timer.Timer.TheVariants as names
+use Rattle.sctp_parts.specs.State.{is_closing}
 use Rattle.sctp_parts.specs.Stats.{more_by}
 use Rattle.sctp_parts.specs.Timers.{Timers, restarted_if_stale}
+use Rattle.sctp_streams.specs.declared.event.AssociationError.TheVariants as reasons
 use Rattle.sctp_streams.specs.LowMarks.{low_event}
 use Rattle.sctp_streams.specs.Streams.{StreamMap}
 use Rattle.sctp_inbound.specs.Handshake.{header_of}
@@ -36,10 +38,12 @@ use Rattle.sctp_outbound_queue.specs.declared.message.Retransmission.TheVariants
 use Rattle.sctp_assoc.specs.declared.control.ControlPacket.{ControlPacket}
 use Rattle.sctp_assoc.specs.declared.control.Control.{Control}
 use Rattle.sctp_assoc.specs.declared.control.Control.TheVariants as controls
-use Rattle.sctp_assoc.specs.Calls.{is_established}
+use Rattle.sctp_assoc.specs.Calls.{exchanges_data, is_established}
+use Rattle.sctp_assoc.specs.Closing.{closed_by}
 use Rattle.sctp_assoc.specs.Control.{asking}
 use Rattle.sctp_assoc.specs.Resets.{asking_if, reconfig_of, with_reconfig_run}
 use Rattle.sctp_assoc.specs.Shown.{Shown, all_waiting, uses_forward_tsn}
+use Rattle.sctp_assoc.specs.Shutdown.{gives_shutdown, shutdown_ack_sent, shutdown_continued, shutdown_sent}
 
 -- a packet of one chunk
 abbrev pub single_chunk_packet : CommonHeader → Chunk → Packet
@@ -164,6 +168,10 @@ data_bundled a now =
 unfoldable pub data_polled : Shown → ℕ → Shown × List (List ChunkPayloadData)
 data_polled a now = (with_low_told (fell_in_poll a now) (new_polled a now), (data_bundled a now).done)
 
+-- behind DATA, a shutdown that waited for the last of it goes on where that was given up
+abbrev pub data_after : Shown → ℕ → Shown × List (List ChunkPayloadData)
+data_after a now = (shutdown_continued (data_polled a now).0, (data_polled a now).1)
+
 -- marked DATA goes out again, or is given up
 abbrev pub marks_give : Shown → Bool
 marks_give a = gives_up_before (uses_forward_tsn a) causes.Timer a.sender || nat_lt 0 (length (marks_sent a))
@@ -241,9 +249,9 @@ first_request_polled a =
 abbrev pub first_request_behind : Shown × List (List ℕ) → Shown × List (List ℕ)
 first_request_behind (a, packets) = after_both packets (first_request_polled (request_made a))
 
--- the requests of a poll behind its DATA
+-- the requests of a poll behind its DATA, in Established alone
 unfoldable pub requests_polled : Shown → Shown × List (List ℕ)
-requests_polled a = first_request_behind (repeat_polled a)
+requests_polled a = if is_established a.state then first_request_behind (repeat_polled a) else (a, [])
 
 -- a request, if there is one
 abbrev pub listed : Option ParamOutgoingResetRequest → List ParamOutgoingResetRequest
@@ -254,7 +262,7 @@ listed (Some request) = request ∷ []
 abbrev pub first_listed : Bool → Shown → List ParamOutgoingResetRequest
 first_listed none a = if none then [] else listed (sent_first a.resets.own a.sender.queue).1
 
--- what these say: the active request again, and the oldest that was never sent
+-- what these say in Established: the active request again, and the oldest that was never sent
 abbrev pub requests_of : Shown → List ParamOutgoingResetRequest
 requests_of a =
     (let b = request_made (repeat_polled a).0 in
@@ -301,10 +309,10 @@ with_control_given (a, packets) controls.OwnRequest =
 abbrev pub control_polled : Shown → Shown × List (List ℕ)
 control_polled a = fold with_control_given (without_control a, []) a.control
 
--- in Established DATA, then requests to reset streams, the acknowledgement, and FORWARD TSN
+-- while DATA is exchanged DATA, then in Established requests to reset streams, the acknowledgement, and FORWARD TSN
 unfoldable pub exchange_polled : Shown → ℕ → Shown × List (List ℕ)
 exchange_polled a now =
-    if is_established a.state then forward_after (ack_after (requests_after (data_polled a now))) else (a, [])
+    if exchanges_data a.state then forward_after (ack_after (requests_after (data_after a now))) else (a, [])
 
 abbrev pub exchange_after : Shown × List (List ℕ) → ℕ → Shown × List (List ℕ)
 exchange_after (a, packets) now = after_both packets (exchange_polled a now)
@@ -312,10 +320,47 @@ exchange_after (a, packets) now = after_both packets (exchange_polled a now)
 abbrev pub reconfig_run_after : Shown × List (List ℕ) → ℕ → Shown × List (List ℕ)
 reconfig_run_after (a, packets) now = (with_reconfig_run a now, packets)
 
--- what a poll leaves, and the packets that it gives: those that wait, and in Established DATA, then requests to reset
--- streams, the acknowledgement, and FORWARD TSN
+-- a chunk of a graceful end, in a packet of its own
+abbrev pub shutdown_packet : Shown → Chunk → List (List ℕ)
+shutdown_packet a chunk = packet_bytes (header_of a.handshake) chunk
+
+-- the first of them that is due, if one is, and in a shutdown alone: SHUTDOWN with the last TSN that came in order,
+-- SHUTDOWN ACK, or SHUTDOWN COMPLETE
+abbrev pub shutdown_chunks : Shown → List Chunk
+shutdown_chunks a =
+    if not (is_closing a.state) then [] else
+    if a.shutdown_due.shutdown then chunks.Shutdown a.receiver.peer_last_tsn ∷ [] else
+    if a.shutdown_due.shutdown_ack then chunks.ShutdownAck ∷ [] else
+    if a.shutdown_due.shutdown_complete then chunks.ShutdownComplete ∷ [] else []
+
+-- SHUTDOWN COMPLETE goes out, and closes this side
+abbrev pub with_complete_given : Shown → Shown × List (List ℕ)
+with_complete_given a = (
+  closed_by (record a { shutdown_due = (let due = a.shutdown_due in record due { shutdown_complete = false }) })
+      reasons.AssociationClosed,
+  shutdown_packet a chunks.ShutdownComplete,
+)
+
+-- that chunk goes out; from SHUTDOWN and from SHUTDOWN ACK the timer of the answer runs
+unfoldable pub shutdown_polled : Shown → ℕ → Shown × List (List ℕ)
+shutdown_polled a now =
+    if not (is_closing a.state) then (a, []) else
+    if a.shutdown_due.shutdown then
+    (shutdown_sent a now, shutdown_packet a (chunks.Shutdown a.receiver.peer_last_tsn)) else
+    if a.shutdown_due.shutdown_ack then (shutdown_ack_sent a now, shutdown_packet a chunks.ShutdownAck) else
+    if a.shutdown_due.shutdown_complete then with_complete_given a else (a, [])
+
+abbrev pub shutdown_after : Shown × List (List ℕ) → ℕ → Shown × List (List ℕ)
+shutdown_after (a, packets) now = after_both packets (shutdown_polled a now)
+
+-- what a poll leaves in front of the chunks of a graceful end, and the packets that it gives: those that wait, and while
+-- DATA is exchanged DATA, then in Established requests to reset streams, the acknowledgement, and FORWARD TSN
+abbrev pub open_polled : Shown → ℕ → Shown × List (List ℕ)
+open_polled a now = reconfig_run_after (exchange_after (control_polled a) now) now
+
+-- what it leaves, and the packets that it gives: those, and then in a shutdown the first of its chunks that is due
 abbrev pub polled : Shown → ℕ → Shown × List (List ℕ)
-polled a now = reconfig_run_after (exchange_after (control_polled a) now) now
+polled a now = shutdown_after (open_polled a now) now
 
 -- streams are to be reset, or a request for some has its place among what waits
 abbrev pub requests_wait : Shown → Bool
@@ -325,17 +370,20 @@ requests_wait a = nat_lt 0 (length a.resets.own.waiting) || nat_lt 0 (length a.c
 abbrev pub requests_give : Shown → Bool
 requests_give a = is_some a.resets.own.active || requests_wait a
 
--- the exchange of a poll has something to give: DATA goes out or is given up, streams are to be reset, or an
--- acknowledgement or FORWARD TSN is due
+-- the exchange of a poll has something to give: DATA goes out or is given up, in Established streams are to be reset, or
+-- an acknowledgement or FORWARD TSN is due
 abbrev pub exchange_gives : Shown → ℕ → Bool
 exchange_gives a now =
-    data_gives a now || requests_give (data_polled a now).0 || is_due a.receiver.ack_state
+    data_gives a now || (is_established a.state && requests_give (data_polled a now).0)
+    || is_due a.receiver.ack_state
     || gives_forward (data_polled a now).0.sender
 
--- a poll has something to give: something waits, or in Established its exchange does
+-- a poll has something to give: something waits, or while DATA is exchanged its exchange does, or behind that a chunk of
+-- a graceful end is due
 abbrev pub has_something_to_give : Shown → ℕ → Bool
 has_something_to_give a now =
-    nat_lt 0 (length a.control) || (is_established a.state && exchange_gives (without_control a) now)
+    nat_lt 0 (length a.control) || (exchanges_data a.state && exchange_gives (without_control a) now)
+    || gives_shutdown (exchange_polled (without_control a) now).0
 
 abbrev pub bytes_within : Payload → List (List ℕ)
 bytes_within (payloads.RawEncode packets) = packets.items
@@ -418,10 +466,14 @@ ExchangeIsReadAgain a now =
     × ForwardIsReadAgain (ack_polled (data_polled a now).0).0
 
 abbrev pub PollIsReadAgain : Shown → ℕ → Type 0
-PollIsReadAgain a now = is_established a.state ≡ true → ExchangeIsReadAgain a now
+PollIsReadAgain a now = exchanges_data a.state ≡ true → ExchangeIsReadAgain a now
 
 -- the requests to reset streams that go out behind DATA are read again
 abbrev pub PollRequestsReadAgain : Shown → ℕ → Type 0
 PollRequestsReadAgain a now =
     is_established a.state ≡ true
     → AreRequestsReadAgain (header_of a.handshake) (requests_of (data_polled a now).0)
+
+-- the chunk of a graceful end that goes out, if one does, is read again
+abbrev pub ShutdownIsReadAgain : Shown → Type 0
+ShutdownIsReadAgain a = AllByRecursion (IsReadAgain (header_of a.handshake)) (shutdown_chunks a)

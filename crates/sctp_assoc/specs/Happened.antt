@@ -1,7 +1,7 @@
 -- What each call does to the two directions.
 use Rattle.std.specs.Prelude.{◌≡◌, ℕ, zero, suc, Bool, true, false, List, [], ◌∷◌, ◌++◌, ◌&&◌, ◌+◌, ◌-◌, ◌==◌}
 use Rattle.std.specs.Prelude.{if◌then◌else◌, not, is_some, length, nat_lt, find, Option, Some, None, Result, Ok}
-use Rattle.std.specs.Prelude.{Err, ◌⊎◌, slice_get}
+use Rattle.std.specs.Prelude.{Err, ◌⊎◌, ⊤, slice_get}
 use Rattle.sctp_wire_types.specs.declared.error.Error.{Error}
 use Rattle.sctp_wire_types.specs.declared.chunk.Chunk.{Chunk}
 use Rattle.sctp_wire_types.specs.declared.chunk.Chunk.TheVariants as chunks
@@ -47,27 +47,29 @@ use Rattle.sctp_reset_requests.specs.Own.{OwnView}
 use Rattle.sctp_resets.specs.Resets.{is_hidden, refusal_of}
 use Rattle.sctp_resets.specs.Within.{OwnOver, ParamOver}
 use Rattle.sctp_streams.specs.declared.setting.Setting.TheVariants as settings
-use Rattle.sctp_assoc.specs.Calls.{adjusted, holds_of, is_beginning, is_cookie_wait, is_established, read_exhausts, stopped_open}
+use Rattle.sctp_assoc.specs.Calls.{adjusted, exchanges_data, holds_of, is_beginning, is_cookie_wait, is_established}
+use Rattle.sctp_assoc.specs.Calls.{read_exhausts, sends_data, stopped_open}
 use Rattle.sctp_assoc.specs.Closing.{is_closed_state, is_exhausted}
 use Rattle.sctp_assoc.specs.Chunks.{counted_data, deferred_where_admitted, on_chunk, stream_found, taken_in}
 use Rattle.sctp_assoc.specs.Chunks.{taken_where_admitted}
 use Rattle.sctp_assoc.specs.ResetActs.{acts_of_draining, acts_of_keeping, acts_of_kept_skips, acts_of_reconfig}
 use Rattle.sctp_assoc.specs.ResetActs.{acts_of_settling}
-use Rattle.std.specs.List.{AllByRecursion, filter, position_or_len}
+use Rattle.std.specs.List.{AllByRecursion, filter, flat_map, position_or_len}
 use Rattle.sctp_wire.specs.DataPackets.{all_of, data_fits, datagrams_of}
 use Rattle.sctp_assoc.specs.Gather.{AckIsReadAgain, AreControlReadAgain, AreReadAgain, AreRequestsReadAgain}
 use Rattle.sctp_assoc.specs.Gather.{IsReadAgain, both_of}
 pub use Rattle.sctp_assoc.specs.Gather.{IsRequestReadAgain}
 use Rattle.sctp_assoc.specs.Gather.{control_polled, data_polled, fast_polled, forward_chunk, is_due, late_abandoned}
-use Rattle.sctp_assoc.specs.Gather.{late_dropped, marks_polled, packet_bytes, sack_packet, single_chunk_packet}
-use Rattle.sctp_assoc.specs.Gather.{spent_abandoned}
+use Rattle.sctp_assoc.specs.Gather.{late_dropped, marks_polled, open_polled, packet_bytes, sack_packet}
+use Rattle.sctp_assoc.specs.Gather.{shutdown_packet, single_chunk_packet, spent_abandoned}
 use Rattle.sctp_assoc.specs.declared.control.Control.TheVariants as controls
 use Rattle.sctp_assoc.specs.declared.control.ControlPacket.{ControlPacket}
 use Rattle.sctp_wire_types.specs.declared.param.Param.TheVariants as params
 use Rattle.sctp_wire_types.specs.declared.param.ParamOutgoingResetRequest.{ParamOutgoingResetRequest}
 use Rattle.sctp_assoc.specs.Resets.{reconfig_of}
-use Rattle.sctp_assoc.specs.Timeouts.{after_handshake_timers}
+use Rattle.sctp_assoc.specs.Timeouts.{after_shutdown_timer}
 use Rattle.sctp_assoc.specs.Shown.{Shown, all_waiting, uses_forward_tsn}
+use Rattle.sctp_assoc.specs.Shutdown.{completes_shutdown}
 use Rattle.sctp_assoc.specs.Skipping.{skips_of, standing_of, with_passed, with_skips}
 use Rattle.sctp_assoc.specs.declared.skipping.Standing.{Standing}
 use Rattle.sctp_assoc.specs.declared.skipping.Standing.TheVariants as standings
@@ -137,7 +139,7 @@ acts_of_outcome outcomes.Taken n blocks missing = Act.Acknowledged n blocks miss
 
 abbrev pub acts_of_sack : Shown → ℕ → List GapAckBlock → List Act
 acts_of_sack a cumulative_tsn_ack blocks =
-    if is_established a.state then
+    if sends_data a.state then
     acts_of_outcome (sack_outcome a.sender cumulative_tsn_ack blocks) (tsns_up_to a.sender cumulative_tsn_ack) blocks
     (reports_of a.sender cumulative_tsn_ack blocks)
     else []
@@ -187,6 +189,7 @@ acts_of_close a = if is_closed_state a.state then [] else Act.Ended ∷ []
 abbrev pub acts_after : Shown × Flow → (Shown → AckTrigger → List Act) → List Act
 acts_after (a, flows.Next trigger) more = more a trigger
 acts_after (a, flows.Fault fault) more = acts_of_close a
+acts_after (a, flows.Closed) more = acts_of_close a
 acts_after (a, flows.Exhausted) more = acts_of_close a
 
 -- a read; the ends of generations that it leaves read to their end; and the close where it leaves the receive buffer
@@ -209,7 +212,7 @@ abbrev pub acts_of_close_stream : Shown → ℕ → List Act
 acts_of_close_stream a id =
     Act.Adjusted id settings.WriteHalfClosed ∷ acts_of_stop (adjusted a id settings.WriteHalfClosed) id
 
--- the chunks of a packet, in order, up to a fault
+-- the chunks of a packet, in order, up to one that ends it
 abbrev pub acts_of_chunks : CommonHeader → List Chunk → Shown → AckTrigger → ℕ → List Act
 acts_of_chunks header [] a trigger now = []
 acts_of_chunks header (c ∷ cs) a trigger now =
@@ -336,14 +339,22 @@ acts_of_forwarding forwards = if forwards then Act.Forwarded ∷ [] else []
 
 -- a poll gives FORWARD TSN: it is due once DATA was selected (RFC 3758 section 3.5)
 abbrev pub forwards_of_poll : Shown → ℕ → Bool
-forwards_of_poll a now = is_established a.state && gives_forward (data_polled a now).0.sender
+forwards_of_poll a now = exchanges_data a.state && gives_forward (data_polled a now).0.sender
+
+-- what a poll gives in front of the chunks of a graceful end
+abbrev pub acts_of_exchange : Shown → ℕ → List Act
+acts_of_exchange a now =
+    if exchanges_data a.state then
+    acts_of_data_poll a now ++ acts_of_ack a ++ acts_of_forwarding (forwards_of_poll a now)
+    else []
+
+-- SHUTDOWN COMPLETE goes out, and the association is closed
+abbrev pub acts_of_ending : Shown → List Act
+acts_of_ending a = if completes_shutdown a then Act.Ended ∷ [] else []
 
 -- a poll for packets
 abbrev pub acts_of_poll : Shown → ℕ → List Act
-acts_of_poll a now =
-    if is_established a.state then
-    acts_of_data_poll a now ++ acts_of_ack a ++ acts_of_forwarding (forwards_of_poll a now)
-    else []
+acts_of_poll a now = acts_of_exchange a now ++ acts_of_ending (open_polled a now).0
 
 -- the acknowledgement that a poll gives, where one is due
 abbrev pub acks_given : Shown → List (List ℕ)
@@ -355,20 +366,28 @@ requests_given header [] = []
 requests_given header (request ∷ requests) =
     packet_bytes header (reconfig_of (params.OutgoingResetRequest request)) ++ requests_given header requests
 
--- packets that wait, and in Established these packets of DATA, then these requests to reset streams, then the
--- acknowledgement, and then, where it is given, the FORWARD TSN of what is in flight after the poll
+-- while DATA is exchanged these packets of DATA, then these requests to reset streams, then the acknowledgement, and then,
+-- where it is given, the FORWARD TSN of what is in flight after the poll
 abbrev pub exchange_given : Shown → List (List ChunkPayloadData) → List ParamOutgoingResetRequest → Bool → Shown
     → List (List ℕ)
 exchange_given a bundles requests forwards b =
-    if is_established a.state then
+    if exchanges_data a.state then
     datagrams_of (header_of a.handshake) bundles ++ requests_given (header_of a.handshake) requests ++ acks_given a
     ++ (if forwards then packet_bytes (header_of a.handshake) (forward_chunk b) else [])
     else []
 
+-- packets that wait, then those, and then one for each of these chunks of a graceful end
 abbrev pub packets_given : Shown → List (List ChunkPayloadData) → List ParamOutgoingResetRequest → Bool → Shown
-    → List (List ℕ)
-packets_given a bundles requests forwards b =
-    (control_polled a).1 ++ exchange_given a bundles requests forwards b
+    → List Chunk → List (List ℕ)
+packets_given a bundles requests forwards b ending =
+    (control_polled a).1 ++ exchange_given a bundles requests forwards b ++ flat_map (shutdown_packet a) ending
+
+-- it says nothing of DATA but where the sender of the chunk stands: SHUTDOWN, SHUTDOWN ACK or SHUTDOWN COMPLETE
+abbrev pub IsOfShutdown : Chunk → Type 0
+IsOfShutdown (chunks.Shutdown tsn) = ⊤
+IsOfShutdown chunks.ShutdownAck = ⊤
+IsOfShutdown chunks.ShutdownComplete = ⊤
+IsOfShutdown chunk = ⊥
 
 -- a datagram of a request to reset streams that are among those that this side asked for, which is read again as that
 abbrev pub IsRequestOf : CommonHeader → OwnView → List ℕ → Type 0
@@ -403,10 +422,14 @@ pub record Polls (xs : List Act) (forwards : Bool) (a : Shown) (h : History) (b 
   -- and all of them are of streams past their span where all that this side asks for is
   pub asked : (over : ℕ → Bool) → OwnOver over a.resets.own → AllByRecursion (ParamOver over) requests
   pub requests_again : AreRequestsReadAgain (header_of a.handshake) requests
-  pub said : packets ≡ packets_given a bundles requests forwards b
-  pub data_again : is_established a.state ≡ true → AreReadAgain (header_of a.handshake) bundles
-  pub ack_again : is_established a.state ≡ true → AckIsReadAgain a
+  -- the chunk of a graceful end that goes out last, if one does
+  pub ending : List Chunk
+  pub ending_is : AllByRecursion IsOfShutdown ending
+  pub said : packets ≡ packets_given a bundles requests forwards b ending
+  pub data_again : exchanges_data a.state ≡ true → AreReadAgain (header_of a.handshake) bundles
+  pub ack_again : exchanges_data a.state ≡ true → AckIsReadAgain a
   pub forward_again : forwards ≡ true → IsReadAgain (header_of a.handshake) (forward_chunk b)
+  pub ending_again : AllByRecursion (IsReadAgain (header_of a.handshake)) ending
 
 -- A poll for packets does and gives so from each history on which the association stands; what waited is read again as
 -- what it was.
@@ -423,4 +446,4 @@ acts_of_t3 a now =
     else []
 
 abbrev pub acts_of_timeouts : Shown → ℕ → List Act
-acts_of_timeouts a now = acts_of_t3 (after_handshake_timers a now) now
+acts_of_timeouts a now = acts_of_t3 (after_shutdown_timer a now) now

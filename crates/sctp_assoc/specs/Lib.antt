@@ -12,6 +12,7 @@ pub mod Inbound
 pub mod Memory
 pub mod Resets
 pub mod Shown
+pub mod Shutdown
 pub mod Skipping
 pub mod Stream
 pub mod Timeouts

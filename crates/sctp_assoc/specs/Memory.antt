@@ -23,7 +23,7 @@ use Rattle.sctp_outbound.specs.Sender.{sack_outcome}
 use Rattle.sctp_generations.specs.Generations.{has_retiring, has_skips}
 use Rattle.sctp_assoc.specs.declared.inbound.Flow.{Flow}
 use Rattle.sctp_assoc.specs.declared.inbound.Flow.TheVariants as flows
-use Rattle.sctp_assoc.specs.Calls.{is_beginning, is_cookie_echoed, is_cookie_wait, is_established}
+use Rattle.sctp_assoc.specs.Calls.{is_beginning, is_cookie_echoed, is_cookie_wait, is_established, sends_data}
 use Rattle.sctp_assoc.specs.Closing.{is_closed_state}
 use Rattle.sctp_assoc.specs.Chunks.{after_sack, on_chunk}
 use Rattle.sctp_assoc.specs.Shown.{Shown, all_waiting}
@@ -75,7 +75,7 @@ is_taken outcomes.Taken = true
 -- a SACK takes memory only where it tells of a stream whose buffered amount fell to its low mark
 abbrev pub sack_takes_memory : Shown → ℕ → List GapAckBlock → ℕ → ℕ → Bool
 sack_takes_memory a cumulative_tsn_ack blocks window now =
-    is_established a.state
+    sends_data a.state
     && (is_taken (sack_outcome a.sender cumulative_tsn_ack blocks)
     && nat_lt 0 (length (low_told a.streams (after_sack a cumulative_tsn_ack blocks window now).streams)))
 
@@ -123,15 +123,15 @@ takes_memory a header chunk now = false
 abbrev pub chunk_takes_memory : Shown → CommonHeader → Chunk → ℕ → Bool
 chunk_takes_memory a header chunk now = is_ok (checked_chunk chunk) && takes_memory a header chunk now
 
--- a fault that closes an open association takes memory for the events that tell of it, and an exhausted receive buffer
--- for the ABORT, in any state
+-- a fault or the end of a shutdown that closes an open association takes memory for the events that tell of it, and an
+-- exhausted receive buffer for the ABORT, in any state
 abbrev pub takes_memory_after : Shown × Flow → (Shown → AckTrigger → Bool) → Bool
 takes_memory_after (a, flows.Next trigger) more = more a trigger
 takes_memory_after (a, flows.Fault fault) more = not (is_closed_state a.state)
+takes_memory_after (a, flows.Closed) more = not (is_closed_state a.state)
 takes_memory_after (a, flows.Exhausted) more = true
 
--- one of these chunks, taken in order up to the first fault, takes memory, or is a fault that closes an open
--- association
+-- one of these chunks, taken in order up to the first that ends the packet, takes memory, or closes an open association
 abbrev pub chunks_take_memory : CommonHeader → List Chunk → Shown → AckTrigger → ℕ → Bool
 chunks_take_memory header [] a trigger now = false
 chunks_take_memory header (c ∷ cs) a trigger now =

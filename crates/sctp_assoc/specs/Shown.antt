@@ -4,6 +4,7 @@ use Rattle.std.specs.declared.net.ip_addr.IpAddr.{IpAddr}
 use Rattle.std.specs.declared.net.socket_addr.SocketAddr.{SocketAddr}
 use Rattle.sctp_wire_types.specs.declared.error.Error.{Error}
 use Rattle.sctp_wire_types.specs.declared.ids.Side.{Side}
+use Rattle.sctp_parts.specs.declared.shared.EndpointEvent.{EndpointEvent}
 use Rattle.sctp_parts.specs.declared.state.AssociationState.{AssociationState}
 use Rattle.sctp_parts.specs.declared.timer.Timer.TheVariants as names
 use Rattle.sctp_parts.specs.Timers.{Timers, with_stopped}
@@ -18,6 +19,7 @@ use Rattle.sctp_outbound.specs.declared.sender.Sender.{Sender}
 use Rattle.sctp_resets.specs.Resets.{ResetsView}
 use Rattle.sctp_assoc.specs.declared.control.Control.{Control}
 use Rattle.sctp_assoc.specs.declared.effects.StateAnswers.{StateAnswers}
+use Rattle.sctp_assoc.specs.declared.shutdown.ShutdownDue.{ShutdownDue}
 
 pub record Shown : Type 0 where
   pub side : Side
@@ -40,8 +42,12 @@ pub record Shown : Type 0 where
   pub events : List Event
   -- that the handshake failed and nobody was told yet
   pub handshake_fault : Option Error
+  -- what its endpoint is to be told and did not ask for yet
+  pub endpoint_event : Option EndpointEvent
   -- what goes out before any DATA, oldest first: packets, and places of this side's requests to reset streams
   pub control : List Control
+  -- the chunks of a graceful end that go out behind all others
+  pub shutdown_due : ShutdownDue
   pub timers : Timers
   pub estimate : Estimate
   pub counts : Counts

@@ -6,13 +6,22 @@ use Rattle.sctp_assoc.specs.Calls.{after_ack_delay, after_t3}
 use Rattle.sctp_assoc.specs.Handshake.{after_t1_cookie, after_t1_init}
 use Rattle.sctp_assoc.specs.Resets.{after_reconfig_timer}
 use Rattle.sctp_assoc.specs.Shown.{Shown}
+use Rattle.sctp_assoc.specs.Shutdown.{after_t2_shutdown}
 
 -- the timers of the handshake (RFC 4960 section 5.1)
 abbrev pub after_handshake_timers : Shown → ℕ → Shown
 after_handshake_timers a now = after_t1_cookie (after_t1_init a now) now
 
+-- behind those, the timer of the answer to SHUTDOWN or SHUTDOWN ACK (RFC 4960 section 9.2)
+abbrev pub after_shutdown_timer : Shown → ℕ → Shown
+after_shutdown_timer a now = after_t2_shutdown (after_handshake_timers a now) now
+
+-- and behind that the retransmission timer
+abbrev pub after_sending_timers : Shown → ℕ → Shown
+after_sending_timers a now = after_t3 (after_shutdown_timer a now) now
+
 abbrev pub after_timeouts : Shown → ℕ → Shown
-after_timeouts a now = after_ack_delay (after_reconfig_timer (after_t3 (after_handshake_timers a now) now) now) now
+after_timeouts a now = after_ack_delay (after_reconfig_timer (after_sending_timers a now) now) now
 
 -- requests to reset streams are told as failed: their timer expired past its limit
 abbrev pub gives_requests_up : Shown → ℕ → Bool
@@ -39,4 +48,4 @@ handshake_goes_out_again a now = offers_again a now || echoes_again (after_t1_in
 -- that takes memory, and so does telling that requests failed
 abbrev pub timeouts_take_memory : Shown → ℕ → Bool
 timeouts_take_memory a now =
-    handshake_goes_out_again a now || gives_requests_up (after_t3 (after_handshake_timers a now) now) now
+    handshake_goes_out_again a now || gives_requests_up (after_sending_timers a now) now

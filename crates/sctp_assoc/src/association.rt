@@ -23,14 +23,16 @@ ghost use Rattle.sctp_assoc.specs.Stream.{id_of, lender, lent, rests_if_none, re
 ghost use Rattle.sctp_assoc.specs.Gather.{IsAddressed, has_something_to_give, packets_of, polled};
 ghost use Rattle.sctp_assoc.specs.Shown.{HasFailed, answers_of};
 ghost use Rattle.sctp_assoc.specs.Timeouts.{after_timeouts, timeouts_take_memory};
+ghost use Rattle.sctp_assoc.specs.Shutdown.{endpoint_event_polled, shutdown_begun, shutdown_refusal};
 
 use crate::control::Control;
+use crate::shutdown::ShutdownDue;
 use crate::{AssociationEvent, Stream};
 use bytes::Bytes;
 use sctp_inbound::{Handshake, Offer, Receiver};
 use sctp_outbound::Sender;
 use sctp_parts::estimate::RtoManager;
-use sctp_parts::shared::AssociationId;
+use sctp_parts::shared::{AssociationId, EndpointEvent};
 use sctp_parts::state::AssociationState;
 use sctp_parts::stats::AssociationStats;
 use sctp_parts::timer::{Timer, TimerTable};
@@ -60,7 +62,7 @@ pub struct Association {
     pub(crate) remote_addr: SocketAddr,
     pub(crate) local_ip: Option<IpAddr>,
     pub(crate) state: AssociationState,
-    /// A fault or its application closed the association while its state was any but Closed.
+    /// A fault, its application or the end of a shutdown closed the association while its state was any but Closed.
     pub(crate) lost: bool,
     /// An earlier call found no memory in its middle.
     pub(crate) failed: bool,
@@ -74,8 +76,12 @@ pub struct Association {
     pub(crate) events: Events,
     /// Why the handshake failed, until that is told.
     pub(crate) handshake_fault: Option<Error>,
+    /// What the endpoint is to be told and did not ask for yet: at most that a shutdown began.
+    pub(crate) endpoint_event: Option<EndpointEvent>,
     /// The packets that go out before any DATA, oldest first.
     pub(crate) control: Vec<Control>,
+    /// The chunks of a graceful end that go out behind all others.
+    pub(crate) shutdown_due: ShutdownDue,
     pub(crate) timers: TimerTable,
     pub(crate) rto: RtoManager,
     pub(crate) stats: AssociationStats,
@@ -102,7 +108,9 @@ impl Drop for Association {
             to_accept: _to_accept,
             events: _events,
             handshake_fault: _handshake_fault,
+            endpoint_event: _endpoint_event,
             control: _control,
+            shutdown_due: _shutdown_due,
             timers: _timers,
             rto: _rto,
             stats: _stats,
@@ -131,7 +139,9 @@ impl Model for Association {
       to_accept = a.to_accept.items;
       events = a.events;
       handshake_fault = a.handshake_fault;
+      endpoint_event = a.endpoint_event;
       control = a.control.items;
+      shutdown_due = a.shutdown_due;
       timers = a.timers;
       estimate = a.rto;
       counts = a.stats;
@@ -287,7 +297,9 @@ impl Association {
             to_accept: VecDeque::new(alloc),
             events: Events::new(alloc),
             handshake_fault: None,
+            endpoint_event: None,
             control: Vec::new(alloc),
+            shutdown_due: ShutdownDue::nothing(),
             timers: TimerTable::new(
                 config.max_init_retransmits(),
                 config.max_data_retransmits(),
@@ -332,6 +344,16 @@ impl Association {
         }
     }
 
+    /// What the endpoint that holds this association is to be told, once; None where nothing is. A shutdown that this
+    /// side began is told by `EndpointEvent::drained`, as soon as it began: the endpoint then may stop handing it
+    /// calls of the application, but goes on with datagrams and timers. Never refused, and takes no memory.
+    pub fn poll_endpoint_event(&mut self) -> Option<EndpointEvent>
+        ensures told { endpoint_event_polled self.old ≡ (self.new, result) }
+        ensures acts { LeadsOn [] self.old self.new }
+    {
+        self.endpoint_event.take()
+    }
+
     /// The moment at which the next timer expires; None where no timer runs. A driver sleeps until then, or until a
     /// datagram comes. Where the moment is not after now, `handle_timeout` is due. Ask again at the end of each turn
     /// of the loop.
@@ -341,18 +363,20 @@ impl Association {
         self.timers.next_timeout()
     }
 
-    /// All packets that are due at `now`, in the order in which they are to go out; None where none is due. Each
-    /// entry of the `Payload::RawEncode` is one datagram. Packets of the handshake and answers go first, in every
-    /// state. In Established there follow DATA that the retransmission timer marked, DATA that is to be retransmitted
-    /// fast, new DATA within both windows (or one piece that probes them, where nothing is in flight), a SACK that is
-    /// due, and a FORWARD TSN that is due. Where FORWARD TSN is in use, messages are given up before that: those whose
-    /// time is over, which runs from the first such call after the write, and those of which a piece would go out again
-    /// too often (RFC 3758 section 3.5); `poll` tells of streams that this takes to their low mark, in the order in
-    /// which they fall. DATA chunks are bundled in packets of at most `mtu` bytes (RFC 4960 section 6.10); a packet of
-    /// one alone may be up to 3 bytes longer. Call it last in each turn of the loop, and after writes.
+    /// All packets that are due at `now`, in the order in which they are to go out; None where none is due. Each entry
+    /// of the `Payload::RawEncode` is one datagram. Packets of the handshake and answers go first, in every state. In
+    /// Established, and in a shutdown until SHUTDOWN ACK goes out, there follow DATA that the retransmission timer
+    /// marked, DATA that is to be retransmitted fast, new DATA within both windows (or one piece that probes them,
+    /// where nothing is in flight), a SACK that is due, and a FORWARD TSN that is due. In a shutdown SHUTDOWN,
+    /// SHUTDOWN ACK or SHUTDOWN COMPLETE goes last, one a call; the last of them closes the association (RFC 4960
+    /// section 9.2). Where FORWARD TSN is in use, messages are given up before DATA: those whose time is over, which
+    /// runs from the first such call after the write, and those of which a piece would go out again too often (RFC
+    /// 3758 section 3.5); `poll` tells of streams that this takes to their low mark, in the order in which they fall.
+    /// DATA chunks are bundled in packets of at most `mtu` bytes (RFC 4960 section 6.10); a packet of one alone may be
+    /// up to 3 bytes longer. Call it last in each turn of the loop, and after writes.
     ///
-    /// Errors: `ErrAssociationFailed`, and `ErrNoMemory` only where there is something to give or to give up. After the
-    /// latter the association is failed, and the packets of this call are lost.
+    /// Errors: `ErrAssociationFailed`, and `ErrNoMemory` only where there is something to give or to give up. After
+    /// the latter the association is failed, and the packets of this call are lost.
     pub fn poll_transmit(&mut self, now: Instant) -> Result<Option<Transmit>, Error>
         ensures failed { IsErrOf result Error.ErrAssociationFailed ↔ (self.old.failed ≡ true) }
         ensures refused { IsErrOf result Error.ErrAssociationFailed → self.new ≡ self.old }
@@ -435,9 +459,10 @@ impl Association {
 
     /// Does what the timers that expired by `now` ask for, and nothing where none did. INIT or COOKIE ECHO waits to
     /// go out again, or past `max_init_retransmits` the handshake failed (RFC 4960 section 5.1). DATA in flight is
-    /// marked to be sent again, but not past `max_data_retransmits` (section 6.3.3), and where pieces in front of all
-    /// others in flight are given up, FORWARD TSN is due again (RFC 3758 section 3.5). A delayed SACK becomes due
-    /// (RFC 4960 section 6.2). `poll_transmit` gives the packets.
+    /// marked to be sent again, but not past `max_data_retransmits` (section 6.3.3). SHUTDOWN or SHUTDOWN ACK waits to
+    /// go out again, without a limit (section 9.2). Where pieces in front of all others in flight are given up, FORWARD
+    /// TSN is due again (RFC 3758 section 3.5). A delayed SACK becomes due (RFC 4960 section 6.2). `poll_transmit` gives
+    /// the packets.
     ///
     /// Errors: `ErrAssociationFailed`, and `ErrNoMemory` only where INIT or COOKIE ECHO is to go out again, or a request
     /// to reset streams is given up. After the latter the association is failed.
@@ -468,6 +493,7 @@ impl Association {
     {
         self.on_t1_init(now)?;
         self.on_t1_cookie(now)?;
+        self.on_t2_shutdown(now);
         self.on_t3(now);
         self.on_reconfig_timeout(now)?;
         self.on_ack(now);
@@ -592,6 +618,29 @@ impl Association {
         }
     }
 
+    /// Begins to end the association gracefully (RFC 4960 section 9.2), and answers at once. Nothing is accepted from
+    /// the application any more. What was accepted is still sent, and what the peer sends is taken in; once all DATA is
+    /// acknowledged SHUTDOWN goes out, and the peer answers when its own is. Then the association closes, as by
+    /// `close`. `poll_endpoint_event` tells that a shutdown began.
+    ///
+    /// Refused, in this order with nothing changed: `ErrAssociationFailed`; `ErrShutdownNonEstablished` in any state but
+    /// Established. Takes no memory.
+    pub fn shutdown(&mut self) -> Result<(), Error>
+        ensures refused { Refuses result (shutdown_refusal self.old) }
+        ensures err { OnErr result (self.new ≡ self.old) }
+        ensures ok { OnOk result (self.new ≡ shutdown_begun self.old) }
+        ensures acts { OnOk result (LeadsOn [] self.old self.new) }
+    {
+        self.check_usable()?;
+        if self.state != AssociationState::Established {
+            return Err(Error::ErrShutdownNonEstablished);
+        }
+        self.state = AssociationState::ShutdownPending;
+        self.endpoint_event = Some(EndpointEvent::drained());
+        self.continue_shutdown();
+        Ok(())
+    }
+
     /// Closes the association at once, in any state but Closed; nothing is told to the peer. All timers stop, no packet
     /// waits any more, each live stream ends with its last counters, and `Event::AssociationLost` tells it. In Closed
     /// nothing changes.
@@ -624,16 +673,15 @@ impl Association {
         self.state == AssociationState::Closed
     }
 
-    /// Whether a shutdown has begun and the association is not closed yet (RFC 4960 section 9.2). No call begins one
-    /// so far.
+    /// Whether a shutdown has begun, at either side, and the association is not closed yet (RFC 4960 section 9.2).
     pub fn is_closing(&self) -> bool
         ensures { result ≡ is_closing self.now.state }
     {
         self.state.is_closing()
     }
 
-    /// Whether the association was lost: a fault closed it, or `close`. Nothing is left to do for it then but to ask
-    /// for its events.
+    /// Whether the association was lost: a fault closed it, or `close`, or the end of a shutdown. Nothing is left to do
+    /// for it then but to ask for its events.
     pub fn is_drained(&self) -> bool
         ensures { result ≡ self.now.lost }
     {

@@ -7,13 +7,14 @@ ghost use Rattle.sctp_inbound.specs.Handshake.{header_of};
 ghost use Rattle.sctp_outbound.specs.Abandonment.{gives_up_before, expires};
 ghost use Rattle.sctp_outbound.specs.Falling.{fell_before};
 ghost use Rattle.sctp_outbound.specs.Forward.{gives_forward};
-ghost use Rattle.sctp_assoc.specs.Calls.{is_established};
+ghost use Rattle.sctp_assoc.specs.Calls.{exchanges_data, is_established};
 ghost use Rattle.sctp_assoc.specs.Gather.{AckIsReadAgain, AreControlReadAgain, AreReadAgain, ExchangeIsReadAgain};
 ghost use Rattle.sctp_assoc.specs.Gather.{AreRequestsReadAgain, ControlRequestsReadAgain, GivenRequestReadAgain};
 ghost use Rattle.sctp_assoc.specs.Gather.{PollRequestsReadAgain, requests_of};
 ghost use Rattle.sctp_assoc.specs.Gather.{ForwardIsReadAgain, IsReadAgain, PollIsReadAgain, ack_after, ack_polled};
 ghost use Rattle.sctp_assoc.specs.Gather.{after_both, after_fast, after_marks, after_new, both_of, bundled};
-ghost use Rattle.sctp_assoc.specs.Gather.{ControlReadAgain, control_polled, data_gives, data_polled};
+ghost use Rattle.sctp_assoc.specs.Gather.{ControlReadAgain, ShutdownIsReadAgain, control_polled, data_after};
+ghost use Rattle.sctp_assoc.specs.Gather.{data_gives, data_polled, open_polled};
 ghost use Rattle.sctp_assoc.specs.Gather.{exchange_gives, exchange_polled};
 ghost use Rattle.sctp_assoc.specs.Gather.{fast_fell, fast_gives, fast_sent, forward_after, forward_polled};
 ghost use Rattle.sctp_assoc.specs.Gather.{has_something_to_give, is_due, late_abandoned, late_fell, listed, marks_fell};
@@ -29,7 +30,7 @@ use crate::Association;
 use crate::control::Control;
 use bytes::Bytes;
 use sctp_outbound_queue::Retransmission;
-use sctp_parts::state::{AckState, AssociationState};
+use sctp_parts::state::AckState;
 use sctp_parts::timer::Timer;
 use sctp_streams::Fallen;
 use sctp_wire_queues::{Chunk, CommonHeader, DataPackets, Error, Instant, marshal};
@@ -37,20 +38,22 @@ use std::alloc::{AllocError, Global};
 use std::mem;
 
 impl Association {
-    // The packets that wait, then DATA that is sent again, then new DATA, then the acknowledgement, and then FORWARD
-    // TSN. It lacks memory only where there is something to give or to give up.
+    // The packets that wait, then DATA that is sent again, then new DATA, then the acknowledgement, then FORWARD TSN,
+    // and then a chunk of a graceful end. It lacks memory only where there is something to give or to give up.
     pub(crate) fn gather(&mut self, now: Instant) -> Result<Vec<Bytes>, AllocError>
         ensures exact { IfOk result (λ packets. polled self.old now ≡ (self.new, packets.items)) }
         ensures control_again { OnOk result (AreControlReadAgain self.old.control) }
         ensures control_requests { OnOk result (ControlRequestsReadAgain self.old) }
         ensures again { OnOk result (PollIsReadAgain (without_control self.old) now) }
         ensures requests { OnOk result (PollRequestsReadAgain (control_polled self.old).0 now) }
+        ensures ending_again { OnOk result (ShutdownIsReadAgain (open_polled self.old now).0) }
         ensures grows { OnErr result (has_something_to_give self.old now ≡ true) }
     {
         let mut packets = Vec::new(self.alloc);
         self.gather_control(&mut packets)?;
         self.gather_exchange(&mut packets, now)?;
         self.run_reconfig(now);
+        self.gather_shutdown(&mut packets, now)?;
         Ok(packets)
     }
 
@@ -99,35 +102,36 @@ impl Association {
         }
     }
 
+    // While DATA is exchanged. In ShutdownSent no new DATA goes out, since none waits any more.
     #[tactic(auto, unfolding(crate::specs::Gather::exchange_polled))]
     fn gather_exchange(&mut self, packets: &mut Vec<Bytes>, now: Instant) -> Result<(), AllocError>
         ensures exact { OnOk result
             (after_both packets.old.items (exchange_polled self.old now) ≡ (self.new, packets.new.items)) }
         ensures again { OnOk result (PollIsReadAgain self.old now) }
         ensures requests { OnOk result (PollRequestsReadAgain self.old now) }
-        ensures grows { OnErr result ((is_established self.old.state && exchange_gives self.old now) ≡ true) }
+        ensures grows { OnErr result ((exchanges_data self.old.state && exchange_gives self.old now) ≡ true) }
     {
-        if self.state == AssociationState::Established {
-            self.gather_established(packets, now)?;
+        if self.exchanges_data() {
+            self.gather_data_and_acks(packets, now)?;
         }
         Ok(())
     }
 
-    fn gather_established(
+    fn gather_data_and_acks(
         &mut self,
         packets: &mut Vec<Bytes>,
         now: Instant,
     ) -> Result<(), AllocError>
         ensures exact { OnOk result
-            (after_both packets.old.items (forward_after (ack_after (requests_after (data_polled self.old now))))
+            (after_both packets.old.items (forward_after (ack_after (requests_after (data_after self.old now))))
             ≡ (self.new, packets.new.items)) }
         ensures again { OnOk result (ExchangeIsReadAgain self.old now) }
-        ensures requests { OnOk result
-            (AreRequestsReadAgain (header_of self.old.handshake) (requests_of (data_polled self.old now).0)) }
+        ensures requests { OnOk result (PollRequestsReadAgain self.old now) }
         ensures grows { OnErr result (exchange_gives self.old now ≡ true) }
     {
         let data = self.gather_data(now)?;
         put_all(packets, data)?;
+        self.continue_shutdown();
         self.gather_requests(packets)?;
         self.gather_ack(packets)?;
         self.gather_forward(packets)?;

@@ -16,7 +16,6 @@ ghost use Rattle.sctp_assoc.specs.Closing.{is_exhausted};
 use crate::Association;
 use sctp_inbound::AckTrigger;
 use sctp_outbound::SackOutcome;
-use sctp_parts::state::AssociationState;
 use sctp_wire_queues::{
     AssociationError, Chunk, ChunkPayloadData, CommonHeader, Error, Event, GapAckBlock, Instant,
     List, Packet, PartialDecode, PayloadProtocolIdentifier, StreamEvent, check_packet,
@@ -29,6 +28,8 @@ pub enum Flow {
     Next(AckTrigger),
     /// The chunk is a fault: it ends the packet and closes an open association.
     Fault(Error),
+    /// The peer closed at the end of a shutdown: that ends the packet and closes the association.
+    Closed,
     /// The receive buffer is exhausted: that ends the packet and closes an open association, and the peer is told.
     Exhausted,
 }
@@ -76,8 +77,8 @@ impl Association {
         self.on_chunks(packet.common_header, packet.chunks.into_vec(), now)
     }
 
-    // The chunks in order; a fault ends the packet and closes an open association, and so does an exhausted receive
-    // buffer.
+    // The chunks in order; a fault ends the packet and closes an open association, and so do an exhausted receive buffer
+    // and the end of a shutdown.
     fn on_chunks(
         &mut self,
         header: CommonHeader,
@@ -92,6 +93,7 @@ impl Association {
             match self.on_chunk(header, chunk, trigger, now)? {
                 Flow::Next(next) => trigger = next,
                 Flow::Fault(_) => return self.close_with(AssociationError::AssociationClosed),
+                Flow::Closed => return self.close_with(AssociationError::AssociationClosed),
                 Flow::Exhausted => return self.exhaust(),
             }
         }
@@ -143,6 +145,9 @@ impl Association {
             Chunk::ForwardTsn(forward) => self.on_forward_tsn(forward, trigger, now),
             Chunk::IForwardTsn(forward) => self.on_i_forward_tsn(forward, trigger, now),
             Chunk::Reconfig(reconfig) => self.on_reconfig(&reconfig, trigger),
+            Chunk::Shutdown(_) => Ok(self.on_shutdown(trigger)),
+            Chunk::ShutdownAck => Ok(self.on_shutdown_ack(trigger)),
+            Chunk::ShutdownComplete => Ok(self.on_shutdown_complete(trigger)),
             Chunk::Abort(_) | Chunk::Error(_) => Ok(Flow::Fault(Error::ErrAbortChunk)),
             _ => Ok(Flow::Fault(Error::ErrChunkTypeUnhandled)),
         }
@@ -322,7 +327,7 @@ impl Association {
             (λ flow. on_sack self.old cumulative_tsn_ack blocks.now window trigger now ≡ (self.new, flow)) }
         ensures grows { OnErr result (sack_takes_memory self.old cumulative_tsn_ack blocks.now window now ≡ true) }
     {
-        if self.state != AssociationState::Established {
+        if !self.sends_data() {
             return Ok(Flow::Next(trigger));
         }
         self.stats.inc_sacks();
@@ -345,6 +350,7 @@ impl Association {
             SackOutcome::Taken => {
                 self.sender.ask_for_forward_tsn(forward);
                 fallen.tell_ascending(self.alloc, &mut self.events)?;
+                self.continue_shutdown();
                 Ok(Flow::Next(trigger))
             }
         }

@@ -16,8 +16,10 @@
 //! | [`Association::open_stream`], [`Association::stream`] | the application: a [`Stream`], to write and to read |
 //! | [`Association::accept_stream`], [`Association::stream_ids`] | the application: what the peer opened, and all |
 //! | [`Association::set_max_send_message_size`] | the application: how long a message may be |
+//! | [`Association::shutdown`] | the application: an end once all that was accepted is acknowledged |
 //! | [`Association::close`] | the application: an end at once |
 //! | [`Association::poll_transmit`], [`Association::poll_timeout`] | the driver: what to send, and when to wake |
+//! | [`Association::poll_endpoint_event`] | the driver: whether a shutdown began here |
 //! | `state`, `is_closed`, `rtt`, `cwnd` and the other questions | anybody, at any time; they change nothing |
 //!
 //! # The loop
@@ -79,6 +81,7 @@ mod inbound;
 mod readers;
 mod resets;
 mod shared;
+mod shutdown;
 mod skipping;
 mod stream;
 mod stream_calls;

@@ -1,5 +1,5 @@
 // Stream resets (RFC 6525 section 5, RFC 8831 section 6.7): what RE-CONFIG brings, and which requests go out.
-ghost use Rattle.std.specs.Prelude.{◌≡◌, ◌==◌, ◌++◌, IfOk, OnErr, OnOk, is_some, length, nat_lt, true};
+ghost use Rattle.std.specs.Prelude.{◌≡◌, ◌==◌, ◌++◌, ◌&&◌, IfOk, OnErr, OnOk, is_some, length, nat_lt, true};
 ghost use Rattle.sctp_generations.specs.Generations.{has_skips};
 ghost use Rattle.sctp_inbound.specs.Handshake.{header_of};
 ghost use Rattle.sctp_reset_requests.specs.Own.{repeated};
@@ -10,6 +10,7 @@ ghost use Rattle.sctp_assoc.specs.Resets.{after_param, after_reconfig_timer, ask
 ghost use Rattle.sctp_assoc.specs.Resets.{on_response, reconfig_of, responding, settled, skips_applied};
 ghost use Rattle.sctp_assoc.specs.Resets.{behind_params, gives_up, settling_takes_memory, skips_applied_of, stopped_if};
 ghost use Rattle.sctp_assoc.specs.Resets.{timers_changed, with_answer, with_reconfig_run};
+ghost use Rattle.sctp_assoc.specs.Calls.{is_established};
 ghost use Rattle.sctp_assoc.specs.Control.{asking};
 ghost use Rattle.sctp_assoc.specs.Shown.{all_waiting};
 ghost use Rattle.sctp_assoc.specs.Timeouts.{gives_requests_up};
@@ -20,6 +21,7 @@ use crate::gather::put_packet;
 use crate::inbound::Flow;
 use bytes::Bytes;
 use sctp_inbound::AckTrigger;
+use sctp_parts::state::AssociationState;
 use sctp_parts::timer::Timer;
 use sctp_reset_requests::response_to;
 use sctp_resets::{Settled, TimerChange};
@@ -246,15 +248,19 @@ impl Association {
         )
     }
 
-    // The active request again, where that is due; then a request for streams that wait; and the oldest that was never
-    // sent, where it may go out.
+    // In Established the active request again, where that is due; then a request for streams that wait; and the oldest
+    // that was never sent, where it may go out.
     #[tactic(auto, unfolding(crate::specs::Gather::requests_polled))]
     pub(crate) fn gather_requests(&mut self, packets: &mut Vec<Bytes>) -> Result<(), AllocError>
         ensures exact { OnOk result
             (after_both packets.old.items (requests_polled self.old) ≡ (self.new, packets.new.items)) }
-        ensures again { OnOk result (AreRequestsReadAgain (header_of self.old.handshake) (requests_of self.old)) }
-        ensures grows { OnErr result (requests_give self.old ≡ true) }
+        ensures again { OnOk result (is_established self.old.state ≡ true
+            → AreRequestsReadAgain (header_of self.old.handshake) (requests_of self.old)) }
+        ensures grows { OnErr result ((is_established self.old.state && requests_give self.old) ≡ true) }
     {
+        if self.state != AssociationState::Established {
+            return Ok(());
+        }
         self.gather_repeat(packets)?;
         self.make_request()?;
         self.gather_first_request(packets)

@@ -6,15 +6,16 @@ use Rattle.sctp_outbound.specs.Sacks.{sack_taken}
 use Rattle.sctp_outbound.specs.Sender.{sack_outcome}
 use Rattle.sctp_outbound.proofs.SenderSteps.{on_err}
 use Rattle.sctp_assoc.specs.declared.inbound.Flow.TheVariants as flows
-use Rattle.sctp_assoc.specs.Calls.{is_established}
+use Rattle.sctp_assoc.specs.Calls.{sends_data}
 use Rattle.sctp_assoc.specs.Chunks.{counted_sack}
+use Rattle.sctp_assoc.specs.Shutdown.{shutdown_continued}
 use Rattle.sctp_assoc.proofs.SacksTell.{some_fell, taken_leaves, taken_takes}
 use Rattle.sctp_assoc.proofs.association.Association.on_sack.Goals.{In-Taken}
 use Rattle.sctp_assoc.proofs.association.Association.on_sack.Goals as goal
 
 -- what is known where the SACK is taken
-was_established : (c : In-Taken) → is_established c.args.self.now.state ≡ true
-was_established c = search rules
+was_sending : (c : In-Taken) → sends_data c.args.self.now.state ≡ true
+was_sending c = search rules
 
 was_taken : (c : In-Taken)
     → sack_outcome c.args.self.now.sender c.args.cumulative_tsn_ack c.args.blocks.now ≡ outcomes.Taken
@@ -39,7 +40,7 @@ returns-in_err-tell_ascending-in-Taken-clause-grows c =
     let arm = (goal.at.returns-in_err-tell_ascending-in-Taken-clause-grows c).In-Taken in
     on_err c.from_residual.result
     (taken_takes c.args.self.now c.args.cumulative_tsn_ack c.args.blocks.now c.args.window c.args.now sacked.self
-    sacked.rto sacked.streams (was_established arm) (was_taken arm) (took arm)
+    sacked.rto sacked.streams (was_sending arm) (was_taken arm) (took arm)
     (some_fell c.args.self.now.streams sacked.streams sacked.fallen (those_gathered arm)
     c.in_err-tell_ascending-in-Taken.ensures.grows))
 
@@ -47,21 +48,21 @@ pub returns-in_ok-tell_ascending-in-Taken-clause-exact : goal.returns-in_ok-tell
 returns-in_ok-tell_ascending-in-Taken-clause-exact c =
     let sacked = c.on_sack-outcome.new in
     let arm = (goal.at.returns-in_ok-tell_ascending-in-Taken-clause-exact c).In-Taken in
-    rw c.inc_sacks.ensures
+    rw (c.continue_shutdown.ensures, c.inc_sacks.ensures)
     (taken_leaves c.args.self.now c.args.cumulative_tsn_ack c.args.blocks.now c.args.window c.args.now sacked.self
-    sacked.rto sacked.streams (was_established arm) (was_taken arm) (took arm) c.args.trigger
+    sacked.rto sacked.streams (was_sending arm) (was_taken arm) (took arm) c.args.trigger
     c.ask_for_forward_tsn.new.self sacked.timers c.tell_ascending.new.events (ascending sacked.fallen.ids)
     (rw (← c.self.view_is) c.ask_for_forward_tsn.ensures)
     (rw (← c.self.view_is) (c.on_sack-outcome.ensures.timer c.in-Taken.is))
     (rw (← c.self.view_is) c.in_ok-tell_ascending-in-Taken.ensures.told)
     ((those_gathered arm).whole c.in_ok-tell_ascending-in-Taken.ensures.whole)
     ∙ ap (λ z. (
-      record (counted_sack z) {
+      shutdown_continued (record (counted_sack z) {
         sender = c.ask_for_forward_tsn.new.self;
         estimate = sacked.rto;
         streams = sacked.streams;
         events = c.tell_ascending.new.events;
         timers = sacked.timers;
-      },
+      }),
       flows.Next c.args.trigger,
     )) (sym c.self.view_is))
