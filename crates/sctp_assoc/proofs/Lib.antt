@@ -5,6 +5,7 @@ pub mod ClosesLeadOn
 pub mod ContinuedShutdown
 pub mod DataCame
 pub mod DataLeadsOn
+pub mod EventsTold
 mod FilledBuffers
 pub mod Dropping
 pub mod EndsOfPolls

@@ -1,26 +1,32 @@
 -- A read on a stream gives the first of what is ready there, and leaves the others.
 use Rattle.std.proofs.Common.{◌≡◌, ◌↔◌, refl, sym, ap, ◌∙◌, ⊎_elim, ℕ, Bool, true, false, List, [], ◌∷◌, drop}
-use Rattle.std.proofs.Common.{◌⊎◌, inl, inr, ◌&&◌, if◌then◌else◌, slice_get, is_some, Option, Some, None}
-use Rattle.std.specs.Prelude.{IsNone}
+use Rattle.std.proofs.Common.{◌⊎◌, inl, inr, ◌&&◌, ◌||◌, not, if◌then◌else◌, slice_get, is_some, Option, Some, None}
+use Rattle.std.proofs.Common.{arith, eqb, length, subst, Result, Ok, Err}
+use Rattle.std.specs.Prelude.{IsNone, IfErr}
 use Rattle.std.specs.Map.{lookup, set_value}
 use Rattle.std.specs.Ordering.{nat_cmp}
 use Rattle.std.specs.BTreeMap.{is_at}
-use Rattle.std.proofs.lemmas.Bool.{cases_Bool, or_left, or_right, true≢false}
+use Rattle.std.proofs.lemmas.Bool.{cases_Bool, eqb-true, false≢true, or_left, or_right, true≢false}
+use Rattle.std.proofs.lemmas.Map.Steps.{set_value_same}
+use Rattle.sctp_wire_types.specs.declared.error.Error.{Error}
+use Rattle.sctp_wire_types.specs.declared.error.Error.TheVariants as errors
 use Rattle.sctp_receive_queues.specs.Messages.{ReceivedMessage}
-use Rattle.sctp_receive_queues.specs.Reassembly.{Reassembly, ready, taken}
+use Rattle.sctp_receive_queues.specs.Reassembly.{Group, Reassembly, is_due, is_ready, read_from, read_ordered, ready}
+use Rattle.sctp_receive_queues.specs.Reassembly.{taken}
 use Rattle.sctp_receive_queues.proofs.ReadyMessages.{reads_give_what_is_ready}
 use Rattle.sctp_streams.specs.Stream.{StreamView, read_with, stream_read}
-use Rattle.sctp_streams.specs.Streams.{StreamMap, read_at, read_in, stream_at}
+use Rattle.sctp_streams.specs.Streams.{StreamMap, is_readable_at, is_readable_in, read_at, read_in, stream_at}
+use Rattle.sctp_streams.specs.Streams.{with_stream}
 use Rattle.sctp_generations.specs.Retiring.{boundaries_at, count_of}
 use Rattle.sctp_reset_requests.specs.Peer.{boundary_of}
 use Rattle.sctp_resets.specs.Channels.{channels}
 use Rattle.sctp_resets.specs.Draining.{Reading, passed_times}
 use Rattle.sctp_resets.specs.Resets.{is_retiring, with_read}
 use Rattle.sctp_assoc.specs.Calls.{LeavesTheOthers, after_read, drained_behind, read_exhausts, read_from_stream}
-use Rattle.sctp_assoc.specs.Calls.{ready_messages, ready_of}
+use Rattle.sctp_assoc.specs.Calls.{RefusesOrLacksMemory, read_refusal, read_takes_memory, ready_messages, ready_of}
 use Rattle.sctp_assoc.specs.Resets.{with_resetting}
-use Rattle.sctp_assoc.specs.Closing.{exhausted, is_exhausted}
-use Rattle.sctp_assoc.specs.Shown.{Shown}
+use Rattle.sctp_assoc.specs.Closing.{exhausted, is_exhausted, relieved, relieved_if}
+use Rattle.sctp_assoc.specs.Shown.{HasFailed, Shown, answers_of}
 
 -- what is written at a key that is found is found there
 pub found_again : (test : ℕ → Bool) (es : List (ℕ × StreamView)) (v w : StreamView) → lookup test es ≡ Some v
@@ -91,6 +97,82 @@ drained_plainly a id streams none =
     (no_generation_ends (boundaries_at g.retiring id) a.sender.queue.next_message_id
     a.receiver.max_receive_message_size id (boundary_of a.resets.peer id)
     (g, channels streams a.events a.to_accept) none)
+
+-- A read where no message is ready leaves all as it is.
+
+ordered_gives_none : (gs : List Group) (q : Reassembly) → is_due q.next_ssn (slice_get gs 0) ≡ false
+    → read_ordered q gs ≡ (q, None)
+ordered_gives_none [] q e = refl
+ordered_gives_none (g ∷ gs) q e = rw e refl
+
+negated : (c : Bool) → (c ≡ true → false ≡ true) → not c ≡ true
+negated true h = absurd (false≢true (h refl))
+negated false h = refl
+
+gives_none : (ms : List ReceivedMessage) (q : Reassembly)
+    → (not (eqb (length ms) 0) || is_due q.next_ssn (slice_get q.ordered 0)) ≡ false → read_from q ms ≡ (q, None)
+gives_none [] q e = ordered_gives_none q.ordered q e
+gives_none (m ∷ ms) q e =
+    absurd (true≢false
+    (sym (or_left (not (eqb (length (m ∷ ms)) 0)) (is_due q.next_ssn (slice_get q.ordered 0))
+    (negated (eqb (length (m ∷ ms)) 0)
+    (λ (z : (eqb (length (m ∷ ms)) 0) ≡ true). absurd (omega (arith, eqb-true (length (m ∷ ms)) 0 z)))))
+    ∙ e))
+
+stream_gives_none : (s : StreamView) → is_ready s.reassembly ≡ false → stream_read s ≡ (s, None)
+stream_gives_none s e = ap (read_with s) (gives_none s.reassembly.complete s.reassembly e)
+
+none_at : (o : Option StreamView) (m : StreamMap) (id : ℕ) → stream_at m id ≡ o → is_readable_at o ≡ false
+    → read_at o m id ≡ (m, None)
+none_at None m id e f = refl
+none_at (Some s) m id e f =
+    ap (λ (x : StreamView × Option ReceivedMessage). (with_stream m id x.0, x.1)) (stream_gives_none s f)
+    ∙ ap (λ (es : List (ℕ × StreamView)). (record m { by_id = es }, None))
+    (set_value_same (is_at (nat_cmp id)) m.by_id s e)
+
+pub nothing_is_read : (a : Shown) (id : ℕ) → is_readable_in a.streams id ≡ false → is_retiring a.resets id ≡ false
+    → read_from_stream a id ≡ (a, None)
+nothing_is_read a id e none =
+    ap (after_read a id) (none_at (stream_at a.streams id) a.streams id refl e)
+    ∙ ap (λ (z : Shown). (z, None)) (drained_plainly a id a.streams none)
+
+-- A read of a stream of which no generation ended takes its next message out, and closes where that exhausts the buffer.
+
+read_where_none_ended : (a : Shown) (id : ℕ) (x : StreamMap × Option ReceivedMessage) → is_retiring a.resets id ≡ false
+    → after_read a id x ≡ (relieved_if (is_some x.1) (record a { streams = x.0 }), x.1)
+read_where_none_ended a id (streams, None) none = ap (λ (z : Shown). (z, None)) (drained_plainly a id streams none)
+read_where_none_ended a id (streams, Some message) none =
+    ap (λ (z : Shown). (relieved z, Some message)) (drained_plainly a id streams none)
+
+pub read_without_end : (a b : Shown) (id : ℕ) (streams : StreamMap) (message : Option ReceivedMessage)
+    → is_retiring a.resets id ≡ false → read_in a.streams id ≡ (streams, message)
+    → b ≡ relieved_if (is_some message) (record a { streams = streams }) → read_from_stream a id ≡ (b, message)
+read_without_end a b id streams message none e left =
+    read_where_none_ended a id (read_in a.streams id) none
+    ∙ ap (λ (x : StreamMap × Option ReceivedMessage). (relieved_if (is_some x.1) (record a { streams = x.0 }), x.1)) e
+    ∙ ap (λ (z : Shown). (z, message)) (sym left)
+
+both_true : (p q : Bool) → p ≡ true → q ≡ true → (p && q) ≡ true
+both_true true q e f = f
+both_true false q e f = absurd (true≢false (sym e))
+
+pub plain_read_takes_memory : (a : Shown) (id : ℕ) (streams : StreamMap) (message : Option ReceivedMessage)
+    → is_retiring a.resets id ≡ false → read_in a.streams id ≡ (streams, message) → is_some message ≡ true
+    → is_exhausted (record a { streams = streams }) ≡ true → read_takes_memory a id ≡ true
+plain_read_takes_memory a id streams message none e gave full =
+    or_left (read_exhausts a id) _
+    (subst (λ (x : StreamMap × Option ReceivedMessage).
+    (is_some x.1 && is_exhausted (drained_behind a id x.0)) ≡ true) (sym e)
+    (ap (λ (z : Shown). is_some message && is_exhausted z) (drained_plainly a id streams none)
+    ∙ both_true (is_some message) (is_exhausted (record a { streams = streams })) gave full))
+
+-- a read that no rule refuses is refused for want of memory alone
+pub reads_lack_memory : (a b : Shown) (id : ℕ) (r : Result (Option ReceivedMessage) Error) → read_refusal a id ≡ None
+    → IfErr r (λ e. (e ≡ errors.ErrNoMemory) × (read_takes_memory a id ≡ true) × HasFailed (answers_of a) b)
+    → RefusesOrLacksMemory r (read_refusal a id)
+reads_lack_memory a b id (Ok message) free fails = free
+reads_lack_memory a b id (Err e) free fails =
+    subst (λ (o : Option Error). RefusesOrLacksMemory {T = Option ReceivedMessage} (Err e) o) (sym free) fails.0
 
 streams_left : (a : Shown) (id : ℕ) (x : StreamMap × Option ReceivedMessage) → is_retiring a.resets id ≡ false
     → ((is_some x.1 && is_exhausted (drained_behind a id x.0)) ≡ true) ⊎ ((after_read a id x).0.streams ≡ x.0)

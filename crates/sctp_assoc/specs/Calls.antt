@@ -1,10 +1,12 @@
 -- What the calls of an application do to an association.
 use Rattle.std.specs.Prelude.{◌≡◌, ◌⊎◌, ℕ, Bool, true, false, List, [], ◌∷◌, ◌++◌, ◌&&◌, ◌||◌, ◌==◌, if◌then◌else◌, length}
-use Rattle.std.specs.Prelude.{not}
+use Rattle.std.specs.Prelude.{not, slice_get}
 use Rattle.std.specs.Prelude.{drop, nat_lt, is_some, Option, Some, None, Result, Ok, Err}
 use Rattle.sctp_wire_types.specs.declared.error.Error.{Error}
 use Rattle.sctp_wire_types.specs.declared.error.Error.TheVariants as errors
+use Rattle.sctp_wire_types.specs.declared.event.StreamEvent.{StreamEvent}
 use Rattle.sctp_wire_types.specs.declared.event.StreamEvent.TheVariants.{BufferedAmountHigh}
+use Rattle.sctp_wire_types.specs.declared.event.StreamEvent.TheVariants as stream_events
 use Rattle.sctp_wire_types.specs.declared.ids.PayloadProtocolIdentifier.{PayloadProtocolIdentifier}
 use Rattle.sctp_parts.specs.declared.state.AssociationState.{AssociationState}
 use Rattle.sctp_parts.specs.declared.state.AssociationState.TheVariants as states
@@ -329,6 +331,35 @@ has_begun_closing a = is_closing a.state
 abbrev pub fault_told : Option Error → Option Event
 fault_told None = None
 fault_told (Some fault) = Some (HandshakeFailed (reasons.HandshakeFailed fault))
+
+-- that it failed is told once
+abbrev pub fault_polled : Shown → Shown × Option Event
+fault_polled a = (record a { handshake_fault = None }, fault_told a.handshake_fault)
+
+abbrev pub is_stream_event_at_once : StreamEvent → Bool
+is_stream_event_at_once (stream_events.Opened id) = true
+is_stream_event_at_once (stream_events.Readable id) = true
+is_stream_event_at_once (stream_events.Writable id) = false
+is_stream_event_at_once (stream_events.Finished id) = false
+is_stream_event_at_once (stream_events.ResetComplete id) = false
+is_stream_event_at_once (stream_events.ResetFailed id reason) = false
+is_stream_event_at_once (stream_events.Stopped id code) = false
+is_stream_event_at_once (stream_events.BufferedAmountLow id) = false
+is_stream_event_at_once (stream_events.BufferedAmountHigh id) = false
+is_stream_event_at_once stream_events.Available = true
+
+abbrev pub is_event_at_once : Option Event → Bool
+is_event_at_once None = false
+is_event_at_once (Some events.Connected) = true
+is_event_at_once (Some (events.HandshakeFailed reason)) = true
+is_event_at_once (Some (events.AssociationLost reason)) = true
+is_event_at_once (Some (events.Stream e)) = is_stream_event_at_once e
+is_event_at_once (Some (events.DataChannelStatsFinal stats)) = true
+is_event_at_once (Some events.DatagramReceived) = true
+
+-- the oldest event never waits for one of its stream, and that it is told says nothing of a reset
+abbrev pub is_first_at_once : List Event → Bool
+is_first_at_once es = is_event_at_once (slice_get es 0)
 
 abbrev pub event_from : ResetsView × List Event × Option Event → Shown → Shown × Option Event
 event_from (r, left, None) a =

@@ -61,3 +61,7 @@ exhausted a = queued (closed_by a reasons.ReceiveBufferExhausted) out_of_resourc
 -- the same where the receive buffer is exhausted
 abbrev pub relieved : Shown → Shown
 relieved a = if is_exhausted a then exhausted a else a
+
+-- so it is behind a read that gave a message
+abbrev pub relieved_if : Bool → Shown → Shown
+relieved_if gave a = if gave then relieved a else a

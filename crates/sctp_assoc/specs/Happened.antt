@@ -47,7 +47,7 @@ use Rattle.sctp_reset_requests.specs.Own.{OwnView}
 use Rattle.sctp_resets.specs.Resets.{is_hidden, refusal_of}
 use Rattle.sctp_resets.specs.Within.{OwnOver, ParamOver}
 use Rattle.sctp_streams.specs.declared.setting.Setting.TheVariants as settings
-use Rattle.sctp_assoc.specs.Calls.{adjusted, exchanges_data, holds_of, is_beginning, is_cookie_wait, is_established}
+use Rattle.sctp_assoc.specs.Calls.{adjusted, exchanges_data, holds_of, is_beginning, is_cookie_wait}
 use Rattle.sctp_assoc.specs.Calls.{read_exhausts, sends_data, stopped_open}
 use Rattle.sctp_assoc.specs.Closing.{is_closed_state, is_exhausted}
 use Rattle.sctp_assoc.specs.Chunks.{counted_data, deferred_where_admitted, on_chunk, stream_found, taken_in}

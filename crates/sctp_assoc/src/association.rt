@@ -10,7 +10,8 @@ ghost use Rattle.sctp_assoc.specs.Calls.{Refuses, RefusesOrLacksMemory, accepted
 ghost use Rattle.sctp_assoc.specs.Calls.{failed_refusal, open_refusal, opened, stream_refusal, usable};
 ghost use Rattle.sctp_assoc.specs.Calls.{with_max_send_message_size};
 ghost use Rattle.sctp_streams.specs.Streams.{live_ids};
-ghost use Rattle.sctp_assoc.specs.Calls.{after_t3, after_ack_delay, event_from, event_polled};
+ghost use Rattle.sctp_assoc.specs.Calls.{after_t3, after_ack_delay, event_from, event_polled, fault_polled};
+ghost use Rattle.sctp_assoc.specs.Calls.{is_first_at_once};
 ghost use Rattle.sctp_assoc.specs.Closing.{closed_by, is_closed_state};
 ghost use Rattle.sctp_assoc.specs.Chunks.{after_packet};
 ghost use Rattle.sctp_directions.specs.Acts.{Act, begun};
@@ -39,7 +40,7 @@ use sctp_parts::timer::{Timer, TimerTable};
 use sctp_resets::Resets;
 use sctp_wire_queues::{
     AssociationError, ChunkInit, Error, Event, Events, Instant, Payload, PayloadProtocolIdentifier,
-    ServerConfig, Side, StreamId, Streams, Transmit, TransportConfig,
+    ServerConfig, Side, StreamEvent, StreamId, Streams, Transmit, TransportConfig,
 };
 use std::alloc::{AllocError, Global};
 use std::collections::VecDeque;
@@ -330,18 +331,51 @@ impl Association {
         Ok(self.next_event())
     }
 
+    #[tactic(auto, using(crate::proofs::EventsTold::first_is_told, crate::proofs::EventsTold::none_is_told))]
     fn next_event(&mut self) -> Option<Event>
+        ensures { event_polled self.old ≡ (self.new, result) }
+    {
+        if self.is_first_at_once() {
+            return self.events.pop();
+        }
+        if self.events.as_queue().is_empty() {
+            return self.next_fault();
+        }
+        self.next_ready_event()
+    }
+
+    // Whether the oldest event never waits for one of its stream, and says nothing of a reset.
+    fn is_first_at_once(&self) -> bool
+        ensures { result ≡ is_first_at_once self.now.events }
+    {
+        match self.events.as_queue().front() {
+            Some(Event::Stream(told)) => matches!(
+                told,
+                StreamEvent::Opened { .. } | StreamEvent::Readable { .. } | StreamEvent::Available
+            ),
+            Some(_) => true,
+            None => false,
+        }
+    }
+
+    // Goes over the events that wait for one of their stream.
+    fn next_ready_event(&mut self) -> Option<Event>
         ensures { event_polled self.old ≡ (self.new, result) }
     {
         match self.resets.next_event(&mut self.events) {
             Some(event) => Some(event),
-            None => self
-                .handshake_fault
-                .take()
-                .map(|fault| Event::HandshakeFailed {
-                    reason: fault.into(),
-                }),
+            None => self.next_fault(),
         }
+    }
+
+    // That the handshake failed, where nobody was told.
+    fn next_fault(&mut self) -> Option<Event>
+        ensures { fault_polled self.old ≡ (self.new, result) }
+    {
+        let fault = self.handshake_fault.take()?;
+        Some(Event::HandshakeFailed {
+            reason: fault.into(),
+        })
     }
 
     /// What the endpoint that holds this association is to be told, once; None where nothing is. A shutdown that this

@@ -1,9 +1,9 @@
 // What an association does for the calls of its streams.
 ghost use Rattle.std.specs.Prelude.{◌≡◌, ◌↔◌, ◌∷◌, [], length, slice_get, IsNone, IfErr, IfOk, OnErr, OnOk, true};
-ghost use Rattle.std.specs.Prelude.{Some};
+ghost use Rattle.std.specs.Prelude.{Some, false};
 ghost use Rattle.sctp_streams.specs.Stream.{is_read_half_open};
 ghost use Rattle.sctp_streams.specs.declared.setting.Setting.TheVariants as settings;
-ghost use Rattle.sctp_streams.specs.Streams.{stream_at};
+ghost use Rattle.sctp_streams.specs.Streams.{is_readable_in, stream_at};
 ghost use Rattle.sctp_resets.specs.Resets.{is_retiring};
 ghost use Rattle.sctp_directions.specs.Acts.{Act};
 ghost use Rattle.sctp_assoc.specs.Happened.{acts_of_close_stream, acts_of_read, acts_of_stop};
@@ -13,7 +13,7 @@ ghost use Rattle.sctp_assoc.specs.Calls.{RefusesStop, drained_behind, gone_refus
 ghost use Rattle.sctp_assoc.specs.Calls.{read_from_stream, read_refusal, read_takes_memory, ready_messages};
 ghost use Rattle.sctp_assoc.specs.Calls.{stop_refusal, stopped, stopped_open};
 ghost use Rattle.sctp_assoc.specs.Calls.{with_queued, write_refusal, written};
-ghost use Rattle.sctp_assoc.specs.Closing.{is_exhausted, relieved};
+ghost use Rattle.sctp_assoc.specs.Closing.{exhausted, is_exhausted, relieved, relieved_if};
 ghost use Rattle.sctp_assoc.specs.Shown.{HasFailed, answers_of};
 
 use crate::Association;
@@ -35,13 +35,45 @@ impl Association {
         ensures none { IfOk result (λ message. IsNone message ↔ (ready_messages self.old id ≡ [])) }
         ensures acts { OnOk result (LeadsOn (acts_of_read self.old id) self.old self.new) }
     {
-        self.check_read(id)?;
-        let message = self.read_next(id)?;
+        let is_ready = self.check_read(id)?;
+        self.read_next(id, is_ready)
+    }
+
+    // Nothing is looked at and nothing changes where no message is ready and no generation of the stream ended.
+    #[tactic(auto, using(crate::proofs::StreamReads::nothing_is_read))]
+    fn read_next(&mut self, id: StreamId, is_ready: bool) -> Result<Option<Chunks>, Error>
+        requires { is_ready ≡ is_readable_in self.old.streams id }
+        ensures ok { IfOk result (λ message. read_from_stream self.old id ≡ (self.new, message)) }
+        ensures err { IfErr result (λ e. (e ≡ Error.ErrNoMemory) × (read_takes_memory self.old id ≡ true)
+            × HasFailed (answers_of self.old) self.new) }
+    {
+        if self.resets.is_retiring(id) {
+            return self.read_retiring(id);
+        }
+        if !is_ready {
+            return Ok(None);
+        }
+        self.read_plainly(id)
+    }
+
+    // Takes the next message out where no generation of the stream ended, and closes where that leaves the receive
+    // buffer exhausted.
+    #[tactic(auto, using(crate::proofs::StreamReads::read_without_end, crate::proofs::StreamReads::plain_read_takes_memory))]
+    fn read_plainly(&mut self, id: StreamId) -> Result<Option<Chunks>, Error>
+        requires { is_retiring self.old.resets id ≡ false }
+        ensures ok { IfOk result (λ message. read_from_stream self.old id ≡ (self.new, message)) }
+        ensures err { IfErr result (λ e. (e ≡ Error.ErrNoMemory) × (read_takes_memory self.old id ≡ true)
+            × HasFailed (answers_of self.old) self.new) }
+    {
+        let message = self.streams.read(id);
+        self.relieve_if(message.is_some())?;
         Ok(message)
     }
 
-    // Takes the next message out, and closes where that leaves the receive buffer exhausted.
-    fn read_next(&mut self, id: StreamId) -> Result<Option<Chunks>, Error>
+    // The same where one ended. It stands apart, so that reads of all other streams don't pay for it.
+    #[cold]
+    #[inline(never)]
+    fn read_retiring(&mut self, id: StreamId) -> Result<Option<Chunks>, Error>
         ensures ok { IfOk result (λ message. read_from_stream self.old id ≡ (self.new, message)) }
         ensures err { IfErr result (λ e. (e ≡ Error.ErrNoMemory) × (read_takes_memory self.old id ≡ true)
             × HasFailed (answers_of self.old) self.new) }
@@ -73,29 +105,53 @@ impl Association {
         )
     }
 
-    // Refuses a read for any reason but memory.
-    fn check_read(&self, id: StreamId) -> Result<(), Error>
-        ensures { Refuses result (read_refusal self.now id) }
+    // Refuses a read for any reason but memory; answers whether a message is ready.
+    fn check_read(&self, id: StreamId) -> Result<bool, Error>
+        ensures refused { Refuses result (read_refusal self.now id) }
+        ensures ready { IfOk result (λ ready. ready ≡ is_readable_in self.now.streams id) }
     {
         self.check_usable()?;
         match self.streams.get(id) {
-            Some(stream) if stream.is_read_half_open() => Ok(()),
+            Some(stream) if stream.is_read_half_open() => Ok(stream.is_readable()),
             _ => Err(Error::ErrStreamClosed),
         }
     }
 
-    // After a read: closes where the receive buffer is exhausted.
+    // After a read that gave a message: closes where the receive buffer is exhausted.
+    fn relieve_if(&mut self, gave: bool) -> Result<(), Error>
+        ensures ok { OnOk result (self.new ≡ relieved_if gave self.old) }
+        ensures err { IfErr result (λ e. (e ≡ Error.ErrNoMemory) × (gave ≡ true) × (is_exhausted self.old ≡ true)
+            × HasFailed (answers_of self.old) self.new) }
+    {
+        if gave {
+            return self.relieve();
+        }
+        Ok(())
+    }
+
+    // Closes where the receive buffer is exhausted.
     fn relieve(&mut self) -> Result<(), Error>
         ensures ok { OnOk result (self.new ≡ relieved self.old) }
         ensures err { IfErr result (λ e. (e ≡ Error.ErrNoMemory) × (is_exhausted self.old ≡ true)
             × HasFailed (answers_of self.old) self.new) }
     {
         if self.is_exhausted() {
-            let before = self.answers();
-            if self.exhaust().is_err() {
-                self.fail(before);
-                return Err(Error::ErrNoMemory);
-            }
+            return self.exhaust_or_fail();
+        }
+        Ok(())
+    }
+
+    // The receive buffer is exhausted, which closes; where memory is refused for that the association fails.
+    #[cold]
+    #[inline(never)]
+    fn exhaust_or_fail(&mut self) -> Result<(), Error>
+        ensures ok { OnOk result (self.new ≡ exhausted self.old) }
+        ensures err { IfErr result (λ e. (e ≡ Error.ErrNoMemory) × HasFailed (answers_of self.old) self.new) }
+    {
+        let before = self.answers();
+        if self.exhaust().is_err() {
+            self.fail(before);
+            return Err(Error::ErrNoMemory);
         }
         Ok(())
     }
