@@ -35,7 +35,7 @@ use Rattle.sctp_model.proofs.Lists.{all_join}
 use Rattle.sctp_directions.specs.Acts.{Act, CanAll, History}
 use Rattle.sctp_assoc.specs.Leads.{Binds, parts}
 use Rattle.sctp_fit.specs.Incoming.{tsn_before}
-use Rattle.sctp_assoc.specs.Calls.{is_beginning, is_cookie_wait, is_established}
+use Rattle.sctp_assoc.specs.Calls.{exchanges_data, is_beginning, is_cookie_wait, sends_data}
 use Rattle.sctp_assoc.specs.Gather.{both_of, fast_polled, late_abandoned, late_dropped, marks_polled, spent_abandoned}
 use Rattle.sctp_assoc.specs.Happened.{acts_of_abandoning, acts_of_dropping, acts_of_drops, acts_of_expiry}
 use Rattle.sctp_assoc.specs.Happened.{acts_of_fast_poll, acts_of_forwarding, acts_of_giving_all_up}
@@ -54,7 +54,7 @@ use Rattle.sctp_outbound_queue.specs.declared.message.Retransmission.{Retransmis
 use Rattle.sctp_outbound_queue.specs.declared.message.Retransmission.TheVariants as causes
 use Rattle.sctp_assoc.specs.Happened.{acts_of_marks, acts_of_new, acts_of_outcome, acts_of_resending, acts_of_sending}
 use Rattle.sctp_assoc.specs.Happened.{first_again, first_sent}
-use Rattle.sctp_assoc.specs.Timeouts.{after_handshake_timers}
+use Rattle.sctp_assoc.specs.Timeouts.{after_shutdown_timer}
 use Rattle.sctp_sides.specs.SideLaws.{GivesNew, GivesUpOrAgain}
 use Rattle.sctp_sides.specs.SideLaws.{GreetingsMakeThePeerKnown, IsOther, IsPeerKnown}
 use Rattle.sctp_sides.specs.SideLaws.{OnlyForwardsAheadPassOver, UnusedForwardsDoNothing}
@@ -74,9 +74,9 @@ outcome_acts outcomes.NotInFlight n blocks missing = inl refl
 outcome_acts outcomes.NamesTheUnsent n blocks missing = inl refl
 outcome_acts outcomes.Taken n blocks missing = inr refl
 
-sack_if : (established : Bool) (o : SackOutcome) (n : ℕ) (blocks : List GapAckBlock) (missing : ℕ)
-    → ((if established then acts_of_outcome o n blocks missing else []) ≡ [])
-    ⊎ ((if established then acts_of_outcome o n blocks missing else []) ≡ Act.Acknowledged n blocks missing ∷ [])
+sack_if : (sends : Bool) (o : SackOutcome) (n : ℕ) (blocks : List GapAckBlock) (missing : ℕ)
+    → ((if sends then acts_of_outcome o n blocks missing else []) ≡ [])
+    ⊎ ((if sends then acts_of_outcome o n blocks missing else []) ≡ Act.Acknowledged n blocks missing ∷ [])
 sack_if true o n blocks missing = outcome_acts o n blocks missing
 sack_if false o n blocks missing = inl refl
 
@@ -87,7 +87,7 @@ pub checked_sack : (r : Result (Unit {0}) Error) (a : Shown) (header : CommonHea
     (reports_of a.sender k.cumulative_tsn_ack k.gap_ack_blocks) ∷ [])
 checked_sack (Err fault) a header k = inl refl
 checked_sack (Ok done) a header k =
-    sack_if (is_established a.state) (sack_outcome a.sender k.cumulative_tsn_ack k.gap_ack_blocks)
+    sack_if (sends_data a.state) (sack_outcome a.sender k.cumulative_tsn_ack k.gap_ack_blocks)
     (tsns_up_to a.sender k.cumulative_tsn_ack) k.gap_ack_blocks
     (reports_of a.sender k.cumulative_tsn_ack k.gap_ack_blocks)
 
@@ -156,10 +156,10 @@ outcome_taken : (older beyond unsent : Bool) → older ≡ false → beyond ≡ 
     → outcome_of older beyond unsent ≡ outcomes.Taken
 outcome_taken older beyond unsent e f g = rw (e, f, g) refl
 
-taken_acts : (established : Bool) (o : SackOutcome) (n count : ℕ) (blocks : List GapAckBlock) (missing : ℕ)
-    → established ≡ true → o ≡ outcomes.Taken → n ≡ count
-    → (if established then acts_of_outcome o n blocks missing else []) ≡ Act.Acknowledged count blocks missing ∷ []
-taken_acts established o n count blocks missing e f g = rw (e, f, g) refl
+taken_acts : (sends : Bool) (o : SackOutcome) (n count : ℕ) (blocks : List GapAckBlock) (missing : ℕ)
+    → sends ≡ true → o ≡ outcomes.Taken → n ≡ count
+    → (if sends then acts_of_outcome o n blocks missing else []) ≡ Act.Acknowledged count blocks missing ∷ []
+taken_acts sends o n count blocks missing e f g = rw (e, f, g) refl
 
 -- where each offset that is named is in flight, none is not
 none_unsent : (found : Bool) (n count flown : ℕ) (blocks : List GapAckBlock) → n ≡ count
@@ -176,7 +176,7 @@ none_unsent true n count flown blocks e f all =
     in_flight n count o flown e l m = rw (e, lt-ltb 0 (count + o) l, le-leb (count + o) flown m) refl
 
 pub taken_sacks_acknowledge : TakenSacksAcknowledge
-taken_sacks_acknowledge a h header sack count established binds names =
+taken_sacks_acknowledge a h header sack count sends binds names =
     let acked = cumulative_tsn_ack_point_of a.sender in
     let t = sack.cumulative_tsn_ack in
     let at : cumulative_tsn_ack_point_of a.sender ≡ tsn_before (tsn h.own h.base) = acked_at a h binds in
@@ -187,8 +187,8 @@ taken_sacks_acknowledge a h header sack count established binds names =
     let first : count ≡ 0 → cumulative_tsn_ack_point_of a.sender ≡ sack.cumulative_tsn_ack =
     λ (none : count ≡ 0). at ∙ named_first h.own h.base ∙ ap (λ (n : ℕ). tsn_before (tsn h.own (h.base + n))) (sym none)
     ∙ sym names.at in
-    taken_acts (is_established a.state) (sack_outcome a.sender t sack.gap_ack_blocks) (tsns_up_to a.sender t) count
-    sack.gap_ack_blocks (reports_of a.sender t sack.gap_ack_blocks) established
+    taken_acts (sends_data a.state) (sack_outcome a.sender t sack.gap_ack_blocks) (tsns_up_to a.sender t) count
+    sack.gap_ack_blocks (reports_of a.sender t sack.gap_ack_blocks) sends
     (outcome_taken (tsn_gt acked t) (ltb (length a.sender.queue.in_flight) (tsns_up_to a.sender t))
     (names_unsent a.sender t sack.gap_ack_blocks)
     (not_behind acked t count past names.near first)
@@ -198,10 +198,10 @@ taken_sacks_acknowledge a h header sack count established binds names =
     (length a.sender.queue.in_flight) sack.gap_ack_blocks past refl names.named))
     past
 
-other_acts_of_sack : (established older beyond unsent : Bool) (n : ℕ) (blocks : List GapAckBlock)
+other_acts_of_sack : (sends older beyond unsent : Bool) (n : ℕ) (blocks : List GapAckBlock)
     (missing : ℕ)
-    → (established ≡ false) ⊎ (older ≡ true)
-    → (if established then acts_of_outcome (outcome_of older beyond unsent) n blocks missing else []) ≡ []
+    → (sends ≡ false) ⊎ (older ≡ true)
+    → (if sends then acts_of_outcome (outcome_of older beyond unsent) n blocks missing else []) ≡ []
 other_acts_of_sack false older beyond unsent n blocks missing other = refl
 other_acts_of_sack true true beyond unsent n blocks missing other = refl
 other_acts_of_sack true false beyond unsent n blocks missing (inl e) = absurd (false≢true (sym e))
@@ -211,11 +211,11 @@ pub other_sacks_do_nothing : OtherSacksDoNothing
 other_sacks_do_nothing a h header sack binds other =
     let acked = cumulative_tsn_ack_point_of a.sender in
     let t = sack.cumulative_tsn_ack in
-    other_acts_of_sack (is_established a.state) (tsn_gt acked t)
+    other_acts_of_sack (sends_data a.state) (tsn_gt acked t)
     (ltb (length a.sender.queue.in_flight) (tsns_up_to a.sender t)) (names_unsent a.sender t sack.gap_ack_blocks)
     (tsns_up_to a.sender t) sack.gap_ack_blocks (reports_of a.sender t sack.gap_ack_blocks)
     (⊎_elim
-    (λ (e : is_established a.state ≡ false). inl e)
+    (λ (e : sends_data a.state ≡ false). inl e)
     (λ (e : tsn_gt (tsn_before (tsn h.own h.base)) sack.cumulative_tsn_ack ≡ true).
     inr (ap (λ (z : ℕ). tsn_gt z sack.cumulative_tsn_ack) (acked_at a h binds) ∙ e))
     other)
@@ -452,7 +452,7 @@ data_poll_acts a now =
     (acts_of_unsent (fast_polled a now) now) (new_acts a now))
 
 pub polls_give_and_report : PollsGiveAndReport
-polls_give_and_report a now established =
+polls_give_and_report a now exchanges =
     let forward = acts_of_forwarding (forwards_of_poll a now) in
     record {
       old = old_acts a now;
@@ -460,7 +460,7 @@ polls_give_and_report a now established =
       new = new_acts a now;
       new_are = new_gives (late_dropped (fast_polled a now) now).sender now;
       are =
-          cond-true (is_established a.state) (acts_of_data_poll a now ++ acts_of_ack a ++ forward) [] established
+          cond-true (exchanges_data a.state) (acts_of_data_poll a now ++ acts_of_ack a ++ forward) [] exchanges
           ∙ ap (λ (xs : List Act). xs ++ acts_of_ack a ++ forward) (data_poll_acts a now);
     }
 
@@ -475,5 +475,5 @@ timeouts_mark_if true false = inr refl
 
 pub timeouts_mark_at_most : TimeoutsMarkAtMost
 timeouts_mark_at_most a now =
-    let b : Shown = after_handshake_timers a now in
+    let b : Shown = after_shutdown_timer a now in
     timeouts_mark_if (expiry_of names.T3RTX now b.timers).expired (expiry_of names.T3RTX now b.timers).failed

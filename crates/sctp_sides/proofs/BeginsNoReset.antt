@@ -45,7 +45,10 @@ use Rattle.sctp_resets.specs.Telling.{debts_told, next_told}
 use Rattle.sctp_assoc.specs.declared.inbound.Flow.{Flow}
 use Rattle.sctp_assoc.specs.declared.inbound.Flow.TheVariants as flows
 use Rattle.sctp_assoc.specs.Calls.{accepted_from, after_ack_delay, after_read, after_t3, drained_behind, event_from}
+use Rattle.sctp_assoc.specs.Calls.{exchanges_data}
 use Rattle.sctp_assoc.specs.Calls.{is_beginning, is_cookie_echoed, is_cookie_wait, is_established, retransmits}
+use Rattle.sctp_assoc.specs.Calls.{sends_data}
+use Rattle.sctp_assoc.specs.Shutdown.{shutdown_answered, shutdown_continued, shutdown_taken}
 use Rattle.sctp_assoc.specs.Calls.{t3_expired, written_at}
 use Rattle.sctp_assoc.specs.Chunks.{after_sack, asks, asks_or_faults, checked_first, counted_data, counted_sack}
 use Rattle.sctp_assoc.specs.Chunks.{deferred_where_admitted, dispatched, on_chunk, on_counted_data, on_counted_sack}
@@ -54,8 +57,9 @@ use Rattle.sctp_assoc.specs.Chunks.{taken_where_admitted, then_skips, told, with
 use Rattle.sctp_assoc.specs.Chunks.{with_new_stream}
 use Rattle.sctp_assoc.specs.Closing.{closed_by, closed_open, exhausted, is_closed_state, is_exhausted, out_of_resource}
 use Rattle.sctp_assoc.specs.Control.{queued}
-use Rattle.sctp_assoc.specs.Gather.{ack_after, ack_polled, after_both, data_polled, exchange_after, exchange_polled}
-use Rattle.sctp_assoc.specs.Gather.{forward_after, forward_polled, is_due, polled, reconfig_run_after, requests_after}
+use Rattle.sctp_assoc.specs.Gather.{ack_after, ack_polled, after_both, data_after, data_polled, exchange_after}
+use Rattle.sctp_assoc.specs.Gather.{exchange_polled, forward_after, forward_polled, is_due, open_polled}
+use Rattle.sctp_assoc.specs.Gather.{reconfig_run_after, requests_after}
 use Rattle.sctp_assoc.specs.Gather.{requests_polled, without_control}
 use Rattle.sctp_assoc.specs.Handshake.{acknowledged_cookie, after_t1_cookie, after_t1_init, answered, connected}
 use Rattle.sctp_assoc.specs.Handshake.{cookie_queued, echoed, information_returned, init_queued, learned, learned_back}
@@ -64,6 +68,7 @@ use Rattle.sctp_assoc.specs.Handshake.{sends_cookie, sends_init, t1_cookie_expir
 use Rattle.sctp_assoc.specs.Resets.{asks_again, after_reconfig_timer, gives_up, reconfig_expired, settled}
 use Rattle.sctp_assoc.specs.Resets.{skips_applied_of, with_beside, with_reconfig_run}
 use Rattle.sctp_assoc.specs.Shown.{Shown, all_waiting}
+use Rattle.sctp_assoc.specs.Shutdown.{after_t2_shutdown}
 use Rattle.sctp_assoc.specs.Skipping.{acknowledged_at_once, asks_behind, on_forward, skips_of, with_passed, with_skip}
 use Rattle.sctp_assoc.specs.Skipping.{with_skips}
 use Rattle.sctp_sides.specs.NoReset.{AcceptedStreamsBeginNoReset, BeginsNoReset, ClosesBeginNoReset}
@@ -72,6 +77,7 @@ use Rattle.sctp_sides.specs.NoReset.{IsOfNoReset, JoinedSidesResetNothing, Limit
 use Rattle.sctp_sides.specs.NoReset.{OpenedStreamsBeginNoReset, OtherChunksBeginNoReset, PacketEndsBeginNoReset}
 use Rattle.sctp_sides.specs.NoReset.{PollsBeginNoReset, ReadsBeginNoReset, SettingsBeginNoReset}
 use Rattle.sctp_sides.specs.NoReset.{TimersBeginNoReset, ToldEventsBeginNoReset, WritesBeginNoReset, control_packets}
+use Rattle.sctp_sides.proofs.EndedPolls.{by_poll_end, complete_given, with_answer_timed}
 use Rattle.sctp_sides.proofs.ForwardKinds.{forward_is_one_of}
 use Rattle.sctp_sides.proofs.WithoutResets.{no_request_expires, no_request_is_given_up, no_request_is_polled}
 use Rattle.sctp_sides.proofs.WithoutResets.{no_request_is_timed, no_skip_is_applied, none_is_hidden, none_retires}
@@ -326,21 +332,23 @@ pub timers_begin_no_reset : TimersBeginNoReset
 timers_begin_no_reset a now = λ n.
     let b : Shown = after_t1_init a now in
     let c : Shown = after_t1_cookie b now in
-    let d : Shown = after_t3 c now in
+    let f : Shown = after_t2_shutdown c now in
+    let d : Shown = after_t3 f now in
     let e : Shown = after_reconfig_timer d now in
     ack_delay_none (expiry_of names.Ack now e.timers).expired e now refl
     (reconfig_none (expiry_of names.Reconfig now d.timers).expired (expiry_of names.Reconfig now d.timers).failed d now
-    (t3_none (expiry_of names.T3RTX now c.timers).expired (expiry_of names.T3RTX now c.timers).failed c now
+    (t3_none (expiry_of names.T3RTX now f.timers).expired (expiry_of names.T3RTX now f.timers).failed f now
+    (same_resets c f refl refl
     (t1_cookie_none (expiry_of names.T1Cookie now b.timers).expired (expiry_of names.T1Cookie now b.timers).failed b now
     (t1_init_none (expiry_of names.T1Init now a.timers).expired (expiry_of names.T1Init now a.timers).failed a now
-    n))))
+    n)))))
 
 -- Polls
 
 both_left : (packets : List (List ℕ)) (x : Shown × List (List ℕ)) → (after_both packets x).0 ≡ x.0
 both_left packets (a, more) = refl
 
-data_none : (a : Shown) (now : ℕ) → BeginsNoReset a (data_polled a now).0
+data_none : (a : Shown) (now : ℕ) → BeginsNoReset a (data_after a now).0
 unfolding data_polled
 data_none a now = same_resets a _ refl refl
 
@@ -363,12 +371,12 @@ forward_none : (x : Shown × List (List ℕ)) → BeginsNoReset x.0 (forward_aft
 unfolding forward_polled
 forward_none (a, packets) = same_resets a _ refl refl
 
-exchange_none : (established : Bool) (a : Shown) (now : ℕ) → is_established a.state ≡ established
+exchange_none : (exchanges : Bool) (a : Shown) (now : ℕ) → exchanges_data a.state ≡ exchanges
     → BeginsNoReset a (exchange_polled a now).0
 unfolding exchange_polled
 exchange_none true a now e =
-    rw e (λ n. forward_none (ack_after (requests_after (data_polled a now)))
-    (ack_none (requests_after (data_polled a now)) (requests_none (data_polled a now) (data_none a now n))))
+    rw e (λ n. forward_none (ack_after (requests_after (data_after a now)))
+    (ack_none (requests_after (data_after a now)) (requests_none (data_after a now) (data_none a now n))))
 exchange_none false a now e = rw e (λ n. n)
 
 run_none : (a : Shown) (now : ℕ) → BeginsNoReset a (with_reconfig_run a now)
@@ -377,16 +385,25 @@ run_none a now = λ n. subst HasNoReset (sym (no_request_is_timed a now n.active
 run_left : (x : Shown × List (List ℕ)) (now : ℕ) → (reconfig_run_after x now).0 ≡ with_reconfig_run x.0 now
 run_left (a, packets) now = refl
 
-pub polls_begin_no_reset : PollsBeginNoReset
-polls_begin_no_reset a now = λ n.
+front_none : (a : Shown) (now : ℕ) → BeginsNoReset a (open_polled a now).0
+front_none a now = λ n.
     let b : Shown = without_control a in
     let x : Shown × List (List ℕ) = exchange_polled b now in
-    let left : (polled a now).0 ≡ with_reconfig_run x.0 now =
+    let left : (open_polled a now).0 ≡ with_reconfig_run x.0 now =
     ap (λ (y : Shown × List (List ℕ)). (reconfig_run_after (exchange_after y now) now).0) (what_waits_goes_out a n)
     ∙ run_left (after_both (control_packets a.control) x) now
     ∙ ap (λ (z : Shown). with_reconfig_run z now) (both_left (control_packets a.control) x) in
     subst HasNoReset (sym left)
-    (run_none x.0 now (exchange_none (is_established b.state) b now refl (none_waits a n)))
+    (run_none x.0 now (exchange_none (exchanges_data b.state) b now refl (none_waits a n)))
+
+-- the end of a poll begins none, and where it closes none is under way
+pub polls_begin_no_reset : PollsBeginNoReset
+polls_begin_no_reset a now =
+    let m : Shown = (open_polled a now).0 in
+    by_poll_end (BeginsNoReset a) a now
+    (λ e due timer n. same_resets m (with_answer_timed m due timer) refl refl (front_none a now n))
+    (λ e open_still n. closed_if false (complete_given m) reasons.AssociationClosed
+    (same_resets m (complete_given m) refl refl (front_none a now n)))
 
 -- Chunks
 
@@ -484,12 +501,14 @@ outcome_none : (o : SackOutcome) (a : Shown) (cumulative_tsn_ack : ℕ) (blocks 
 outcome_none outcomes.Older a cumulative_tsn_ack blocks window trigger now = λ n. n
 outcome_none outcomes.NotInFlight a cumulative_tsn_ack blocks window trigger now = λ n. n
 outcome_none outcomes.NamesTheUnsent a cumulative_tsn_ack blocks window trigger now = λ n. n
-outcome_none outcomes.Taken a cumulative_tsn_ack blocks window trigger now =
-    acknowledged_none a (progress_of a.sender cumulative_tsn_ack blocks) now
-    (sack_taken cumulative_tsn_ack blocks window now a.sender a.estimate a.streams)
+outcome_none outcomes.Taken a cumulative_tsn_ack blocks window trigger now = λ n.
+    let b : Shown = after_sack a cumulative_tsn_ack blocks window now in
+    same_resets b (shutdown_continued b) refl refl
+    (acknowledged_none a (progress_of a.sender cumulative_tsn_ack blocks) now
+    (sack_taken cumulative_tsn_ack blocks window now a.sender a.estimate a.streams) n)
 
-sack_none : (established : Bool) (a : Shown) (cumulative_tsn_ack : ℕ) (blocks : List GapAckBlock) (window : ℕ)
-    (trigger : AckTrigger) (now : ℕ) → is_established a.state ≡ established
+sack_none : (sends : Bool) (a : Shown) (cumulative_tsn_ack : ℕ) (blocks : List GapAckBlock) (window : ℕ)
+    (trigger : AckTrigger) (now : ℕ) → sends_data a.state ≡ sends
     → BeginsNoReset a (on_sack a cumulative_tsn_ack blocks window trigger now).0
 unfolding on_sack
 sack_none true a cumulative_tsn_ack blocks window trigger now e =
@@ -598,7 +617,7 @@ kind_none : (a : Shown) (header : CommonHeader) (c : Chunk) (trigger : AckTrigge
     → BeginsNoReset a (dispatched a header c trigger now).0
 kind_none a header (chunks.Data piece) trigger now plain = on_data_none a piece trigger
 kind_none a header (chunks.SelectiveAck k) trigger now plain =
-    sack_none (is_established a.state) a k.cumulative_tsn_ack k.gap_ack_blocks k.advertised_receiver_window_credit trigger
+    sack_none (sends_data a.state) a k.cumulative_tsn_ack k.gap_ack_blocks k.advertised_receiver_window_credit trigger
     now refl
 kind_none a header (chunks.Init x) trigger now plain = init_none (is_beginning a.state) a header x trigger refl
 kind_none a header (chunks.InitAck x) trigger now plain =
@@ -606,8 +625,8 @@ kind_none a header (chunks.InitAck x) trigger now plain =
 kind_none a header (chunks.Heartbeat x) trigger now plain = heartbeat_none a x trigger
 kind_none a header (chunks.HeartbeatAck x) trigger now plain = λ n. n
 kind_none a header (chunks.Abort x) trigger now plain = λ n. n
-kind_none a header (chunks.Shutdown x) trigger now plain = λ n. n
-kind_none a header chunks.ShutdownAck trigger now plain = λ n. n
+kind_none a header (chunks.Shutdown x) trigger now plain = same_resets a (shutdown_taken a) refl refl
+kind_none a header chunks.ShutdownAck trigger now plain = same_resets a (shutdown_answered a) refl refl
 kind_none a header (chunks.Error x) trigger now plain = λ n. n
 kind_none a header (chunks.CookieEcho cookie) trigger now plain =
     cookie_echo_none (has_issued a.handshake cookie) (is_beginning a.state) (is_established a.state) a cookie trigger refl

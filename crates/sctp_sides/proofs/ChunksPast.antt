@@ -42,8 +42,10 @@ use Rattle.sctp_resets.proofs.KeptOver.{retiring_is_over, settled_over, skip_ove
 use Rattle.sctp_resets.proofs.KeptOver.{unordered_over}
 use Rattle.sctp_assoc.specs.declared.inbound.Flow.{Flow}
 use Rattle.sctp_assoc.specs.declared.inbound.Flow.TheVariants as flows
-use Rattle.sctp_assoc.specs.Calls.{is_beginning, is_cookie_echoed, is_cookie_wait, is_established}
-use Rattle.sctp_assoc.specs.Chunks.{asks, asks_or_faults, checked_first, counted_data, counted_sack, deferred}
+use Rattle.sctp_assoc.specs.Calls.{is_beginning, is_cookie_echoed, is_cookie_wait, is_established, sends_data}
+use Rattle.sctp_assoc.specs.Shutdown.{shutdown_answered, shutdown_continued, shutdown_taken}
+use Rattle.sctp_assoc.specs.Chunks.{after_sack, asks, asks_or_faults, checked_first, counted_data, counted_sack}
+use Rattle.sctp_assoc.specs.Chunks.{deferred}
 use Rattle.sctp_assoc.specs.Chunks.{deferred_unless, deferred_where_admitted, dispatched, on_chunk, on_counted_sack}
 use Rattle.sctp_assoc.specs.Chunks.{on_data, on_new_data, on_sack, stream_found, taken_in, taken_unless}
 use Rattle.sctp_assoc.specs.Chunks.{taken_where_admitted, then_skips, told, with_acknowledged, with_message}
@@ -305,11 +307,14 @@ module _ (over : ℕ → Bool) where
   outcome_keeps outcomes.NotInFlight a cumulative_tsn_ack blocks window trigger now = stays a
   outcome_keeps outcomes.NamesTheUnsent a cumulative_tsn_ack blocks window trigger now = stays a
   outcome_keeps outcomes.Taken a cumulative_tsn_ack blocks window trigger now =
-      acknowledged_keeps a (progress_of a.sender cumulative_tsn_ack blocks) now
-      (sack_taken cumulative_tsn_ack blocks window now a.sender a.estimate a.streams)
+      let b : Shown = after_sack a cumulative_tsn_ack blocks window now in
+      then_keeps
+      (acknowledged_keeps a (progress_of a.sender cumulative_tsn_ack blocks) now
+      (sack_taken cumulative_tsn_ack blocks window now a.sender a.estimate a.streams))
+      (keeps_same b (shutdown_continued b) refl refl)
 
-  sack_keeps : (established : Bool) (a : Shown) (cumulative_tsn_ack : ℕ) (blocks : List GapAckBlock) (window : ℕ)
-      (trigger : AckTrigger) (now : ℕ) → is_established a.state ≡ established
+  sack_keeps : (sends : Bool) (a : Shown) (cumulative_tsn_ack : ℕ) (blocks : List GapAckBlock) (window : ℕ)
+      (trigger : AckTrigger) (now : ℕ) → sends_data a.state ≡ sends
       → KeepsPast over a (on_sack a cumulative_tsn_ack blocks window trigger now).0
   unfolding on_sack
   sack_keeps true a cumulative_tsn_ack blocks window trigger now e =
@@ -502,7 +507,7 @@ module _ (over : ℕ → Bool) where
       → ResetsPastIfAny over c → KeepsPast over a (dispatched a header c trigger now).0
   dispatched_keeps a header (chunks.Data piece) trigger now past = on_data_keeps a piece trigger
   dispatched_keeps a header (chunks.SelectiveAck k) trigger now past =
-      sack_keeps (is_established a.state) a k.cumulative_tsn_ack k.gap_ack_blocks k.advertised_receiver_window_credit
+      sack_keeps (sends_data a.state) a k.cumulative_tsn_ack k.gap_ack_blocks k.advertised_receiver_window_credit
       trigger now refl
   dispatched_keeps a header (chunks.Init x) trigger now past = init_keeps (is_beginning a.state) a header x trigger refl
   dispatched_keeps a header (chunks.InitAck x) trigger now past =
@@ -510,8 +515,8 @@ module _ (over : ℕ → Bool) where
   dispatched_keeps a header (chunks.Heartbeat x) trigger now past = heartbeat_keeps a x trigger
   dispatched_keeps a header (chunks.HeartbeatAck x) trigger now past = stays a
   dispatched_keeps a header (chunks.Abort x) trigger now past = stays a
-  dispatched_keeps a header (chunks.Shutdown x) trigger now past = stays a
-  dispatched_keeps a header chunks.ShutdownAck trigger now past = stays a
+  dispatched_keeps a header (chunks.Shutdown x) trigger now past = keeps_same a (shutdown_taken a) refl refl
+  dispatched_keeps a header chunks.ShutdownAck trigger now past = keeps_same a (shutdown_answered a) refl refl
   dispatched_keeps a header (chunks.Error x) trigger now past = stays a
   dispatched_keeps a header (chunks.CookieEcho cookie) trigger now past =
       cookie_echo_keeps (has_issued a.handshake cookie) (is_beginning a.state) (is_established a.state) a cookie trigger

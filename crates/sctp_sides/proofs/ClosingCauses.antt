@@ -19,10 +19,10 @@ use Rattle.sctp_assoc.specs.declared.inbound.Flow.{Flow}
 use Rattle.sctp_assoc.specs.declared.inbound.Flow.TheVariants as flows
 use Rattle.sctp_assoc.specs.Leads.{Binds}
 use Rattle.sctp_directions.specs.Acts.{History}
-use Rattle.sctp_assoc.specs.Calls.{is_beginning, is_cookie_wait, is_established}
+use Rattle.sctp_assoc.specs.Calls.{is_beginning, is_cookie_wait, sends_data}
 use Rattle.sctp_assoc.specs.Closing.{is_closed_state}
 use Rattle.sctp_sides.specs.Causes.{CausesClose, ClosingPacketsHaveCauses, IsCause, Reaches}
-use Rattle.sctp_assoc.specs.Chunks.{checked_first, dispatched, on_chunk}
+use Rattle.sctp_assoc.specs.Chunks.{checked_first, counted_sack, dispatched, on_chunk, on_counted_sack, on_sack}
 use Rattle.sctp_assoc.specs.Handshake.{echoed, on_init, on_init_ack}
 use Rattle.sctp_sides.specs.Laws.{faults_or, is_faulted, is_faulted_packet}
 use Rattle.sctp_assoc.specs.Shown.{Shown}
@@ -30,10 +30,15 @@ use Rattle.sctp_assoc.proofs.CallsLeadOn.{chunk_leads}
 use Rattle.sctp_sides.proofs.FaultCauses.{cookie_ack_flow, echo_flow, faults_are_causes, heartbeat_flow, never}
 use Rattle.sctp_sides.proofs.DataIntake.{exhausts_of, fault_of}
 use Rattle.sctp_sides.proofs.FaultCauses.{cookie_ack_spares, echo_spares, heartbeat_spares, init_ack_spares}
-use Rattle.sctp_sides.proofs.FaultCauses.{init_spares}
+use Rattle.sctp_sides.proofs.FaultCauses.{init_spares, sack_spares}
+use Rattle.sctp_sides.proofs.ShutdownEnds.{ends_of, kind_ends}
+use Rattle.sctp_wire_types.specs.declared.chunk.GapAckBlock.{GapAckBlock}
+use Rattle.sctp_outbound.specs.declared.sender.SackOutcome.{SackOutcome}
+use Rattle.sctp_outbound.specs.declared.sender.SackOutcome.TheVariants as outcomes
+use Rattle.sctp_outbound.specs.Sender.{sack_outcome}
 use Rattle.std.proofs.Common.{⊎_elim, inl, inr}
 use Rattle.sctp_assoc.specs.Skipping.{skips_of}
-use Rattle.sctp_sides.proofs.ClosingPackets.{forward_goes_on, on_data_goes_on, reconfig_goes_on, sack_goes_on}
+use Rattle.sctp_sides.proofs.ClosingPackets.{forward_goes_on, on_data_goes_on, reconfig_goes_on}
 
 open_state : (s : AssociationState) → s ≢ states.Closed → is_closed_state s ≡ false
 open_state states.Closed n = absurd (n refl)
@@ -69,6 +74,27 @@ module _ (a : Shown) (header : CommonHeader) (init : ChunkInit) (trigger : AckTr
   fault_leaves_init_ack true false e g f = rw (e, g) refl
   fault_leaves_init_ack false back e g f = rw e refl
 
+fault_leaves_outcome : (o : SackOutcome) (b : Shown) (cumulative_tsn_ack : ℕ) (blocks : List GapAckBlock) (window : ℕ)
+    (trigger : AckTrigger) (now : ℕ) (error : Error)
+    → fault_of (on_counted_sack o b cumulative_tsn_ack blocks window trigger now).1 ≡ Some error
+    → (on_counted_sack o b cumulative_tsn_ack blocks window trigger now).0.state ≡ b.state
+fault_leaves_outcome outcomes.Older b cumulative_tsn_ack blocks window trigger now error f = refl
+fault_leaves_outcome outcomes.NotInFlight b cumulative_tsn_ack blocks window trigger now error f = refl
+fault_leaves_outcome outcomes.NamesTheUnsent b cumulative_tsn_ack blocks window trigger now error f = refl
+fault_leaves_outcome outcomes.Taken b cumulative_tsn_ack blocks window trigger now error f =
+    absurd (never None error refl f)
+
+fault_leaves_sack : (sends : Bool) (a : Shown) (cumulative_tsn_ack : ℕ) (blocks : List GapAckBlock) (window : ℕ)
+    (trigger : AckTrigger) (now : ℕ) (error : Error) → sends_data a.state ≡ sends
+    → fault_of (on_sack a cumulative_tsn_ack blocks window trigger now).1 ≡ Some error
+    → (on_sack a cumulative_tsn_ack blocks window trigger now).0.state ≡ a.state
+unfolding on_sack
+fault_leaves_sack true a cumulative_tsn_ack blocks window trigger now error e f =
+    let fault = rw e at f in
+    rw e (fault_leaves_outcome (sack_outcome a.sender cumulative_tsn_ack blocks) (counted_sack a) cumulative_tsn_ack
+    blocks window trigger now error fault)
+fault_leaves_sack false a cumulative_tsn_ack blocks window trigger now error e f = rw e refl
+
 fault_leaves_kind : (header : CommonHeader) (c : Chunk) (a : Shown) (trigger : AckTrigger) (now : ℕ) (error : Error)
     → fault_of (dispatched a header c trigger now).1 ≡ Some error
     → (dispatched a header c trigger now).0.state ≡ a.state
@@ -76,8 +102,8 @@ unfolding on_chunk
 fault_leaves_kind header (chunks.Data piece) a trigger now error f =
     (on_data_goes_on a piece trigger).state
 fault_leaves_kind header (chunks.SelectiveAck sack) a trigger now error f =
-    (sack_goes_on (is_established a.state) a sack.cumulative_tsn_ack sack.gap_ack_blocks
-    sack.advertised_receiver_window_credit trigger now refl).state
+    fault_leaves_sack (sends_data a.state) a sack.cumulative_tsn_ack sack.gap_ack_blocks
+    sack.advertised_receiver_window_credit trigger now error refl f
 fault_leaves_kind header (chunks.Init x) a trigger now error f =
     fault_leaves_init (is_beginning a.state) a header x trigger error refl f
 fault_leaves_kind header (chunks.InitAck x) a trigger now error f =
@@ -95,6 +121,7 @@ fault_leaves_kind header (chunks.IForwardTsn x) a trigger now error f =
     (forward_goes_on a x.new_cumulative_tsn (skips_of x.entries) trigger now).state
 fault_leaves_kind header (chunks.Reconfig x) a trigger now error f =
     (reconfig_goes_on a x trigger).state
+fault_leaves_kind header (chunks.Shutdown x) a trigger now error f = absurd (never None error refl f)
 fault_leaves_kind header c a trigger now error f = refl
 
 fault_leaves_checked : (r : Result (Unit {0}) Error) (header : CommonHeader) (c : Chunk) (a : Shown)
@@ -119,8 +146,8 @@ unfolding on_chunk
 exhaustion_leaves_kind header (chunks.Data piece) a trigger now e =
     (on_data_goes_on a piece trigger).state
 exhaustion_leaves_kind header (chunks.SelectiveAck sack) a trigger now e =
-    (sack_goes_on (is_established a.state) a sack.cumulative_tsn_ack sack.gap_ack_blocks
-    sack.advertised_receiver_window_credit trigger now refl).state
+    absurd (false≢true (sym (sack_spares _ a sack.cumulative_tsn_ack sack.gap_ack_blocks
+    sack.advertised_receiver_window_credit trigger now refl) ∙ e))
 exhaustion_leaves_kind header (chunks.Init x) a trigger now e =
     absurd (false≢true (sym (init_spares _ a header x trigger refl) ∙ e))
 exhaustion_leaves_kind header (chunks.InitAck x) a trigger now e =
@@ -137,6 +164,7 @@ exhaustion_leaves_kind header (chunks.IForwardTsn x) a trigger now e =
     (forward_goes_on a x.new_cumulative_tsn (skips_of x.entries) trigger now).state
 exhaustion_leaves_kind header (chunks.Reconfig x) a trigger now e =
     (reconfig_goes_on a x trigger).state
+exhaustion_leaves_kind header (chunks.Shutdown x) a trigger now e = absurd (false≢true e)
 exhaustion_leaves_kind header c a trigger now e = refl
 
 exhaustion_leaves_checked : (r : Result (Unit {0}) Error) (header : CommonHeader) (c : Chunk) (a : Shown)
@@ -151,6 +179,25 @@ exhaustion_leaves_state : (header : CommonHeader) (c : Chunk) (a : Shown) (trigg
 unfolding on_chunk
 exhaustion_leaves_state header c a trigger now e =
     exhaustion_leaves_checked (checked_chunk c) header c a trigger now e
+
+-- so does the end of a shutdown
+ending_leaves_kind : (header : CommonHeader) (c : Chunk) (a : Shown) (trigger : AckTrigger) (now : ℕ)
+    → c ≡ chunks.ShutdownComplete → (dispatched a header c trigger now).0.state ≡ a.state
+ending_leaves_kind header c a trigger now e =
+    subst (λ (z : Chunk). (dispatched a header z trigger now).0.state ≡ a.state) (sym e) refl
+
+ending_leaves_checked : (r : Result (Unit {0}) Error) (header : CommonHeader) (c : Chunk) (a : Shown)
+    (trigger : AckTrigger) (now : ℕ) → ends_of (checked_first r a header c trigger now).1 ≡ true
+    → (checked_first r a header c trigger now).0.state ≡ a.state
+ending_leaves_checked (Err fault) header c a trigger now e = refl
+ending_leaves_checked (Ok done) header c a trigger now e =
+    ending_leaves_kind header c a trigger now (kind_ends header c a trigger now e).complete
+
+ending_leaves_state : (header : CommonHeader) (c : Chunk) (a : Shown) (trigger : AckTrigger) (now : ℕ)
+    → ends_of (on_chunk a header c trigger now).1 ≡ true
+    → (on_chunk a header c trigger now).0.state ≡ a.state
+unfolding on_chunk
+ending_leaves_state header c a trigger now e = ending_leaves_checked (checked_chunk c) header c a trigger now e
 
 -- One of these chunks is reached while the association is open, and is a cause.
 record CauseAmong (header : CommonHeader) (cs : List Chunk) (a : Shown) (trigger : AckTrigger) (now : ℕ) : Type 0 where
@@ -199,7 +246,18 @@ module _ (header : CommonHeader) (c : Chunk) (cs : List Chunk) (a : Shown) (trig
       let same : b.state ≡ a.state =
       sym (ap (λ (x : Shown × Flow). x.0.state) e)
       ∙ exhaustion_leaves_state header c a trigger now (ap exhausts_of exhausted) in
-      first_is b h binds same n (λ k stands. (faults_are_causes a k header c trigger now stands).0 (inr exhausted))
+      first_is b h binds same n
+      (λ k stands. (faults_are_causes a k header c trigger now stands).0 (inr (inr exhausted)))
+
+  ending_here : (b : Shown) (h : History) → Binds a h
+      → on_chunk a header c trigger now ≡ (b, flows.Closed) → not (is_closed_state b.state) ≡ true
+      → CauseAmong header (c ∷ cs) a trigger now
+  ending_here b h binds e n =
+      let ended : (on_chunk a header c trigger now).1 ≡ flows.Closed = ap (λ (x : Shown × Flow). x.1) e in
+      let same : b.state ≡ a.state =
+      sym (ap (λ (x : Shown × Flow). x.0.state) e)
+      ∙ ending_leaves_state header c a trigger now (ap ends_of ended) in
+      first_is b h binds same n (λ k stands. (faults_are_causes a k header c trigger now stands).0 (inr (inl ended)))
 
   cause_on : (b : Shown) (next : AckTrigger) → on_chunk a header c trigger now ≡ (b, flows.Next next)
       → CauseAmong header cs b next now → CauseAmong header (c ∷ cs) a trigger now
@@ -221,6 +279,7 @@ module _ (header : CommonHeader) (c : Chunk) (cs : List Chunk) (a : Shown) (trig
       → CauseAmong header cs b next now) → CauseAmong header (c ∷ cs) a trigger now
   cause_step (b, flows.Next next) h k binds e stands f more = cause_on b next e (more b next stands f)
   cause_step (b, flows.Fault error) h k binds e stands f more = cause_here b h error binds e f
+  cause_step (b, flows.Closed) h k binds e stands f more = ending_here b h binds e f
   cause_step (b, flows.Exhausted) h k binds e stands f more = exhaustion_here b h binds e f
 
 module _ (header : CommonHeader) (now : ℕ) where
@@ -256,13 +315,22 @@ fault_counts : (x : Shown × Flow) (more : Shown → AckTrigger → Bool) (error
     → is_closed_state x.0.state ≡ false → faults_or x more ≡ true
 fault_counts (b, flows.Next trigger) more error e f = absurd (never None error refl e)
 fault_counts (b, flows.Fault fault) more error e f = rw f refl
+fault_counts (b, flows.Closed) more error e f = absurd (never None error refl e)
 fault_counts (b, flows.Exhausted) more error e f = absurd (never None error refl e)
 
 exhaustion_counts : (x : Shown × Flow) (more : Shown → AckTrigger → Bool) → exhausts_of x.1 ≡ true
     → is_closed_state x.0.state ≡ false → faults_or x more ≡ true
 exhaustion_counts (b, flows.Next trigger) more e f = absurd (false≢true e)
 exhaustion_counts (b, flows.Fault fault) more e f = absurd (false≢true e)
+exhaustion_counts (b, flows.Closed) more e f = absurd (false≢true e)
 exhaustion_counts (b, flows.Exhausted) more e f = rw f refl
+
+ending_counts : (x : Shown × Flow) (more : Shown → AckTrigger → Bool) → ends_of x.1 ≡ true
+    → is_closed_state x.0.state ≡ false → faults_or x more ≡ true
+ending_counts (b, flows.Next trigger) more e f = absurd (false≢true e)
+ending_counts (b, flows.Fault fault) more e f = absurd (false≢true e)
+ending_counts (b, flows.Closed) more e f = rw f refl
+ending_counts (b, flows.Exhausted) more e f = absurd (false≢true e)
 
 abbrev chunk_or : Chunk → Option Chunk → Chunk
 chunk_or other None = other
@@ -286,10 +354,14 @@ module _ (header : CommonHeader) (chunk : Chunk) (reached : Shown) (h : History)
       fault_counts (on_chunk a header c trigger now) (λ b next. is_faulted header cs b next now) fault.0
       (ap fault_of fault.1)
       (ap is_closed_state (fault_leaves_state header c a trigger now fault.0 (ap fault_of fault.1)) ∙ was_open))
+      (⊎_elim
+      (λ (ended : (on_chunk a header c trigger now).1 ≡ flows.Closed).
+      ending_counts (on_chunk a header c trigger now) (λ b next. is_faulted header cs b next now) (ap ends_of ended)
+      (ap is_closed_state (ending_leaves_state header c a trigger now (ap ends_of ended)) ∙ was_open))
       (λ (exhausted : (on_chunk a header c trigger now).1 ≡ flows.Exhausted).
       exhaustion_counts (on_chunk a header c trigger now) (λ b next. is_faulted header cs b next now)
       (ap exhausts_of exhausted)
-      (ap is_closed_state (exhaustion_leaves_state header c a trigger now (ap exhausts_of exhausted)) ∙ was_open))
+      (ap is_closed_state (exhaustion_leaves_state header c a trigger now (ap exhausts_of exhausted)) ∙ was_open)))
       ((faults_are_causes a h header c trigger now stands).1 is_cause)
   caused (c ∷ cs) (suc index) a trigger there (b, next, e, reaches) =
       ap (λ (x : Shown × Flow). faults_or x (λ d wished. is_faulted header cs d wished now)) e

@@ -1,4 +1,5 @@
--- A packet closes an association exactly where it is open and a chunk of the packet is a fault.
+-- A packet closes an association exactly where it is open and a chunk of the packet is a fault, or ends a shutdown, or
+-- leaves the receive buffer exhausted.
 use Rattle.std.proofs.Common.{◌≡◌, refl, sym, ap, ◌∙◌, ℕ, ◌+◌, arith, Bool, true, false, not, ◌&&◌, if◌then◌else◌, List}
 use Rattle.std.proofs.Common.{[], ◌∷◌, ◌++◌, map, Option, Some, None, Result, Ok, Err, is_some}
 use Rattle.std.proofs.lemmas.Bool.{false≢true}
@@ -43,9 +44,12 @@ use Rattle.sctp_assoc.specs.declared.inbound.Flow.{Flow}
 use Rattle.sctp_assoc.specs.declared.inbound.Flow.TheVariants as flows
 use Rattle.sctp_assoc.specs.Calls.{is_beginning, is_cookie_echoed, is_cookie_wait}
 use Rattle.sctp_assoc.specs.Closing.{closed_by, is_closed_state}
-use Rattle.sctp_assoc.specs.Calls.{is_established}
+use Rattle.sctp_assoc.specs.Calls.{is_established, sends_data}
+use Rattle.sctp_assoc.specs.Shutdown.{all_acknowledged, shutdown_answered, shutdown_continued, shutdown_taken}
+use Rattle.sctp_assoc.specs.Shutdown.{state_at_shutdown}
 use Rattle.sctp_assoc.specs.Handshake.{acknowledged_cookie, answered, connected, echoed, information_returned, learned}
 use Rattle.sctp_assoc.specs.Handshake.{on_cookie_ack, on_cookie_echo, on_heartbeat, on_init, on_init_ack, sends_cookie}
+use Rattle.sctp_assoc.specs.Chunks.{after_sack}
 use Rattle.sctp_assoc.specs.Chunks.{after_chunks, after_packet_of, asks_or_faults, checked_first, dispatched, goes_on}
 use Rattle.sctp_assoc.specs.Chunks.{on_chunk, on_counted_data, on_counted_sack, on_data, on_new_data}
 use Rattle.sctp_assoc.specs.Chunks.{on_sack, stream_found, taken_in, taken_unless, told, with_acknowledged}
@@ -66,6 +70,7 @@ use Rattle.sctp_wire_types.specs.declared.param.Param.{Param}
 use Rattle.sctp_wire_types.specs.declared.param.Param.TheVariants as params
 use Rattle.sctp_wire_types.specs.declared.param.ParamOutgoingResetRequest.{ParamOutgoingResetRequest}
 use Rattle.sctp_wire_types.specs.declared.param.ParamReconfigResponse.{ParamReconfigResponse}
+use Rattle.sctp_sides.proofs.EndedPolls.{continued_closed}
 use Rattle.sctp_sides.specs.Laws.{FaultsAloneClose, IsClosedIf, faults_or, is_faulted, is_faulted_packet, loss_of}
 use Rattle.sctp_sides.specs.Laws.{losses}
 use Rattle.sctp_assoc.specs.Shown.{Shown, all_waiting}
@@ -357,26 +362,34 @@ acknowledged_goes_on a progress now (s, e, m) = record {
   told = low_told_tells a.events (fallen a.streams m);
 }
 
+-- no shutdown that goes on closes
+pub continued_goes_on : (a : Shown) → StaysOpen a (shutdown_continued a)
+continued_goes_on a =
+    record { still_open = λ c. sym (continued_closed a) ∙ c; lost = refl; told = refl }
+
 outcome_goes_on : (o : SackOutcome) (b : Shown) (cumulative_tsn_ack : ℕ) (blocks : List GapAckBlock) (window : ℕ)
     (trigger : AckTrigger) (now : ℕ)
-    → Remains b (on_counted_sack o b cumulative_tsn_ack blocks window trigger now).0
-outcome_goes_on outcomes.Older b cumulative_tsn_ack blocks window trigger now = remains b b refl refl refl refl
-outcome_goes_on outcomes.NotInFlight b cumulative_tsn_ack blocks window trigger now = remains b b refl refl refl refl
-outcome_goes_on outcomes.NamesTheUnsent b cumulative_tsn_ack blocks window trigger now = remains b b refl refl refl refl
+    → StaysOpen b (on_counted_sack o b cumulative_tsn_ack blocks window trigger now).0
+outcome_goes_on outcomes.Older b cumulative_tsn_ack blocks window trigger now = stays b b refl refl refl
+outcome_goes_on outcomes.NotInFlight b cumulative_tsn_ack blocks window trigger now = stays b b refl refl refl
+outcome_goes_on outcomes.NamesTheUnsent b cumulative_tsn_ack blocks window trigger now = stays b b refl refl refl
 outcome_goes_on outcomes.Taken b cumulative_tsn_ack blocks window trigger now =
-    acknowledged_goes_on b (progress_of b.sender cumulative_tsn_ack blocks) now
-    (sack_taken cumulative_tsn_ack blocks window now b.sender b.estimate b.streams)
+    let c : Shown = after_sack b cumulative_tsn_ack blocks window now in
+    goes_on_there b c (shutdown_continued c)
+    (remains_open b c (acknowledged_goes_on b (progress_of b.sender cumulative_tsn_ack blocks) now
+    (sack_taken cumulative_tsn_ack blocks window now b.sender b.estimate b.streams)))
+    (continued_goes_on c)
 
 pub sack_goes_on : (c : Bool) (a : Shown) (cumulative_tsn_ack : ℕ) (blocks : List GapAckBlock) (window : ℕ)
     (trigger : AckTrigger)
-    (now : ℕ) → is_established a.state ≡ c
-    → Remains a (on_sack a cumulative_tsn_ack blocks window trigger now).0
+    (now : ℕ) → sends_data a.state ≡ c
+    → StaysOpen a (on_sack a cumulative_tsn_ack blocks window trigger now).0
 unfolding on_sack
 sack_goes_on true a cumulative_tsn_ack blocks window trigger now e =
     let m = outcome_goes_on
     (sack_outcome a.sender cumulative_tsn_ack blocks) _ cumulative_tsn_ack blocks window trigger now in
-    rw e (record { state = m.state; lost = m.lost; told = m.told; handshake = m.handshake })
-sack_goes_on false a cumulative_tsn_ack blocks window trigger now e = rw e (remains a a refl refl refl refl)
+    rw e (record { still_open = m.still_open; lost = m.lost; told = m.told })
+sack_goes_on false a cumulative_tsn_ack blocks window trigger now e = rw e (stays a a refl refl refl)
 
 -- FORWARD TSN
 
@@ -421,6 +434,24 @@ forward_goes_on a tsn es trigger now =
     (λ b e f. remains b (acknowledged_at_once b now) refl refl refl refl)
     (λ b e f. passed_goes_on b tsn es trigger)
     a
+
+-- SHUTDOWN
+
+shutdown_state_open : (acknowledged : Bool) (s : AssociationState)
+    → is_closed_state (state_at_shutdown acknowledged s) ≡ true → is_closed_state s ≡ true
+shutdown_state_open acknowledged states.Closed e = refl
+shutdown_state_open acknowledged states.CookieWait e = absurd (false≢true e)
+shutdown_state_open acknowledged states.CookieEchoed e = absurd (false≢true e)
+shutdown_state_open true states.Established e = absurd (false≢true e)
+shutdown_state_open false states.Established e = absurd (false≢true e)
+shutdown_state_open acknowledged states.ShutdownAckSent e = absurd (false≢true e)
+shutdown_state_open acknowledged states.ShutdownPending e = absurd (false≢true e)
+shutdown_state_open acknowledged states.ShutdownReceived e = absurd (false≢true e)
+shutdown_state_open acknowledged states.ShutdownSent e = absurd (false≢true e)
+
+shutdown_goes_on : (a : Shown) → StaysOpen a (shutdown_taken a)
+shutdown_goes_on a =
+    record { still_open = shutdown_state_open (all_acknowledged a) a.state; lost = refl; told = refl }
 
 -- the handshake
 
@@ -487,15 +518,14 @@ kind_goes_on : (header : CommonHeader) (c : Chunk) (a : Shown) (trigger : AckTri
     → StaysOpen a (dispatched a header c trigger now).0
 kind_goes_on header (chunks.Data piece) a trigger now = remains_open a _ (on_data_goes_on a piece trigger)
 kind_goes_on header (chunks.SelectiveAck sack) a trigger now =
-    remains_open a _ (sack_goes_on _ a sack.cumulative_tsn_ack sack.gap_ack_blocks
-    sack.advertised_receiver_window_credit trigger now refl)
+    sack_goes_on _ a sack.cumulative_tsn_ack sack.gap_ack_blocks sack.advertised_receiver_window_credit trigger now refl
 kind_goes_on header (chunks.Init x) a trigger now = init_goes_on _ a header x trigger refl
 kind_goes_on header (chunks.InitAck x) a trigger now = init_ack_goes_on _ _ a header x trigger now refl refl
 kind_goes_on header (chunks.Heartbeat x) a trigger now = heartbeat_goes_on a x trigger
 kind_goes_on header (chunks.HeartbeatAck x) a trigger now = stays a a refl refl refl
 kind_goes_on header (chunks.Abort x) a trigger now = stays a a refl refl refl
-kind_goes_on header (chunks.Shutdown x) a trigger now = stays a a refl refl refl
-kind_goes_on header chunks.ShutdownAck a trigger now = stays a a refl refl refl
+kind_goes_on header (chunks.Shutdown x) a trigger now = shutdown_goes_on a
+kind_goes_on header chunks.ShutdownAck a trigger now = stays a (shutdown_answered a) refl refl refl
 kind_goes_on header (chunks.Error x) a trigger now = stays a a refl refl refl
 kind_goes_on header (chunks.CookieEcho x) a trigger now = cookie_echo_goes_on _ _ _ a x trigger refl refl refl
 kind_goes_on header chunks.CookieAck a trigger now = cookie_ack_goes_on _ a trigger refl
@@ -533,7 +563,8 @@ loss_told queued stats reason =
     ∙ ap (λ (n : ℕ). losses queued + n) (last_counters_tell stats)
     ∙ omega arith)
 
--- an association that is open is closed by a fault that came after chunks that leave its end as it was
+-- an association that is open is closed by a fault, or by the end of a shutdown, that came after chunks that leave its
+-- end as it was
 pub fault_closes : (closed : Bool) (a b : Shown) (reason : AssociationError) → is_closed_state b.state ≡ closed
     → StaysOpen a b → IsClosedIf (not closed) a (closed_by b reason)
 fault_closes true a b reason e m = rw e (record {
@@ -585,6 +616,8 @@ after_fault : (x : Shown × Flow) (a : Shown) (more : Shown → AckTrigger → S
 after_fault (b, flows.Next trigger) a more faulted m on =
     closed_from (faulted b trigger) a b (more b trigger) m (on b trigger)
 after_fault (b, flows.Fault fault) a more faulted m on =
+    fault_closes (is_closed_state b.state) a b reasons.AssociationClosed refl m
+after_fault (b, flows.Closed) a more faulted m on =
     fault_closes (is_closed_state b.state) a b reasons.AssociationClosed refl m
 after_fault (b, flows.Exhausted) a more faulted m on = exhausted_closes a b m
 

@@ -150,12 +150,14 @@ is_new a piece = is_new_to a.receiver piece.tsn
 abbrev pub fault_of : Flow → Option Error
 fault_of (flows.Next trigger) = None
 fault_of (flows.Fault error) = Some error
+fault_of flows.Closed = None
 fault_of flows.Exhausted = None
 
 -- a flow tells of an exhausted receive buffer
 abbrev pub exhausts_of : Flow → Bool
 exhausts_of (flows.Next trigger) = false
 exhausts_of (flows.Fault error) = false
+exhausts_of flows.Closed = false
 exhausts_of flows.Exhausted = true
 
 flow_if : (e : Bool) (a : Shown) (t : AckTrigger)
@@ -487,6 +489,7 @@ error_or other (Some error) = error
 pub fault_from : (f : Flow) (error : Error) → fault_of f ≡ Some error → f ≡ flows.Fault error
 fault_from (flows.Next trigger) error e = absurd (false≢true (ap is_some e))
 fault_from (flows.Fault other) error e = ap (λ (o : Option Error). flows.Fault (error_or other o)) e
+fault_from flows.Closed error e = absurd (false≢true (ap is_some e))
 fault_from flows.Exhausted error e = absurd (false≢true (ap is_some e))
 
 -- what is taken in makes its stream, or is of a live one

@@ -18,13 +18,14 @@ use Rattle.sctp_outbound.specs.declared.sender.Sender.{Sender}
 use Rattle.sctp_outbound.specs.Forward.{forward_of, gives_forward}
 use Rattle.sctp_directions.specs.Acts.{History, reach_in, receiving}
 use Rattle.sctp_assoc.specs.Leads.{parts}
-use Rattle.sctp_assoc.specs.Calls.{is_established}
-use Rattle.sctp_assoc.specs.Gather.{control_polled, data_polled, forward_chunk, forward_packet, packet_bytes, polled}
-use Rattle.sctp_assoc.specs.Gather.{sack_chunk, sack_packet, single_chunk_packet, spelled}
+use Rattle.sctp_assoc.specs.Calls.{exchanges_data}
+use Rattle.sctp_assoc.specs.Gather.{control_polled, data_after, data_polled, forward_chunk, forward_packet}
+use Rattle.sctp_assoc.specs.Gather.{open_polled, packet_bytes, polled, sack_chunk, sack_packet, shutdown_polled}
+use Rattle.sctp_assoc.specs.Gather.{single_chunk_packet, spelled}
 use Rattle.sctp_assoc.specs.Happened.{acks_given, forwards_of_poll, requests_given}
 use Rattle.sctp_assoc.specs.Shown.{Shown, all_waiting}
 use Rattle.sctp_assoc.proofs.GivenApart.{with_own_control}
-use Rattle.sctp_assoc.proofs.RequestsGiven.{requests_of}
+use Rattle.sctp_assoc.proofs.RequestsGiven.{requests_sent}
 use Rattle.sctp_assoc.proofs.WhatCame.{below_reach, passed_reach, reach_missing}
 use Rattle.sctp_received.specs.Received.{gap_ack_blocks, is_held_at}
 use Rattle.sctp_received.proofs.GapAckBlocks.{named_exactly}
@@ -32,11 +33,12 @@ use Rattle.sctp_fit.proofs.HeldTsns.{blocks_name_what_came}
 use Rattle.sctp_sides.specs.Laws.{DueForwardsGoOut, DueSacksGoOut, SacksAreSpelled, SacksNameTheLastTsn}
 use Rattle.sctp_sides.specs.Laws.{SacksOfferTheBuffer, SacksSayWhatWasTaken}
 use Rattle.sctp_sides.proofs.BlocksWithin.{nothing_named}
-use Rattle.sctp_sides.proofs.PollsLeave.{after_requests, control_leaves, data_apart, exchange_said, polled_from}
-use Rattle.sctp_sides.proofs.PollsLeave.{polled_gives_behind, polled_sender}
+use Rattle.sctp_sides.proofs.EndedPolls.{ended_handshake, polled_gives_last}
+use Rattle.sctp_sides.proofs.PollsLeave.{after_requests, control_leaves, data_apart, exchange_said, front_gives}
+use Rattle.sctp_sides.proofs.PollsLeave.{polled_from, polled_sender}
 use Rattle.sctp_sides.proofs.WaitingGoesOut.{fits_written, short_enough}
 
-data_handshake : (a : Shown) (now : ℕ) → (data_polled a now).0.handshake ≡ a.handshake
+data_handshake : (a : Shown) (now : ℕ) → (data_after a now).0.handshake ≡ a.handshake
 unfolding data_polled
 data_handshake a now = refl
 
@@ -45,46 +47,53 @@ run_handshake_if : (runs : Bool) (a b : Shown) → b.handshake ≡ a.handshake
 run_handshake_if true a b e = e
 run_handshake_if false a b e = refl
 
-polled_handshake : (a : Shown) (now : ℕ) → is_established a.state ≡ true → (polled a now).0.handshake ≡ a.handshake
+polled_handshake : (a : Shown) (now : ℕ) → exchanges_data a.state ≡ true → (polled a now).0.handshake ≡ a.handshake
 polled_handshake a now e =
     let p = polled_from a now e in
-    ap (λ (z : Shown). z.handshake) p.there
+    ended_handshake a now
+    ∙ ap (λ (z : Shown). z.handshake) p.there
     ∙ run_handshake_if _ (after_requests p.asked) _ refl
     ∙ ap (λ (z : Shown). z.handshake) p.requests
     ∙ data_handshake a now
 
 -- the FORWARD TSN of a poll is that of what its DATA left in flight
-forward_is_polled : (a : Shown) (now : ℕ) → is_established a.state ≡ true
+forward_is_polled : (a : Shown) (now : ℕ) → exchanges_data a.state ≡ true
     → forward_packet (polled a now).0 ≡ packet_bytes (header_of a.handshake) (forward_chunk (data_polled a now).0)
 forward_is_polled a now e =
     ap (λ (k : Handshake). packet_bytes (header_of k) (forward_chunk (polled a now).0)) (polled_handshake a now e)
     ∙ ap (λ (s : Sender). packet_bytes (header_of a.handshake) (chunks.ForwardTsn (forward_of s)))
     (polled_sender a now e)
 
--- what a poll gives in Established: the acknowledgement where it is due, and FORWARD TSN where it is given
+-- the packet of the chunk of a shutdown that a poll gives last, where one is due
+abbrev ending_given : Shown → ℕ → List (List ℕ)
+ending_given a now = (shutdown_polled (open_polled a now).0 now).1
+
+-- what a poll gives while DATA is exchanged: the acknowledgement where it is due, FORWARD TSN where it is given, and
+-- the chunk of a shutdown
 record Gives (a : Shown) (now : ℕ) : Type 0 where
   first : List (List ℕ)
   are : (polled a now).1
       ≡ first ++ acks_given a ++ (if forwards_of_poll a now then forward_packet (polled a now).0 else [])
+      ++ ending_given a now
 
 forward_if : (c d : Bool) (x y : List (List ℕ)) → d ≡ c → y ≡ x
     → (if d then y else []) ≡ (if c then x else [])
 forward_if c d x y e f = rw (e, f) refl
 
-polled_gives : (a : Shown) (now : ℕ) → is_established a.state ≡ true → Gives a now
+polled_gives : (a : Shown) (now : ℕ) → exchanges_data a.state ≡ true → Gives a now
 polled_gives a now e =
     let b = (control_polled a).0 in
     let same = control_leaves a in
-    let there : is_established b.state ≡ true = ap (λ (z : Shown). is_established z.state) same ∙ e in
+    let there : exchanges_data b.state ≡ true = ap (λ (z : Shown). exchanges_data z.state) same ∙ e in
     let control = (control_polled a).1 in
     let pieces : List (List ℕ) = datagrams_of (header_of b.handshake) (data_polled b now).1
-    ++ requests_given (header_of b.handshake) (requests_of (data_polled b now).0) in
+    ++ requests_given (header_of b.handshake) (requests_sent (data_after b now).0) in
     let acks : acks_given b ≡ acks_given a = ap acks_given same in
     let forward : List (List ℕ) = if gives_forward (data_polled b now).0.sender then
     packet_bytes (header_of b.handshake) (forward_chunk (data_polled b now).0) else [] in
     let last : List (List ℕ) = if forwards_of_poll a now then forward_packet (polled a now).0 else [] in
-    let data_is : (data_polled b now).0 ≡ with_own_control (data_polled a now).0 b.resets.own b.control =
-    ap (λ (z : Shown). (data_polled z now).0) same ∙ data_apart a b.resets.own b.control now in
+    let data_is : (data_after b now).0 ≡ with_own_control (data_after a now).0 b.resets.own b.control =
+    ap (λ (z : Shown). (data_after z now).0) same ∙ data_apart a b.resets.own b.control now in
     let due : gives_forward (data_polled b now).0.sender ≡ forwards_of_poll a now =
     ap (λ (z : Shown). gives_forward z.sender) data_is
     ∙ sym (ap (λ (c : Bool). c && gives_forward (data_polled a now).0.sender) e) in
@@ -97,32 +106,33 @@ polled_gives a now e =
     let forwards : forward ≡ last =
     forward_if (forwards_of_poll a now) (gives_forward (data_polled b now).0.sender) (forward_packet (polled a now).0)
     (packet_bytes (header_of b.handshake) (forward_chunk (data_polled b now).0)) due spelled_as in
+    let front : (open_polled a now).1 ≡ (control ++ pieces) ++ acks_given a ++ last =
+    front_gives a now
+    ∙ ap (λ (z : List (List ℕ)). control ++ z) (exchange_said b now there)
+    ∙ ap (λ (z : List (List ℕ)). control ++ (pieces ++ z ++ forward)) acks
+    ∙ ap (λ (z : List (List ℕ)). control ++ (pieces ++ acks_given a ++ z)) forwards
+    ∙ sym (append_assoc control (pieces ++ acks_given a) last)
+    ∙ ap (λ (z : List (List ℕ)). z ++ last) (sym (append_assoc control pieces (acks_given a))) in
     record {
       first = control ++ pieces;
-      are =
-          polled_gives_behind a now
-          ∙ ap (λ (z : List (List ℕ)). control ++ z) (exchange_said b now there)
-          ∙ ap (λ (z : List (List ℕ)). control ++ (pieces ++ z ++ forward)) acks
-          ∙ ap (λ (z : List (List ℕ)). control ++ (pieces ++ acks_given a ++ z)) forwards
-          ∙ sym (append_assoc control (pieces ++ acks_given a) last)
-          ∙ ap (λ (z : List (List ℕ)). z ++ last) (sym (append_assoc control pieces (acks_given a)));
+      are = polled_gives_last a now ∙ ap (λ (z : List (List ℕ)). z ++ ending_given a now) front;
     }
 
 pub due_sacks_go_out : DueSacksGoOut
-due_sacks_go_out a now established due =
-    let g = polled_gives a now established in
+due_sacks_go_out a now exchanges due =
+    let g = polled_gives a now exchanges in
     let last : List (List ℕ) = if forwards_of_poll a now then forward_packet (polled a now).0 else [] in
     let given : acks_given a ≡ sack_packet a = rw due refl in
-    (g.first, g.are ∙ ap (λ (z : List (List ℕ)). g.first ++ z ++ last) given)
+    (g.first, g.are ∙ ap (λ (z : List (List ℕ)). g.first ++ z ++ last ++ ending_given a now) given)
 
 pub due_forwards_go_out : DueForwardsGoOut
 due_forwards_go_out a now forwards =
-    let established = (and_parts (is_established a.state) (gives_forward (data_polled a now).0.sender) forwards).0 in
-    let g = polled_gives a now established in
+    let exchanges = (and_parts (exchanges_data a.state) (gives_forward (data_polled a now).0.sender) forwards).0 in
+    let g = polled_gives a now exchanges in
     let first = g.first ++ acks_given a in (
       first,
       g.are
-          ∙ ap (λ (z : List (List ℕ)). first ++ z)
+          ∙ ap (λ (z : List (List ℕ)). first ++ z ++ ending_given a now)
           (cond-true (forwards_of_poll a now) (forward_packet (polled a now).0) [] forwards),
     )
 

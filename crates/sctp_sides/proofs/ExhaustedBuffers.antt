@@ -360,6 +360,7 @@ data_truly false later a piece trigger e f =
 pub flow_is : (f : Flow) → exhausts_of f ≡ true → f ≡ flows.Exhausted
 flow_is (flows.Next trigger) e = absurd (false≢true e)
 flow_is (flows.Fault error) e = absurd (false≢true e)
+flow_is flows.Closed e = absurd (false≢true e)
 flow_is flows.Exhausted e = refl
 
 somewhere_found : (next later found : Bool) → next ≡ true → later ≡ false → (not next || (later || found)) ≡ true

@@ -1,9 +1,9 @@
--- A chunk is a fault exactly where it has one of the causes that are named; a packet closes an association only by
--- such a cause.
+-- A chunk is a fault, or ends a shutdown, exactly where it has one of the causes that are named; a packet closes an
+-- association only by such a cause.
 use Rattle.std.proofs.Common.{◌≡◌, ◌≢◌, ◌⊎◌, ⊎_elim, refl, sym, ap, ◌∙◌, inl, inr, ℕ, ◌<◌, ◌≤◌, ◌+◌, ◌-◌, ◌%◌, ◌^◌}
 use Rattle.std.proofs.Common.{arith, Bool}
 use Rattle.std.proofs.Common.{true, false, eqb, leb, ltb, if◌then◌else◌, List, length, Option, Some, None, is_some}
-use Rattle.std.proofs.Common.{Result, Ok, Err, is_ok}
+use Rattle.std.proofs.Common.{Result, Ok, Err, is_ok, subst}
 use Rattle.std.proofs.lemmas.Bool.{and_from, and_parts, eq-eqb, eqb-true, false≢true, le-leb, le-ltb, leb-true, lt-ltb}
 use Rattle.std.proofs.lemmas.Bool.{ltb-false, ltb-true}
 use Rattle.sctp_wire_types.specs.Checks.{checked_chunk}
@@ -31,9 +31,10 @@ use Rattle.sctp_wire_types.specs.declared.chunk.ChunkSelectiveAck.{ChunkSelectiv
 use Rattle.sctp_assoc.specs.Leads.{Binds}
 use Rattle.sctp_directions.specs.Acts.{History}
 use Rattle.sctp_fit.specs.Incoming.{tsn_before}
-use Rattle.sctp_assoc.specs.Calls.{is_beginning, is_cookie_echoed, is_cookie_wait, is_established}
-use Rattle.sctp_sides.specs.Causes.{AcknowledgesTheUnsent, BringsNoCookie, FaultsAreCauses, FitsNoMessage, IsCause}
-use Rattle.sctp_sides.specs.Causes.{IsBeyondTheSent, IsCauseOfItsKind, IsFault, IsPastTheHandshake, NamesNoPiece}
+use Rattle.sctp_assoc.specs.Calls.{is_beginning, is_cookie_echoed, is_cookie_wait, is_established, sends_data}
+use Rattle.sctp_sides.specs.Causes.{AcknowledgesTheUnsent, BringsNoCookie, EndsThePacket, FaultsAreCauses}
+use Rattle.sctp_sides.specs.Causes.{FitsNoMessage, IsCause}
+use Rattle.sctp_sides.specs.Causes.{IsBeyondTheSent, IsCauseOfItsKind, IsPastTheHandshake, NamesNoPiece}
 use Rattle.sctp_assoc.specs.Chunks.{checked_first, dispatched, on_chunk, on_counted_sack, on_data, on_sack}
 use Rattle.sctp_assoc.specs.Handshake.{echoed, on_cookie_ack, on_cookie_echo, on_heartbeat, on_init, on_init_ack}
 use Rattle.sctp_assoc.specs.Shown.{Shown}
@@ -50,21 +51,13 @@ use Rattle.sctp_assoc.specs.Resets.{after_param, behind_first, behind_params, on
 use Rattle.sctp_sides.specs.Causes.{FitsNoLaterMessage, HasOtherParameter, is_of_reset, is_second_of_reset}
 use Rattle.sctp_sides.proofs.ExhaustedBuffers.{exhausting_data_leaves_nothing, flow_is, nothing_left_exhausts}
 use Rattle.sctp_sides.specs.Causes.{LeavesNothingToRead}
+use Rattle.sctp_assoc.specs.Shutdown.{on_shutdown_complete}
+use Rattle.sctp_sides.proofs.ShutdownEnds.{EndsShutdown, complete_flow, complete_spares, ends_of, kind_ends}
 use Rattle.sctp_assoc.specs.Skipping.{on_forward, skips_of}
 use Rattle.sctp_sides.proofs.ForwardCauses.{exhausting_forwards_leave_nothing, forward_flow}
 use Rattle.sctp_sides.proofs.ForwardCauses.{passing_to_nothing_exhausts}
 
 -- States by their tests
-
-established_state : (s : AssociationState) → is_established s ≡ true → s ≡ states.Established
-established_state states.Closed e = absurd (false≢true e)
-established_state states.CookieWait e = absurd (false≢true e)
-established_state states.CookieEchoed e = absurd (false≢true e)
-established_state states.Established e = refl
-established_state states.ShutdownAckSent e = absurd (false≢true e)
-established_state states.ShutdownPending e = absurd (false≢true e)
-established_state states.ShutdownReceived e = absurd (false≢true e)
-established_state states.ShutdownSent e = absurd (false≢true e)
 
 waiting_state : (s : AssociationState) → is_cookie_wait s ≡ true → s ≡ states.CookieWait
 waiting_state states.Closed e = absurd (false≢true e)
@@ -109,7 +102,7 @@ data_cause a h piece trigger error binds e = ⊎_elim
     (data_passed a piece trigger error e)
 
 cause_data : (a : Shown) (h : History) (piece : ChunkPayloadData) (trigger : AckTrigger) → Binds a h
-    → FitsNoMessage a h piece → IsFault (on_data a piece trigger)
+    → FitsNoMessage a h piece → EndsThePacket (on_data a piece trigger)
 cause_data a h piece trigger binds c = inl (
   c.error,
   fault_from (on_data a piece trigger).1 c.error
@@ -117,7 +110,7 @@ cause_data a h piece trigger binds c = inl (
 )
 
 cause_later : (a : Shown) (h : History) (piece : ChunkPayloadData) (trigger : AckTrigger) → Binds a h
-    → FitsNoLaterMessage a h piece → IsFault (on_data a piece trigger)
+    → FitsNoLaterMessage a h piece → EndsThePacket (on_data a piece trigger)
 cause_later a h piece trigger binds c = inl (
   c.error,
   fault_from (on_data a piece trigger).1 c.error
@@ -181,7 +174,7 @@ reconfig_cause a x trigger error e =
     other_if (is_of_reset x.first) (is_second_of_reset x.second) error (sym (reconfig_flow a x trigger).0 ∙ e)
 
 cause_reconfig : (a : Shown) (x : ChunkReconfig) (trigger : AckTrigger) → HasOtherParameter x
-    → IsFault (on_reconfig a x trigger)
+    → EndsThePacket (on_reconfig a x trigger)
 cause_reconfig a x trigger c = inl (
   errors.ErrParameterType,
   fault_from (on_reconfig a x trigger).1 errors.ErrParameterType
@@ -204,11 +197,11 @@ outcome_flow outcomes.NotInFlight b cumulative_tsn_ack blocks window trigger now
 outcome_flow outcomes.NamesTheUnsent b cumulative_tsn_ack blocks window trigger now = refl
 outcome_flow outcomes.Taken b cumulative_tsn_ack blocks window trigger now = refl
 
-sack_flow : (established : Bool) (a : Shown) (cumulative_tsn_ack : ℕ) (blocks : List GapAckBlock) (window : ℕ)
+sack_flow : (sends : Bool) (a : Shown) (cumulative_tsn_ack : ℕ) (blocks : List GapAckBlock) (window : ℕ)
     (trigger : AckTrigger) (now : ℕ)
-    → is_established a.state ≡ established
+    → sends_data a.state ≡ sends
     → fault_of (on_sack a cumulative_tsn_ack blocks window trigger now).1
-    ≡ (if established then outcome_fault (sack_outcome a.sender cumulative_tsn_ack blocks) else None)
+    ≡ (if sends then outcome_fault (sack_outcome a.sender cumulative_tsn_ack blocks) else None)
 unfolding on_sack
 sack_flow true a cumulative_tsn_ack blocks window trigger now e =
     rw e (outcome_flow (sack_outcome a.sender cumulative_tsn_ack blocks) _ cumulative_tsn_ack blocks window trigger now)
@@ -296,11 +289,11 @@ sack_cause a h sack window trigger now error binds e =
     let n = tsns_up_to a.sender cumulative_tsn_ack in
     let at = acked_at a h binds in
     let b =
-    beyond_if (is_established a.state) (tsn_gt (cumulative_tsn_ack_point_of a.sender) cumulative_tsn_ack) (ltb flown n)
+    beyond_if (sends_data a.state) (tsn_gt (cumulative_tsn_ack_point_of a.sender) cumulative_tsn_ack) (ltb flown n)
     (names_unsent a.sender cumulative_tsn_ack blocks) error
-    (sym (sack_flow (is_established a.state) a cumulative_tsn_ack blocks window trigger now refl) ∙ e) in
+    (sym (sack_flow (sends_data a.state) a cumulative_tsn_ack blocks window trigger now refl) ∙ e) in
     record {
-      established = established_state a.state b.counts;
+      counts = b.counts;
       not_behind = sym (ap (λ (z : ℕ). tsn_gt z sack.cumulative_tsn_ack) (acked_at a h binds)) ∙ b.ahead;
       unsent = ⊎_elim
           (λ (beyond : ltb (length a.sender.queue.in_flight) (tsns_up_to a.sender sack.cumulative_tsn_ack) ≡ true).
@@ -349,23 +342,22 @@ names_faults a h sack binds c =
 
 cause_sack : (a : Shown) (h : History) (sack : ChunkSelectiveAck) (window : ℕ) (trigger : AckTrigger) (now : ℕ)
     → Binds a h → AcknowledgesTheUnsent a h sack
-    → IsFault (on_sack a sack.cumulative_tsn_ack sack.gap_ack_blocks window trigger now)
+    → EndsThePacket (on_sack a sack.cumulative_tsn_ack sack.gap_ack_blocks window trigger now)
 cause_sack a h sack window trigger now binds c =
     let cumulative_tsn_ack = sack.cumulative_tsn_ack in
     let blocks = sack.gap_ack_blocks in
     let flown = length a.sender.queue.in_flight in
-    let flow = sack_flow (is_established a.state) a cumulative_tsn_ack blocks window trigger now refl in
-    let counts = ap is_established c.established in
+    let flow = sack_flow (sends_data a.state) a cumulative_tsn_ack blocks window trigger now refl in
     let ahead = ap (λ (z : ℕ). tsn_gt z sack.cumulative_tsn_ack) (acked_at a h binds) ∙ c.not_behind in
     ⊎_elim
     (λ (beyond : IsBeyondTheSent a h sack.cumulative_tsn_ack). inl (
       errors.ErrInflightQueueTsnPop,
       fault_from (on_sack a sack.cumulative_tsn_ack sack.gap_ack_blocks window trigger now).1
           errors.ErrInflightQueueTsnPop
-          (flow ∙ beyond_faults (is_established a.state)
+          (flow ∙ beyond_faults (sends_data a.state)
           (tsn_gt (cumulative_tsn_ack_point_of a.sender) cumulative_tsn_ack)
           (ltb flown (tsns_up_to a.sender cumulative_tsn_ack))
-          (names_unsent a.sender cumulative_tsn_ack blocks) counts ahead
+          (names_unsent a.sender cumulative_tsn_ack blocks) c.counts ahead
           (sent_if _ (cumulative_tsn_ack_point_of a.sender) h.own h.base flown cumulative_tsn_ack refl
           (acked_at a h binds) beyond)),
     ))
@@ -373,10 +365,10 @@ cause_sack a h sack window trigger now binds c =
       errors.ErrTsnRequestNotExist,
       fault_from (on_sack a sack.cumulative_tsn_ack sack.gap_ack_blocks window trigger now).1
           errors.ErrTsnRequestNotExist
-          (flow ∙ unsent_faults (is_established a.state)
+          (flow ∙ unsent_faults (sends_data a.state)
           (tsn_gt (cumulative_tsn_ack_point_of a.sender) cumulative_tsn_ack)
           (ltb flown (tsns_up_to a.sender cumulative_tsn_ack))
-          (names_unsent a.sender cumulative_tsn_ack blocks) counts ahead
+          (names_unsent a.sender cumulative_tsn_ack blocks) c.counts ahead
           (names_faults a h sack binds names).0 (names_faults a h sack binds names).1),
     ))
     c.unsent
@@ -450,7 +442,7 @@ init_ack_cause a header init trigger now error e =
     }
 
 cause_init_ack : (a : Shown) (header : CommonHeader) (init : ChunkInit) (trigger : AckTrigger) (now : ℕ)
-    → BringsNoCookie a header init → IsFault (on_init_ack a header init trigger now)
+    → BringsNoCookie a header init → EndsThePacket (on_init_ack a header init trigger now)
 cause_init_ack a header init trigger now c =
     let back : comes_back a.handshake header ≡ true =
     and_from (eqb header.destination_port a.handshake.source_port) (eqb header.source_port a.handshake.destination_port)
@@ -496,8 +488,8 @@ outcome_spares outcomes.NotInFlight b cumulative_tsn_ack blocks window trigger n
 outcome_spares outcomes.NamesTheUnsent b cumulative_tsn_ack blocks window trigger now = refl
 outcome_spares outcomes.Taken b cumulative_tsn_ack blocks window trigger now = refl
 
-pub sack_spares : (established : Bool) (a : Shown) (cumulative_tsn_ack : ℕ) (blocks : List GapAckBlock) (window : ℕ)
-    (trigger : AckTrigger) (now : ℕ) → is_established a.state ≡ established
+pub sack_spares : (sends : Bool) (a : Shown) (cumulative_tsn_ack : ℕ) (blocks : List GapAckBlock) (window : ℕ)
+    (trigger : AckTrigger) (now : ℕ) → sends_data a.state ≡ sends
     → exhausts_of (on_sack a cumulative_tsn_ack blocks window trigger now).1 ≡ false
 unfolding on_sack
 sack_spares true a cumulative_tsn_ack blocks window trigger now e =
@@ -573,12 +565,16 @@ kind_exhausts header (chunks.IForwardTsn x) a h trigger now binds e =
     trigger now (λ asked at. refl) binds e
 kind_exhausts header (chunks.Reconfig x) a h trigger now binds e =
     absurd (false≢true (sym (reconfig_flow a x trigger).1 ∙ e))
+kind_exhausts header (chunks.Shutdown x) a h trigger now binds e = absurd (false≢true e)
+kind_exhausts header chunks.ShutdownAck a h trigger now binds e = absurd (false≢true e)
+kind_exhausts header chunks.ShutdownComplete a h trigger now binds e =
+    absurd (false≢true (sym (complete_spares a.state trigger) ∙ e))
 kind_exhausts header c a h trigger now binds e = tt
 
 nothing_to_read_exhausts : (a : Shown) (h : History) (header : CommonHeader) (piece : ChunkPayloadData)
-    (trigger : AckTrigger) → Binds a h → LeavesNothingToRead a h header piece → IsFault (on_data a piece trigger)
+    (trigger : AckTrigger) → Binds a h → LeavesNothingToRead a h header piece → EndsThePacket (on_data a piece trigger)
 nothing_to_read_exhausts a h header piece trigger binds c =
-    inr (flow_is (on_data a piece trigger).1 (nothing_left_exhausts a h header piece trigger binds c))
+    inr (inr (flow_is (on_data a piece trigger).1 (nothing_left_exhausts a h header piece trigger binds c)))
 
 -- Any chunk
 
@@ -606,11 +602,20 @@ kind_cause header (chunks.ForwardTsn x) a h trigger now error binds e =
 kind_cause header (chunks.IForwardTsn x) a h trigger now error binds e =
     absurd (never _ error (forward_flow a x.new_cumulative_tsn (skips_of x.entries) trigger now) e)
 kind_cause header (chunks.Reconfig x) a h trigger now error binds e = reconfig_cause a x trigger error e
+kind_cause header (chunks.Shutdown x) a h trigger now error binds e = absurd (never None error refl e)
+kind_cause header chunks.ShutdownAck a h trigger now error binds e = absurd (never None error refl e)
+kind_cause header chunks.ShutdownComplete a h trigger now error binds e =
+    absurd (never _ error (complete_flow a.state trigger) e)
 kind_cause header c a h trigger now error binds e = tt
+
+-- a SHUTDOWN COMPLETE that ends a shutdown answers SHUTDOWN ACK
+ends_cause : (c : Chunk) (a : Shown) (h : History) (header : CommonHeader) → EndsShutdown c a
+    → IsCauseOfItsKind a h header c
+ends_cause c a h header e = subst (IsCauseOfItsKind a h header) (sym e.complete) e.awaited
 
 cause_kind : (header : CommonHeader) (c : Chunk) (a : Shown) (h : History) (trigger : AckTrigger) (now : ℕ) → Binds a h
     → IsCauseOfItsKind a h header c
-    → IsFault (dispatched a header c trigger now)
+    → EndsThePacket (dispatched a header c trigger now)
 unfolding on_chunk
 cause_kind header (chunks.Data piece) a h trigger now binds cause =
     ⊎_elim (cause_data a h piece trigger binds)
@@ -627,14 +632,18 @@ cause_kind header (chunks.CookieEcho x) a h trigger now binds cause = absurd cau
 cause_kind header chunks.CookieAck a h trigger now binds cause = absurd cause
 cause_kind header (chunks.Heartbeat x) a h trigger now binds cause = absurd cause
 cause_kind header (chunks.ForwardTsn x) a h trigger now binds cause =
-    inr (flow_is (on_forward a x.new_cumulative_tsn x.streams trigger now).1
+    inr (inr (flow_is (on_forward a x.new_cumulative_tsn x.streams trigger now).1
     (passing_to_nothing_exhausts a h header (chunks.ForwardTsn x) x.new_cumulative_tsn x.streams trigger now
-    (λ asked at. refl) binds cause))
+    (λ asked at. refl) binds cause)))
 cause_kind header (chunks.IForwardTsn x) a h trigger now binds cause =
-    inr (flow_is (on_forward a x.new_cumulative_tsn (skips_of x.entries) trigger now).1
+    inr (inr (flow_is (on_forward a x.new_cumulative_tsn (skips_of x.entries) trigger now).1
     (passing_to_nothing_exhausts a h header (chunks.IForwardTsn x) x.new_cumulative_tsn (skips_of x.entries) trigger now
-    (λ asked at. refl) binds cause))
+    (λ asked at. refl) binds cause)))
 cause_kind header (chunks.Reconfig x) a h trigger now binds cause = cause_reconfig a x trigger cause
+cause_kind header (chunks.Shutdown x) a h trigger now binds cause = absurd cause
+cause_kind header chunks.ShutdownAck a h trigger now binds cause = absurd cause
+cause_kind header chunks.ShutdownComplete a h trigger now binds cause =
+    inr (inl (ap (λ (s : AssociationState). on_shutdown_complete s trigger) cause))
 cause_kind header (chunks.Abort x) a h trigger now binds cause = inl (errors.ErrAbortChunk, refl)
 cause_kind header (chunks.Error x) a h trigger now binds cause = inl (errors.ErrAbortChunk, refl)
 cause_kind header c a h trigger now binds cause = inl (errors.ErrChunkTypeUnhandled, refl)
@@ -644,15 +653,17 @@ module _ (header : CommonHeader) (c : Chunk) (a : Shown) (h : History) (trigger 
     (binds : Binds a h)
   where
     fault_cause : (r : Result (Unit {0}) Error) → checked_chunk c ≡ r
-        → IsFault (checked_first r a header c trigger now) → IsCause a h header c
+        → EndsThePacket (checked_first r a header c trigger now) → IsCause a h header c
     fault_cause (Err error) e f = inl (error, e)
     fault_cause (Ok done) e (inl (error, f)) =
         inr (kind_cause header c a h trigger now error binds (ap fault_of f))
-    fault_cause (Ok done) e (inr f) =
+    fault_cause (Ok done) e (inr (inl f)) =
+        inr (ends_cause c a h header (kind_ends header c a trigger now (ap ends_of f)))
+    fault_cause (Ok done) e (inr (inr f)) =
         inr (kind_exhausts header c a h trigger now binds (ap exhausts_of f))
 
     cause_fault : (r : Result (Unit {0}) Error) → checked_chunk c ≡ r
-        → IsCause a h header c → IsFault (checked_first r a header c trigger now)
+        → IsCause a h header c → EndsThePacket (checked_first r a header c trigger now)
     cause_fault (Err error) e cause = inl (error, refl)
     cause_fault (Ok done) e (inl (error, f)) = absurd (false≢true (ap is_ok (sym f ∙ e)))
     cause_fault (Ok done) e (inr kind) = cause_kind header c a h trigger now binds kind

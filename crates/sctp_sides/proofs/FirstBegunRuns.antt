@@ -21,9 +21,8 @@ use Rattle.sctp_sides.proofs.TimersOverRuns.{Works, accepted_works}
 carried_out_fails : (call : Call) (told : List Event) (a b : Shown) → carried_out call a ≡ (b, told) → Works call a
     → a.failed ≡ true → b.failed ≡ true
 carried_out_fails call told a b there (inl works) failed = absurd (false≢true (sym works ∙ failed))
-carried_out_fails call told a b there (inr still) failed =
-    let same : (a, []) ≡ (b, told) = sym still ∙ there in
-    ap (λ (x : Shown × List Event). x.0.failed) (sym same) ∙ failed
+carried_out_fails call told a b there (inr (event, still)) failed =
+    ap (λ (x : Shown × List Event). x.0.failed) (sym there ∙ still) ∙ failed
 
 stays_failed : (call : Call) (a b : Shown) (h k : History) (acts : List Act) → Does call a h acts b k
     → a.failed ≡ true → b.failed ≡ true

@@ -1,6 +1,6 @@
 -- No poll, no timeout and no other call changes how often a generation is accounted for, where the last counters that
 -- the call tells are counted along.
-use Rattle.std.proofs.Common.{◌≡◌, refl, ap, ◌∙◌, ℕ, ◌+◌, ◌==◌, ◌&&◌, arith, not, is_some, Bool, true, false}
+use Rattle.std.proofs.Common.{◌≡◌, refl, ap, ◌∙◌, subst, ℕ, ◌+◌, ◌==◌, ◌&&◌, arith, not, is_some, Bool, true, false}
 use Rattle.std.proofs.Common.{if◌then◌else◌, List, [], ◌∷◌, fold, length, Option, Some, None}
 use Rattle.std.specs.Prelude.{remove, slice_get}
 use Rattle.sctp_wire_types.specs.declared.chunk.ChunkPayloadData.{ChunkPayloadData}
@@ -28,20 +28,24 @@ use Rattle.sctp_resets.specs.Telling.{next_told}
 use Rattle.sctp_assoc.specs.declared.control.Control.{Control}
 use Rattle.sctp_assoc.specs.declared.control.Control.TheVariants as controls
 use Rattle.sctp_assoc.specs.Calls.{accepted_from, accepted_stream, adjusted, after_ack_delay, after_t3, event_from}
-use Rattle.sctp_assoc.specs.Calls.{event_polled, fault_told, high_told, is_established, opened, read_from_stream}
+use Rattle.sctp_assoc.specs.Calls.{event_polled, exchanges_data, fault_told, high_told, is_established, opened}
+use Rattle.sctp_assoc.specs.Calls.{read_from_stream}
 use Rattle.sctp_assoc.specs.Calls.{retransmits, stopped, t3_expired, with_max_send_message_size, written, written_at}
 use Rattle.sctp_assoc.specs.Chunks.{after_packet}
 use Rattle.sctp_assoc.specs.Closing.{closed_by}
-use Rattle.sctp_assoc.specs.Gather.{ack_after, ack_polled, after_both, control_polled, data_polled, exchange_after}
+use Rattle.sctp_assoc.specs.Gather.{ack_after, ack_polled, after_both, control_polled, data_after, exchange_after}
 use Rattle.sctp_assoc.specs.Gather.{exchange_polled, first_request_behind, first_request_polled, forward_after}
-use Rattle.sctp_assoc.specs.Gather.{forward_polled, is_due, polled, repeat_polled, request_made, requests_after}
+use Rattle.sctp_assoc.specs.Gather.{forward_polled, is_due, open_polled, polled, repeat_polled, request_made}
+use Rattle.sctp_assoc.specs.Gather.{requests_after}
 use Rattle.sctp_assoc.specs.Gather.{requests_polled, with_control_given, with_request_again, with_request_asked}
 use Rattle.sctp_assoc.specs.Gather.{with_request_placed, with_request_sent, without_control}
 use Rattle.sctp_assoc.specs.Handshake.{after_t1_init, init_queued, cookie_queued, sends_cookie, sends_init}
 use Rattle.sctp_assoc.specs.Handshake.{t1_cookie_expired, t1_init_expired}
 use Rattle.sctp_assoc.specs.Resets.{after_reconfig_timer, asks_again, gives_up, reconfig_expired, with_reconfig_run}
 use Rattle.sctp_assoc.specs.Shown.{Shown}
-use Rattle.sctp_assoc.specs.Timeouts.{after_handshake_timers, after_timeouts}
+use Rattle.sctp_sides.proofs.EndedPolls.{by_poll_end, complete_given, ended_is_closed}
+use Rattle.sctp_assoc.specs.Shutdown.{endpoint_event_polled, shutdown_begun}
+use Rattle.sctp_assoc.specs.Timeouts.{after_handshake_timers, after_shutdown_timer, after_timeouts}
 use Rattle.sctp_sides.specs.Generations.{finals, times}
 use Rattle.sctp_sides.specs.OneSide.{Call, call_refusal, carried_out, told_by, with_told}
 use Rattle.sctp_sides.proofs.GenerationsInChunks.{closed_keeps, packets_keep, reads_keep, stops_keep, tally_of}
@@ -103,9 +107,14 @@ module _ (g : ℕ) where
       ∙ first_keeps_if (length c.control == 0) c
       ∙ made_keeps b (request_asked b.resets b.sender.queue)
 
+  requests_keep_if : (established : Bool) (a : Shown)
+      → tally_of g (if established then first_request_behind (repeat_polled a) else (a, [])).0 ≡ tally_of g a
+  requests_keep_if true a = first_keeps (repeat_polled a) ∙ again_keeps a (request_again a.resets)
+  requests_keep_if false a = refl
+
   requests_keep : (a : Shown) → tally_of g (requests_polled a).0 ≡ tally_of g a
   unfolding requests_polled
-  requests_keep a = first_keeps (repeat_polled a) ∙ again_keeps a (request_again a.resets)
+  requests_keep a = requests_keep_if (is_established a.state) a
 
   requests_behind_keep : (x : Shown × List (List ChunkPayloadData)) → tally_of g (requests_after x).0 ≡ tally_of g x.0
   requests_behind_keep (b, bundles) =
@@ -125,17 +134,17 @@ module _ (g : ℕ) where
   forward_keeps (b, packets) = refl
 
   exchange_keeps_if : (c : Bool) (a : Shown) (now : ℕ)
-      → tally_of g (if c then forward_after (ack_after (requests_after (data_polled a now))) else (a, [])).0
+      → tally_of g (if c then forward_after (ack_after (requests_after (data_after a now))) else (a, [])).0
       ≡ tally_of g a
   exchange_keeps_if true a now =
-      let x = requests_after (data_polled a now) in
-      forward_keeps (ack_after x) ∙ ack_keeps x ∙ requests_behind_keep (data_polled a now) ∙ data_keeps g a now
+      let x = requests_after (data_after a now) in
+      forward_keeps (ack_after x) ∙ ack_keeps x ∙ requests_behind_keep (data_after a now) ∙ data_keeps g a now
   exchange_keeps_if false a now = refl
 
   exchange_keeps : (x : Shown × List (List ℕ)) (now : ℕ) → tally_of g (exchange_after x now).0 ≡ tally_of g x.0
   unfolding exchange_polled
   exchange_keeps (b, packets) now =
-      behind_keeps packets (exchange_polled b now) ∙ exchange_keeps_if (is_established b.state) b now
+      behind_keeps packets (exchange_polled b now) ∙ exchange_keeps_if (exchanges_data b.state) b now
 
   placed_keeps : (b : Shown) (packets : List (List ℕ)) (x : ResetsView × Option ParamOutgoingResetRequest)
       → tally_of g (with_request_placed (b, packets) x).0 ≡ tally_of g b
@@ -164,10 +173,19 @@ module _ (g : ℕ) where
       run_keeps_if (is_some b.resets.own.active && not (is_some (moment_of names.Reconfig b.timers))) b
       (started names.Reconfig now b.estimate.rto b.timers)
 
-  polls_keep : (a : Shown) (now : ℕ) → tally_of g (polled a now).0 ≡ tally_of g a
-  polls_keep a now =
+  front_keeps : (a : Shown) (now : ℕ) → tally_of g (open_polled a now).0 ≡ tally_of g a
+  front_keeps a now =
       run_keeps (exchange_after (control_polled a) now) now
       ∙ exchange_keeps (control_polled a) now ∙ control_keeps a
+
+  -- the end of a poll changes no stream and tells nothing, or closes
+  polls_keep : (a : Shown) (now : ℕ) → tally_of g (polled a now).0 ≡ tally_of g a
+  polls_keep a now =
+      let m : Shown = (open_polled a now).0 in
+      let front = front_keeps a now in
+      by_poll_end (λ (z : Shown). tally_of g z ≡ tally_of g a) a now (λ e due timer. front)
+      (λ e open_still. subst (λ (z : Shown). tally_of g z ≡ tally_of g a) (ended_is_closed m open_still)
+      (closed_keeps g (complete_given m) reasons.AssociationClosed ∙ front))
 
   -- Timers
 
@@ -237,12 +255,13 @@ module _ (g : ℕ) where
   timeouts_keep a now =
       let b : Shown = after_t1_init a now in
       let c : Shown = after_handshake_timers a now in
-      let d : Shown = after_t3 c now in
+      let f : Shown = after_shutdown_timer a now in
+      let d : Shown = after_t3 f now in
       let e : Shown = after_reconfig_timer d now in
       delay_keeps _ e now refl
       ∙ reconfig_keeps (expiry_of names.Reconfig now d.timers).expired (expiry_of names.Reconfig now d.timers).failed d
       now
-      ∙ t3_keeps (expiry_of names.T3RTX now c.timers).expired (expiry_of names.T3RTX now c.timers).failed c now
+      ∙ t3_keeps (expiry_of names.T3RTX now f.timers).expired (expiry_of names.T3RTX now f.timers).failed f now
       ∙ t1_cookie_keeps (expiry_of names.T1Cookie now b.timers).expired
       (expiry_of names.T1Cookie now b.timers).failed b now
       ∙ t1_init_keeps (expiry_of names.T1Init now a.timers).expired (expiry_of names.T1Init now a.timers).failed a now
@@ -327,6 +346,8 @@ module _ (g : ℕ) where
   carried_keeps Call.AcceptStream a e = silent_keeps a (accepted_stream a).0 (accepted_keeps a.failed a)
   carried_keeps (Call.SetMaxSendMessageSize size) a e =
       silent_keeps a (with_max_send_message_size a size) (limit_keeps a.failed a size)
+  carried_keeps Call.Shutdown a e = silent_keeps a (shutdown_begun a) refl
+  carried_keeps Call.PollEndpointEvent a e = silent_keeps a (endpoint_event_polled a).0 refl
   carried_keeps Call.Close a e =
       silent_keeps a (closed_by a reasons.AssociationClosed) (closed_keeps g a reasons.AssociationClosed)
   carried_keeps (Call.Read id) a e = silent_keeps a (read_from_stream a id).0 (reads_keep g a id)

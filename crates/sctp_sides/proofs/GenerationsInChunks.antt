@@ -51,7 +51,8 @@ use Rattle.sctp_resets.specs.Resets as resets
 use Rattle.sctp_assoc.specs.declared.inbound.Flow.{Flow}
 use Rattle.sctp_assoc.specs.declared.inbound.Flow.TheVariants as flows
 use Rattle.sctp_assoc.specs.Calls.{after_read, drained_behind, holds_of, is_beginning, is_cookie_echoed, is_cookie_wait}
-use Rattle.sctp_assoc.specs.Calls.{is_established, read_from_stream, stopped, stopped_open, without_read_half_of}
+use Rattle.sctp_assoc.specs.Calls.{is_established, read_from_stream, sends_data, stopped, stopped_open}
+use Rattle.sctp_assoc.specs.Calls.{without_read_half_of}
 use Rattle.sctp_assoc.specs.Chunks.{after_chunks, after_packet, after_packet_of, asks, asks_or_faults, checked_first}
 use Rattle.sctp_assoc.specs.Chunks.{deferred_unless, deferred_where_admitted, dispatched, goes_on, on_chunk}
 use Rattle.sctp_assoc.specs.Chunks.{on_counted_data, on_counted_sack, on_data, on_new_data, on_sack, stream_found}
@@ -277,7 +278,7 @@ module _ (g : ℕ) where
       (sack_same cumulative_tsn_ack blocks window now b.sender b.estimate b.streams)
 
   sack_keeps : (c : Bool) (a : Shown) (cumulative_tsn_ack : ℕ) (blocks : List GapAckBlock) (window : ℕ)
-      (trigger : AckTrigger) (now : ℕ) → is_established a.state ≡ c
+      (trigger : AckTrigger) (now : ℕ) → sends_data a.state ≡ c
       → tally_of (on_sack a cumulative_tsn_ack blocks window trigger now).0 ≡ tally_of a
   unfolding on_sack
   sack_keeps true a cumulative_tsn_ack blocks window trigger now e =
@@ -433,6 +434,7 @@ module _ (g : ℕ) where
       → tally_of (goes_on x more) ≡ tally_of x.0
   flow_keeps (b, flows.Next trigger) more on = on b trigger
   flow_keeps (b, flows.Fault fault) more on = closed_keeps b reasons.AssociationClosed
+  flow_keeps (b, flows.Closed) more on = closed_keeps b reasons.AssociationClosed
   flow_keeps (b, flows.Exhausted) more on = exhausted_keeps b
 
   chunks_keep : (header : CommonHeader) (cs : List Chunk) (a : Shown) (trigger : AckTrigger) (now : ℕ)

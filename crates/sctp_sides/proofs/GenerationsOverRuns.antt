@@ -49,8 +49,9 @@ module _ (g : ℕ) where
   carried_counted call n a keeps h (inl works) =
       let before : n + tally_of g a ≡ 1 = h.in_all works in
       counted (n + times g (finals (carried_out call a).1)) (carried_out call a).0 (omega (arith, before, keeps))
-  carried_counted call n a keeps h (inr same) =
-      subst (λ (x : Shown × List Event). IsCountedOnce (n + times g (finals x.1)) x.0) (sym same) (counted_still n a h)
+  carried_counted call n a keeps h (inr (event, same)) =
+      subst (λ (x : Shown × List Event). IsCountedOnce (n + times g (finals x.1)) x.0) (sym same)
+      (counted_still n (record a { endpoint_event = event }) (record { at_most = h.at_most; in_all = h.in_all }))
 
   call_counted : (call : Call) (n : ℕ) (told : List Event) (a b : Shown) → IsCountedOnce n a → Calls call told a b
       → IsCountedOnce (n + times g (finals told)) b

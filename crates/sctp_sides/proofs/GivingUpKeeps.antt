@@ -1,26 +1,18 @@
 -- What messages that are given up leave of a sender and its streams, and what a poll does.
-use Rattle.std.proofs.Common.{◌≡◌, refl, ap, ◌∙◌, ℕ, zero, suc, Bool, true, false, List, []}
+use Rattle.std.proofs.Common.{◌≡◌, refl, ℕ, zero, suc, Bool, true, false}
 use Rattle.std.proofs.Common.{length, Option, Some, None}
-use Rattle.std.proofs.lemmas.Bool.{cond-true}
-use Rattle.sctp_wire_types.specs.declared.chunk.ChunkPayloadData.{ChunkPayloadData}
 use Rattle.sctp_outbound_queue.specs.declared.message.Retransmission.{Retransmission}
 use Rattle.sctp_outbound_queue.specs.declared.message.Retransmission.TheVariants as causes
 use Rattle.sctp_streams.specs.Streams.{StreamMap}
-use Rattle.sctp_inbound.specs.declared.receiver.Receiver.{Receiver}
 use Rattle.sctp_outbound.specs.declared.abandonment.Reason.{Reason}
 use Rattle.sctp_outbound.specs.declared.abandonment.Reason.TheVariants as reasons
 use Rattle.sctp_outbound.specs.declared.sender.Sender.{Sender}
 use Rattle.sctp_outbound.specs.Abandonment.{abandoned_if, abandoned_of, dropped_by, dropped_first, expired_by}
 use Rattle.sctp_outbound.specs.Abandonment.{first_dropped, given_up_before, given_up_first, late_given_up}
 use Rattle.sctp_outbound.specs.Abandonment.{next_given_up, tail_given_up, with_started}
-use Rattle.sctp_outbound.specs.Forward.{forward_given}
 use Rattle.sctp_outbound.specs.Sender.{after_marked, after_missing, sent_new}
-use Rattle.sctp_assoc.specs.Calls.{is_established}
-use Rattle.sctp_assoc.specs.Gather.{ack_after, ack_polled, both_of, data_polled, exchange_polled}
-use Rattle.sctp_assoc.specs.Gather.{fast_polled, forward_after, forward_polled, is_due, late_abandoned, late_dropped}
-use Rattle.sctp_assoc.specs.Gather.{marks_polled, requests_after, requests_polled}
+use Rattle.sctp_assoc.specs.Gather.{both_of, data_polled, fast_polled, late_abandoned, late_dropped, marks_polled}
 use Rattle.sctp_assoc.specs.Shown.{Shown, uses_forward_tsn}
-use Rattle.sctp_assoc.proofs.PollsLeadOn.{after_is as left_by_both}
 
 -- Each step by which messages are given up at a moment keeps this of a sender and its streams.
 pub record KeptByGivingUp (P : Sender × StreamMap → Type 0) (now : ℕ) : Type 0 where
@@ -109,39 +101,3 @@ module _ (P : Sender × StreamMap → Type 0) (now : ℕ) (a : Shown) (k : KeptB
   pub data_poll_kept : P (both_of a) → P (both_of (data_polled a now).0)
   unfolding data_polled
   data_poll_kept h = k.new (both_of (late_dropped (fast_polled a now) now)) (drops_poll_kept h)
-
--- What follows DATA: the acknowledgement changes the receiver, and FORWARD TSN is due no more.
-
-abbrev pub after_data : Shown → Receiver → Shown
-after_data b r = record b { receiver = r; sender = forward_given b.sender }
-
-ack_is_if : (due : Bool) (b : Shown) → is_due b.receiver.ack_state ≡ due
-    → (ack_polled b).0 ≡ record b { receiver = (ack_polled b).0.receiver }
-unfolding ack_polled
-ack_is_if true b e = rw e refl
-ack_is_if false b e = rw e refl
-
-pub ack_is : (b : Shown) → (ack_polled b).0 ≡ record b { receiver = (ack_polled b).0.receiver }
-ack_is b = ack_is_if (is_due b.receiver.ack_state) b refl
-
-forward_is : (b : Shown) → (forward_polled b).0 ≡ record b { sender = forward_given b.sender }
-unfolding forward_polled
-forward_is b = refl
-
-pub after_is : (x : Shown × List (List ChunkPayloadData))
-    → (forward_after (ack_after (requests_after x))).0
-    ≡ after_data (requests_polled x.0).0 (ack_polled (requests_polled x.0).0).0.receiver
-after_is x =
-    left_by_both x
-    ∙ forward_is (ack_polled (requests_polled x.0).0).0
-    ∙ ap (λ (z : Shown). record z { sender = forward_given z.sender }) (ack_is (requests_polled x.0).0)
-
--- in Established
-pub exchange_is : (a : Shown) (now : ℕ) → is_established a.state ≡ true
-    → (exchange_polled a now).0
-    ≡ (let b = (requests_polled (data_polled a now).0).0 in after_data b (ack_polled b).0.receiver)
-unfolding exchange_polled
-exchange_is a now e =
-    ap (λ (z : Shown × List (List ℕ)). z.0)
-    (cond-true (is_established a.state) (forward_after (ack_after (requests_after (data_polled a now)))) (a, []) e)
-    ∙ after_is (data_polled a now)

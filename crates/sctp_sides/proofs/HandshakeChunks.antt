@@ -11,6 +11,8 @@ use Rattle.sctp_wire_types.specs.declared.ids.Side.{Side}
 use Rattle.sctp_wire_types.specs.declared.ids.Side.TheVariants as sides
 use Rattle.sctp_wire_types.specs.declared.packet.CommonHeader.{CommonHeader}
 use Rattle.sctp_wire_types.specs.Checks.{checked_chunk}
+use Rattle.sctp_parts.specs.declared.state.AssociationState.{AssociationState}
+use Rattle.sctp_parts.specs.declared.state.AssociationState.TheVariants as states
 use Rattle.sctp_inbound.specs.declared.handshake.Handshake.{Handshake}
 use Rattle.sctp_inbound.specs.declared.handshake.Offer.{Offer}
 use Rattle.sctp_inbound.specs.declared.receiver.AckTrigger.{AckTrigger}
@@ -24,11 +26,12 @@ use Rattle.sctp_assoc.specs.Chunks.{checked_first, on_chunk}
 use Rattle.sctp_assoc.specs.Handshake.{acknowledged_cookie, answered, connected, echoed, learned, on_cookie_ack}
 use Rattle.sctp_assoc.specs.Handshake.{on_cookie_echo, on_init, on_init_ack, sends_cookie, with_echo}
 use Rattle.sctp_assoc.specs.Happened.{acts_of_checked}
-use Rattle.sctp_sides.specs.Meeting.{AwaitsInitAck, Greets, GreetsOn, HasCome, IsDoneAmongClients, IsGreeted}
+use Rattle.sctp_assoc.specs.Shutdown.{all_acknowledged, shutdown_answered, shutdown_taken, state_at_shutdown}
+use Rattle.sctp_sides.specs.Meeting.{AwaitsInitAck, Greets, GreetsOn, HasCome, IsAsFarOn, IsDoneAmongClients, IsGreeted}
 use Rattle.sctp_sides.specs.Meeting.{IsNoEarlier, IsTruthful, Listens, MayHear, Stage, stage_of}
 use Rattle.sctp_sides.specs.SideLaws.{EstablishedSidesTalk, TheSameHandshakeIsTheSameStage}
 use Rattle.sctp_assoc.specs.Shown.{Shown}
-use Rattle.sctp_sides.proofs.HandshakeTruth.{KeepsSaying, truthful_still, truthful_with}
+use Rattle.sctp_sides.proofs.HandshakeTruth.{KeepsSaying, keeps_saying, truthful_still, truthful_with}
 
 not_both : sides.Client ≡ sides.Server → ⊥
 not_both e = cc
@@ -41,7 +44,7 @@ listens : (a : Shown) (t : Stage) → is_beginning a.state ≡ true → t.side �
 listens a t e client one (inl w) = absurd (true≢false (sym (one w.client client) ∙ w.incomplete))
 listens a t e client one (inr (inl w)) = absurd (true≢false (sym (one w.client client) ∙ w.incomplete))
 listens a t e client one (inr (inr (inl l))) = l
-listens a t e client one (inr (inr (inr s))) = absurd (true≢false (sym e ∙ ap is_beginning s.state))
+listens a t e client one (inr (inr (inr s))) = absurd (true≢false (sym e ∙ s.state))
 
 listener_is_deaf : (a : Shown) → Listens a → MayHear (stage_of a) → ⊥
 listener_is_deaf a l (inl completed) = true≢false (sym completed ∙ l.incomplete)
@@ -57,11 +60,33 @@ connected_keeps a = record {
   echoes = λ x. absurd (false≢true x);
 }
 
+-- a state in which a COOKIE ECHO waits for its answer is one of the handshake's
+echoed_begins : (s : AssociationState) → is_cookie_echoed s ≡ true → is_beginning s ≡ true
+echoed_begins states.Closed e = absurd (false≢true e)
+echoed_begins states.CookieWait e = absurd (false≢true e)
+echoed_begins states.CookieEchoed e = refl
+echoed_begins states.Established e = absurd (false≢true e)
+echoed_begins states.ShutdownAckSent e = absurd (false≢true e)
+echoed_begins states.ShutdownPending e = absurd (false≢true e)
+echoed_begins states.ShutdownReceived e = absurd (false≢true e)
+echoed_begins states.ShutdownSent e = absurd (false≢true e)
+
+-- and so is one in which an INIT does
+waits_begins : (s : AssociationState) → is_cookie_wait s ≡ true → is_beginning s ≡ true
+waits_begins states.Closed e = absurd (false≢true e)
+waits_begins states.CookieWait e = refl
+waits_begins states.CookieEchoed e = absurd (false≢true e)
+waits_begins states.Established e = absurd (false≢true e)
+waits_begins states.ShutdownAckSent e = absurd (false≢true e)
+waits_begins states.ShutdownPending e = absurd (false≢true e)
+waits_begins states.ShutdownReceived e = absurd (false≢true e)
+waits_begins states.ShutdownSent e = absurd (false≢true e)
+
 ack_come : (a : Shown) → is_cookie_echoed a.state ≡ true → HasCome a → HasCome (connected a)
 ack_come a e (inl w) = absurd (true≢false (sym e ∙ ap is_cookie_echoed w.state))
 ack_come a e (inr (inl w)) = inr (inr (inr record { state = refl; completed = refl; known = w.known }))
 ack_come a e (inr (inr (inl l))) = absurd (true≢false (sym e ∙ ap is_cookie_echoed l.state))
-ack_come a e (inr (inr (inr s))) = absurd (true≢false (sym e ∙ ap is_cookie_echoed s.state))
+ack_come a e (inr (inr (inr s))) = absurd (true≢false (sym (echoed_begins a.state e) ∙ s.state))
 
 -- COOKIE ECHO
 
@@ -71,17 +96,67 @@ echo_come a issued begins (inl w) = absurd (true≢false (sym issued ∙ w.uniss
 echo_come a issued begins (inr (inl w)) = absurd (true≢false (sym issued ∙ w.unissued))
 echo_come a issued begins (inr (inr (inl l))) =
     inr (inr (inr record { state = refl; completed = refl; known = l.issued issued }))
-echo_come a issued begins (inr (inr (inr s))) = absurd (true≢false (sym begins ∙ ap is_beginning s.state))
+echo_come a issued begins (inr (inr (inr s))) = absurd (true≢false (sym begins ∙ s.state))
 
 issued_of : (issued same : Bool) → (issued && same) ≡ true → issued ≡ true
 issued_of true same e = refl
 issued_of false same e = e
 
 pub established_sides_talk : EstablishedSidesTalk
-established_sides_talk a e (inl w) = absurd (true≢false (sym e ∙ ap is_established w.state))
-established_sides_talk a e (inr (inl w)) = absurd (true≢false (sym e ∙ ap is_established w.state))
-established_sides_talk a e (inr (inr (inl l))) = absurd (true≢false (sym e ∙ ap is_established l.state))
+established_sides_talk a e (inl w) = absurd (false≢true (sym e ∙ ap is_beginning w.state))
+established_sides_talk a e (inr (inl w)) = absurd (false≢true (sym e ∙ ap is_beginning w.state))
+established_sides_talk a e (inr (inr (inl l))) = absurd (false≢true (sym e ∙ ap is_beginning l.state))
 established_sides_talk a e (inr (inr (inr s))) = s
+
+-- The same handshake has come as far where the state is as far on.
+come_on : (a b : Shown) → b.side ≡ a.side → IsAsFarOn a.state b.state → b.handshake ≡ a.handshake → HasCome a
+    → HasCome b
+come_on a b side (inr (past, on)) same come =
+    let s = established_sides_talk a past come in inr (inr (inr record {
+      state = on;
+      completed = ap (λ (x : Handshake). x.completed) same ∙ s.completed;
+      known = ap (λ (x : Handshake). is_some x.peer_initial_tsn) same ∙ s.known;
+    }))
+come_on a b side (inl state) same (inl w) = inl record {
+  client = side ∙ w.client;
+  state = state ∙ w.state;
+  incomplete = ap (λ (x : Handshake). x.completed) same ∙ w.incomplete;
+  unissued = ap (λ (x : Handshake). x.cookie_issued) same ∙ w.unissued;
+  unknown = ap (λ (x : Handshake). is_some x.peer_initial_tsn) same ∙ w.unknown;
+}
+come_on a b side (inl state) same (inr (inl w)) = inr (inl record {
+  client = side ∙ w.client;
+  state = state ∙ w.state;
+  incomplete = ap (λ (x : Handshake). x.completed) same ∙ w.incomplete;
+  unissued = ap (λ (x : Handshake). x.cookie_issued) same ∙ w.unissued;
+  known = ap (λ (x : Handshake). is_some x.peer_initial_tsn) same ∙ w.known;
+})
+come_on a b side (inl state) same (inr (inr (inl l))) = inr (inr (inl record {
+  server = side ∙ l.server;
+  state = state ∙ l.state;
+  incomplete = ap (λ (x : Handshake). x.completed) same ∙ l.incomplete;
+  issued =
+      λ i. ap (λ (x : Handshake). is_some x.peer_initial_tsn) same
+      ∙ l.issued (ap (λ (x : Handshake). x.cookie_issued) (sym same) ∙ i);
+}))
+come_on a b side (inl state) same (inr (inr (inr s))) = inr (inr (inr record {
+  state = ap is_beginning state ∙ s.state;
+  completed = ap (λ (x : Handshake). x.completed) same ∙ s.completed;
+  known = ap (λ (x : Handshake). is_some x.peer_initial_tsn) same ∙ s.known;
+}))
+
+-- SHUTDOWN
+
+at_shutdown_far : (acknowledged : Bool) (s : AssociationState) → IsAsFarOn s (state_at_shutdown acknowledged s)
+at_shutdown_far acknowledged states.Closed = inl refl
+at_shutdown_far acknowledged states.CookieWait = inl refl
+at_shutdown_far acknowledged states.CookieEchoed = inl refl
+at_shutdown_far true states.Established = inr (refl, refl)
+at_shutdown_far false states.Established = inr (refl, refl)
+at_shutdown_far acknowledged states.ShutdownAckSent = inl refl
+at_shutdown_far acknowledged states.ShutdownPending = inl refl
+at_shutdown_far acknowledged states.ShutdownReceived = inl refl
+at_shutdown_far acknowledged states.ShutdownSent = inr (refl, refl)
 
 -- INIT ACK
 
@@ -101,7 +176,7 @@ waits_for_it : (a : Shown) → is_cookie_wait a.state ≡ true → HasCome a →
 waits_for_it a e (inl w) = w
 waits_for_it a e (inr (inl w)) = absurd (true≢false (sym e ∙ ap is_cookie_wait w.state))
 waits_for_it a e (inr (inr (inl l))) = absurd (true≢false (sym e ∙ ap is_cookie_wait l.state))
-waits_for_it a e (inr (inr (inr s))) = absurd (true≢false (sym e ∙ ap is_cookie_wait s.state))
+waits_for_it a e (inr (inr (inr s))) = absurd (true≢false (sym (waits_begins a.state e) ∙ s.state))
 
 waiting_is_deaf : (a : Shown) → AwaitsInitAck a → MayHear (stage_of a) → ⊥
 waiting_is_deaf a w (inl completed) = true≢false (sym completed ∙ w.incomplete)
@@ -133,6 +208,19 @@ module _ (own peer : ℕ) (t : Stage) (a : Shown) (truthful : IsTruthful own a) 
     completes = λ d. inl d;
     learns = inl (refl, refl);
   }
+
+  -- what leaves the handshake as it was, and what waits to go out, in a state that is as far on
+  nothing_greeted_in : (b : Shown) → b.side ≡ a.side → b.handshake ≡ a.handshake → b.control ≡ a.control
+      → IsAsFarOn a.state b.state → IsGreeted own peer t [] a b
+  nothing_greeted_in b side same control far =
+      let keeps = keeps_saying a b side same in
+      record {
+        truthful = truthful_still own a b truthful keeps control;
+        come = come_on a b side far same come;
+        goes = keeps.goes;
+        completes = λ d. inl (ap (λ (x : Handshake). x.completed) (sym same) ∙ d);
+        learns = inl (refl, ap (λ (x : Handshake). x.peer_initial_tsn) same);
+      }
 
   -- INIT: a server takes it, and an association that is established doesn't
   init_greets : (c : Bool) (header : CommonHeader) (init : ChunkInit) (trigger : AckTrigger) → is_beginning a.state ≡ c
@@ -208,7 +296,7 @@ module _ (own peer : ℕ) (t : Stage) (a : Shown) (truthful : IsTruthful own a) 
         offers = λ o. o;
         echoes = λ x. inl x;
       } in
-      let s = established_sides_talk a g come in
+      let s = established_sides_talk a f come in
       rw (e, f, g) (record {
         truthful = truthful_with own a b _ truthful keeps refl s.completed refl;
         come = inr (inr (inr record { state = s.state; completed = s.completed; known = s.known }));
@@ -330,10 +418,12 @@ module _ (own peer : ℕ) (t : Stage) (a : Shown) (truthful : IsTruthful own a) 
   kind_greets (Ok done) header (chunks.Heartbeat x) trigger now said one = absurd said
   kind_greets (Ok done) header (chunks.HeartbeatAck x) trigger now said one = absurd said
   kind_greets (Ok done) header (chunks.Abort x) trigger now said one = nothing_greeted
-  kind_greets (Ok done) header (chunks.Shutdown x) trigger now said one = absurd said
-  kind_greets (Ok done) header chunks.ShutdownAck trigger now said one = absurd said
+  kind_greets (Ok done) header (chunks.Shutdown x) trigger now said one =
+      nothing_greeted_in (shutdown_taken a) refl refl refl (at_shutdown_far (all_acknowledged a) a.state)
+  kind_greets (Ok done) header chunks.ShutdownAck trigger now said one =
+      nothing_greeted_in (shutdown_answered a) refl refl refl (inl refl)
   kind_greets (Ok done) header (chunks.Error x) trigger now said one = nothing_greeted
-  kind_greets (Ok done) header chunks.ShutdownComplete trigger now said one = absurd said
+  kind_greets (Ok done) header chunks.ShutdownComplete trigger now said one = nothing_greeted
   kind_greets (Ok done) header (chunks.Reconfig x) trigger now said one = absurd said
   kind_greets (Ok done) header (chunks.ForwardTsn x) trigger now said one = absurd said
   kind_greets (Ok done) header (chunks.IForwardTsn x) trigger now said one = absurd said
@@ -345,36 +435,6 @@ unfolding on_chunk
 chunk_greets header c a trigger now =
     λ own peer t said one truthful come.
     kind_greets own peer t a truthful come (checked_chunk c) header c trigger now said one
-
--- The same handshake in the same state has come as far.
-come_on : (a b : Shown) → b.side ≡ a.side → b.state ≡ a.state → b.handshake ≡ a.handshake → HasCome a → HasCome b
-come_on a b side state same (inl w) = inl record {
-  client = side ∙ w.client;
-  state = state ∙ w.state;
-  incomplete = ap (λ (x : Handshake). x.completed) same ∙ w.incomplete;
-  unissued = ap (λ (x : Handshake). x.cookie_issued) same ∙ w.unissued;
-  unknown = ap (λ (x : Handshake). is_some x.peer_initial_tsn) same ∙ w.unknown;
-}
-come_on a b side state same (inr (inl w)) = inr (inl record {
-  client = side ∙ w.client;
-  state = state ∙ w.state;
-  incomplete = ap (λ (x : Handshake). x.completed) same ∙ w.incomplete;
-  unissued = ap (λ (x : Handshake). x.cookie_issued) same ∙ w.unissued;
-  known = ap (λ (x : Handshake). is_some x.peer_initial_tsn) same ∙ w.known;
-})
-come_on a b side state same (inr (inr (inl l))) = inr (inr (inl record {
-  server = side ∙ l.server;
-  state = state ∙ l.state;
-  incomplete = ap (λ (x : Handshake). x.completed) same ∙ l.incomplete;
-  issued =
-      λ i. ap (λ (x : Handshake). is_some x.peer_initial_tsn) same
-      ∙ l.issued (ap (λ (x : Handshake). x.cookie_issued) (sym same) ∙ i);
-}))
-come_on a b side state same (inr (inr (inr s))) = inr (inr (inr record {
-  state = state ∙ s.state;
-  completed = ap (λ (x : Handshake). x.completed) same ∙ s.completed;
-  known = ap (λ (x : Handshake). is_some x.peer_initial_tsn) same ∙ s.known;
-}))
 
 pub the_same_handshake_is_the_same_stage : TheSameHandshakeIsTheSameStage
 the_same_handshake_is_the_same_stage a b side same = (

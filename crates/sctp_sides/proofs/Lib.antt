@@ -1,4 +1,5 @@
 mod ActsOfChunks
+mod ActsOfPolls
 mod ActsPast
 mod BeginsNoReset
 mod BlocksWithin
@@ -12,6 +13,7 @@ mod ClosingPolls
 mod DataIntake
 mod DataKeptOut
 mod DueSacks
+mod EndedPolls
 mod ExhaustedBuffers
 mod FaultCauses
 mod FirstBegun
@@ -41,6 +43,7 @@ mod PastOnly
 mod PolledPackets
 mod PastPackets
 mod PeerRequestsInChunks
+mod PeerRequestsInPolls
 mod PeerRequestsOverRuns
 mod PollsInTime
 mod PollsLeave
@@ -54,6 +57,12 @@ mod ResetsNoMore
 mod Retries
 mod RetriesInPolls
 mod SentCounts
+mod ShutdownCalls
+mod ShutdownEnds
+mod ShutdownOrder
+mod ShutdownsOverChunks
+mod ShutdownsOverRuns
+mod ShutdownsStayInOrder
 mod Status
 mod StatusOfPolls
 mod StopsAndReads

@@ -16,18 +16,26 @@ use Rattle.sctp_assoc.specs.Closing.{closed_by, is_closed_state, is_exhausted}
 use Rattle.sctp_assoc.specs.Chunks.{after_packet}
 use Rattle.sctp_sides.specs.Laws.{IsClosedIf, TellsNothing, DoesNotClose, closes, is_faulted_packet, loss_of, losses}
 use Rattle.sctp_sides.specs.OneSide.{Call, Calls, IsFresh, IsUnchanged, IsRun, carried_out, told_by, with_told}
-use Rattle.sctp_assoc.specs.Gather.{polled}
+use Rattle.sctp_assoc.specs.Gather.{open_polled, polled}
 use Rattle.sctp_assoc.specs.Shown.{Shown}
+use Rattle.sctp_assoc.specs.Shutdown.{completes_shutdown}
 use Rattle.sctp_assoc.specs.Timeouts.{after_timeouts}
 use Rattle.sctp_sides.specs.Witnesses.{LossesAreToldOnce, loss_count}
 use Rattle.sctp_sides.proofs.ClosingPackets.{faults_alone_close}
-use Rattle.sctp_sides.proofs.ClosingPolls.{polls_do_not_close, timers_do_not_close}
+use Rattle.sctp_sides.proofs.ClosingPolls.{ended_shutdowns_alone_close, timers_do_not_close}
+use Rattle.sctp_sides.proofs.EndedPolls.{closing_is_open}
+use Rattle.sctp_sides.proofs.StatusOfPolls.{polls_keep_the_stage}
 use Rattle.sctp_sides.proofs.ClosingCalls.{accepted_streams_do_not_close, closes_close, limits_do_not_close}
 use Rattle.sctp_sides.proofs.ClosingCalls.{writes_do_not_close}
 use Rattle.sctp_sides.proofs.TimersOverChunks.{IsSound}
 use Rattle.sctp_sides.proofs.TimersOverRuns.{Fell, Works, accepted_works, call_sound, fell, fresh_ticks, sound_closed}
-use Rattle.sctp_assoc.specs.Calls.{adjusted, holds_of, read_exhausts, read_from_stream, stopped, stopped_open}
-use Rattle.sctp_sides.specs.Laws.{read_closes, stop_closes}
+use Rattle.sctp_assoc.specs.Calls.{adjusted, holds_of, is_beginning, read_exhausts, read_from_stream, stopped}
+use Rattle.sctp_assoc.specs.Calls.{stopped_open}
+use Rattle.sctp_sides.specs.Laws.{poll_closes, read_closes, stop_closes}
+use Rattle.sctp_sides.specs.Meeting.{IsAsFarOn}
+use Rattle.sctp_parts.specs.State.{is_closing}
+use Rattle.sctp_parts.specs.declared.state.AssociationState.{AssociationState}
+use Rattle.sctp_parts.specs.declared.state.AssociationState.TheVariants as states
 use Rattle.sctp_sides.proofs.ClosingPackets.{exhausting_reads_alone_close, exhausting_stops_alone_close}
 use Rattle.sctp_streams.specs.declared.setting.Setting.TheVariants as settings
 use Rattle.sctp_streams.specs.Stream.{is_read_half_open}
@@ -110,10 +118,12 @@ closes_by (Call.Write id named bytes) a = false
 closes_by (Call.Set id setting) a = false
 closes_by Call.AcceptStream a = false
 closes_by (Call.SetMaxSendMessageSize size) a = false
+closes_by Call.Shutdown a = false
+closes_by Call.PollEndpointEvent a = false
 closes_by Call.Close a = not (is_closed_state a.state)
 closes_by (Call.Read id) a = read_closes a id
 closes_by Call.Poll a = false
-closes_by (Call.PollTransmit now) a = false
+closes_by (Call.PollTransmit now) a = poll_closes a now
 closes_by (Call.HandleTimeout now) a = false
 closes_by (Call.HandleEvent packet now) a = closes a packet now
 closes_by (Call.Stop id) a = stop_closes a id
@@ -138,6 +148,36 @@ exhausted_is_kept false closed lost ends e = absurd (false≢true e)
 abbrev EndsClosed : Shown → Type 0
 EndsClosed a = a.lost ≡ true → is_closed_state a.state ≡ true
 
+-- An association in which a poll ends a shutdown was open before the poll: its front leads no closed one on.
+begun_is_open : (s : AssociationState) → is_beginning s ≡ false → is_closed_state s ≡ false
+begun_is_open states.Closed e = absurd (true≢false e)
+begun_is_open states.CookieWait e = refl
+begun_is_open states.CookieEchoed e = refl
+begun_is_open states.Established e = refl
+begun_is_open states.ShutdownAckSent e = refl
+begun_is_open states.ShutdownPending e = refl
+begun_is_open states.ShutdownReceived e = refl
+begun_is_open states.ShutdownSent e = refl
+
+closing_if : (closing shutdown shutdown_ack complete : Bool)
+    → (closing && not shutdown && not shutdown_ack && complete) ≡ true → closing ≡ true
+closing_if true shutdown shutdown_ack complete e = refl
+closing_if false shutdown shutdown_ack complete e = absurd (false≢true e)
+
+completing_is_closing : (m : Shown) → completes_shutdown m ≡ true → is_closing m.state ≡ true
+completing_is_closing m e =
+    let due = m.shutdown_due in
+    closing_if (is_closing m.state) due.shutdown due.shutdown_ack due.shutdown_complete e
+
+was_open : (s t : AssociationState) → IsAsFarOn s t → is_closing t ≡ true → is_closed_state s ≡ false
+was_open s t (inl same) e = closing_is_open s (ap is_closing (sym same) ∙ e)
+was_open s t (inr (begun, later)) e = begun_is_open s begun
+
+open_was_kept : (lost : Bool) (a : Shown) → (lost ≡ true → is_closed_state a.state ≡ true)
+    → is_closed_state a.state ≡ false → lost ≡ false
+open_was_kept false a ends e = refl
+open_was_kept true a ends e = absurd (false≢true (sym e ∙ ends refl))
+
 stop_tells : (a : Shown) (id : ℕ) → EndsClosed a → TellsLosses (stop_closes a id) a (stopped a id, [])
 stop_tells a id ends =
     closing_tells (stop_closes a id) a (stopped a id) (exhausting_stops_alone_close a id)
@@ -161,6 +201,8 @@ carried_tells (Call.Set id setting) a ends = tells_nothing a _ refl refl
 carried_tells Call.AcceptStream a ends = open_tells a (accepted_stream a).0 (accepted_streams_do_not_close a)
 carried_tells (Call.SetMaxSendMessageSize size) a ends =
     open_tells a (with_max_send_message_size a size) (limits_do_not_close a size)
+carried_tells Call.Shutdown a ends = tells_nothing a _ refl refl
+carried_tells Call.PollEndpointEvent a ends = tells_nothing a _ refl refl
 carried_tells Call.Close a ends =
     closing_tells (not (is_closed_state a.state)) a (closed_by a reasons.AssociationClosed)
     (closes_close a reasons.AssociationClosed) (open_is_kept (is_closed_state a.state) a.lost ends)
@@ -168,7 +210,11 @@ carried_tells (Call.Read id) a ends =
     closing_tells (read_closes a id) a (read_from_stream a id).0 (exhausting_reads_alone_close a id)
     (exhausted_is_kept (read_exhausts a id) (is_closed_state a.state) a.lost ends)
 carried_tells Call.Poll a ends = poll_tells a
-carried_tells (Call.PollTransmit now) a ends = unclosed_tells a (polled a now).0 (polls_do_not_close a now)
+carried_tells (Call.PollTransmit now) a ends =
+    closing_tells (poll_closes a now) a (polled a now).0 (ended_shutdowns_alone_close a now)
+    (λ e. open_was_kept a.lost a ends
+    (was_open a.state (open_polled a now).0.state (polls_keep_the_stage a now).front.state
+    (completing_is_closing (open_polled a now).0 e)))
 carried_tells (Call.HandleTimeout now) a ends = unclosed_tells a (after_timeouts a now) (timers_do_not_close a now)
 carried_tells (Call.HandleEvent packet now) a ends =
     closing_tells (closes a packet now) a (after_packet a packet now) (faults_alone_close a packet now)
@@ -212,8 +258,9 @@ carried_counts : (call : Call) (n : ℕ) (a : Shown) → EndsClosed a → Counts
     → CountsLosses (n + losses (carried_out call a).1) (carried_out call a).0
 carried_counts call n a ends h (inl works) =
     counts_on (closes_by call a) n a (carried_out call a) works h (carried_tells call a ends)
-carried_counts call n a ends h (inr same) =
-    subst (λ (x : Shown × List Event). CountsLosses (n + losses x.1) x.0) (sym same) (counts_still n a h)
+carried_counts call n a ends h (inr (event, same)) =
+    subst (λ (x : Shown × List Event). CountsLosses (n + losses x.1) x.0) (sym same)
+    (counts_still n (record a { endpoint_event = event }) (record { at_most = h.at_most; in_all = h.in_all }))
 
 call_counts : (call : Call) (n : ℕ) (told : List Event) (a b : Shown) → EndsClosed a → CountsLosses n a
     → Calls call told a b → CountsLosses (n + losses told) b

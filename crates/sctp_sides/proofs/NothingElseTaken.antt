@@ -23,7 +23,7 @@ use Rattle.sctp_generations.specs.Generations.{has_retiring}
 use Rattle.sctp_resets.specs.Concerned.{retiring_ids}
 use Rattle.sctp_directions.specs.Acts.{Act, History}
 use Rattle.sctp_model.proofs.Lists.{all_get, all_join, all_weaker}
-use Rattle.sctp_assoc.specs.Calls.{is_beginning, is_cookie_wait, is_established}
+use Rattle.sctp_assoc.specs.Calls.{is_beginning, is_cookie_wait, sends_data}
 use Rattle.sctp_assoc.specs.Happened.{acts_of_checked, acts_of_chunk, acts_of_data, acts_of_forward}
 use Rattle.sctp_assoc.specs.Happened.{acts_of_kind, acts_of_outcome}
 use Rattle.sctp_assoc.specs.Leads.{Binds}
@@ -267,7 +267,7 @@ kinds_take_nothing : (a : Shown) (header : CommonHeader) (chunk : Chunk) → IsN
     → AllByRecursion IsNoIntake (acts_of_kind a header chunk)
 kinds_take_nothing a header (chunks.Data piece) n = absurd n
 kinds_take_nothing a header (chunks.SelectiveAck sack) n =
-    all_if (is_established a.state) _ [] (outcomes_take_nothing _ _ sack.gap_ack_blocks _) tt
+    all_if (sends_data a.state) _ [] (outcomes_take_nothing _ _ sack.gap_ack_blocks _) tt
 kinds_take_nothing a header (chunks.Init init) n = all_if (is_beginning a.state) _ [] (tt, tt) tt
 kinds_take_nothing a header (chunks.InitAck init) n =
     all_if (is_cookie_wait a.state) _ [] (all_if (comes_back a.handshake header) _ [] (tt, tt) tt) tt

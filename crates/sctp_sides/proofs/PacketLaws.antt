@@ -12,9 +12,11 @@ use Rattle.sctp_streams.specs.declared.event.AssociationError.TheVariants as rea
 use Rattle.sctp_streams.specs.Stream.{StreamView}
 use Rattle.sctp_inbound.specs.declared.receiver.AckTrigger.{AckTrigger}
 use Rattle.sctp_inbound.specs.declared.receiver.AckTrigger.TheVariants as triggers
-use Rattle.sctp_assoc.specs.Calls.{is_established}
+use Rattle.sctp_parts.specs.State.{is_closing}
+use Rattle.sctp_assoc.specs.Calls.{exchanges_data, is_established}
 use Rattle.sctp_assoc.specs.Closing.{closed_by, closed_open, is_closed_state}
 use Rattle.sctp_assoc.specs.Chunks.{after_packet, after_packet_of, ended, on_chunk}
+use Rattle.sctp_sides.specs.SideLaws.{ClosedSidesExchangeNothing}
 use Rattle.sctp_sides.specs.SideLaws.{ChunksLeadOn, Closes, EndsPacket, EstablishedIsNotClosed, FaultsClose}
 use Rattle.sctp_sides.specs.SideLaws.{LostAssociationsTakeNothing, NoPacketChangesNothing, PacketsEnd, TakesChunk}
 use Rattle.sctp_assoc.specs.Shown.{Shown}
@@ -145,6 +147,20 @@ not_closed states.ShutdownSent e = refl
 pub established_is_not_closed : EstablishedIsNotClosed
 established_is_not_closed a e = not_closed a.state e
 
+exchanges_nothing : (s : AssociationState) → is_closed_state s ≡ true
+    → (exchanges_data s ≡ false) × (is_closing s ≡ false)
+exchanges_nothing states.Closed e = (refl, refl)
+exchanges_nothing states.CookieWait e = absurd (false≢true e)
+exchanges_nothing states.CookieEchoed e = absurd (false≢true e)
+exchanges_nothing states.Established e = absurd (false≢true e)
+exchanges_nothing states.ShutdownAckSent e = absurd (false≢true e)
+exchanges_nothing states.ShutdownPending e = absurd (false≢true e)
+exchanges_nothing states.ShutdownReceived e = absurd (false≢true e)
+exchanges_nothing states.ShutdownSent e = absurd (false≢true e)
+
+pub closed_sides_exchange_nothing : ClosedSidesExchangeNothing
+closed_sides_exchange_nothing a e = exchanges_nothing a.state e
+
 pub lost_associations_take_nothing : LostAssociationsTakeNothing
 lost_associations_take_nothing a packet now e = cond-true a.lost a (after_packet_of a packet now) e
 
@@ -156,7 +172,7 @@ pub no_packet_changes_nothing : NoPacketChangesNothing
 no_packet_changes_nothing a now = nothing_if a.lost a
 
 -- What each chunk of a packet carries on, the packet does: P holds before each chunk, and Q once the packet is over, at
--- its end or where a fault or an exhausted receive buffer closes.
+-- its end or where a fault, the end of a shutdown or an exhausted receive buffer closes.
 module _ (P Q : Shown → Type 0) (Said : Chunk → Type 0)
     (takes : (header : CommonHeader) (c : Chunk) (a b : Shown) → Said c → TakesChunk header c a b → P a → P b)
     (ends : (a b : Shown) → EndsPacket a b → P a → Q b) (closes : (a b : Shown) → Closes a b → P a → Q b)

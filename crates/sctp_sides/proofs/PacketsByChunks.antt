@@ -11,8 +11,8 @@ use Rattle.sctp_assoc.specs.Closing.{closed_by, exhausted}
 use Rattle.sctp_assoc.specs.Chunks.{after_chunks, ended, goes_on, on_chunk}
 use Rattle.sctp_assoc.specs.Shown.{Shown}
 
--- P holds before each chunk, and Q once the packet is over: at its end, or where a fault or an exhausted
--- receive buffer closes the association
+-- P holds before each chunk, and Q once the packet is over: at its end, or where a fault, the end of a shutdown or an
+-- exhausted receive buffer closes the association
 module _ (P Q : Shown → Type 0) (Said : Chunk → Type 0)
     (step : (header : CommonHeader) (c : Chunk) (a : Shown) (trigger : AckTrigger) (now : ℕ) → Said c → P a
     → P (on_chunk a header c trigger now).0)
@@ -23,6 +23,7 @@ module _ (P Q : Shown → Type 0) (Said : Chunk → Type 0)
       → ((b : Shown) (next : AckTrigger) → P b → Q (more b next)) → Q (goes_on x more)
   goes_carry (b, flows.Next trigger) more h on = on b trigger h
   goes_carry (b, flows.Fault fault) more h on = closes b h
+  goes_carry (b, flows.Closed) more h on = closes b h
   goes_carry (b, flows.Exhausted) more h on = exhausts b h
 
   pub chunks_carry : (header : CommonHeader) (cs : List Chunk) (a : Shown) (trigger : AckTrigger) (now : ℕ)

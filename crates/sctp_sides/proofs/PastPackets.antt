@@ -1,5 +1,5 @@
--- What each chunk carries on of a packet whose RE-CONFIGs name streams past their span alone, the packet does, and nothing
--- in it has resets concern another stream.
+-- What each chunk carries on of a packet whose RE-CONFIGs name streams past their span alone, the packet does, and
+-- nothing in it has resets concern another stream.
 use Rattle.std.proofs.Common.{◌≡◌, sym, subst, ℕ, Bool, false, Some}
 use Rattle.std.specs.List.{AllByRecursion}
 use Rattle.std.proofs.lemmas.Bool.{cond-false}
@@ -20,9 +20,9 @@ use Rattle.sctp_sides.proofs.PacketsByChunks.{chunks_carry}
 use Rattle.sctp_sides.proofs.ResetsNoMore.{closes_end_resets, closes_reset_no_more, exhaustion_ends_resets}
 use Rattle.sctp_sides.proofs.ResetsNoMore.{exhaustion_resets_no_more, packet_ends_reset_no_more}
 
--- P holds before each chunk, and Q once the packet is over, at its end or where a fault or an exhausted receive buffer
--- closes. Resets concern streams past their span alone behind each step if they do before it, and a close leaves none
--- under way.
+-- P holds before each chunk, and Q once the packet is over, at its end or where a fault, the end of a shutdown or an
+-- exhausted receive buffer closes. Resets concern streams past their span alone behind each step if they do before it,
+-- and a close leaves none under way.
 module _ (over : ℕ → Bool) (P Q : Shown → Type 0) (Said : Chunk → Type 0)
     (past : (c : Chunk) → Said c → ResetsPastIfAny over c)
     (takes : (header : CommonHeader) (c : Chunk) (a b : Shown) → Said c → TakesChunk header c a b

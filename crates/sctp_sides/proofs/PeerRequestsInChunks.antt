@@ -1,8 +1,7 @@
 -- What holds of the peer's requests to reset streams, and stays so whatever becomes of them by their numbers, stays so
 -- over each chunk that comes once the handshake is over.
-use Rattle.std.proofs.Common.{◌≡◌, refl, sym, ◌∙◌, subst, ℕ, Bool, true, false, if◌then◌else◌, not, List, [], ◌∷◌}
+use Rattle.std.proofs.Common.{◌≡◌, refl, sym, ap, ◌∙◌, subst, ℕ, Bool, true, false, if◌then◌else◌, not, List, [], ◌∷◌}
 use Rattle.std.proofs.Common.{Option, Some, None, is_some, Result, Ok, Err}
-use Rattle.std.proofs.lemmas.Bool.{true≢false}
 use Rattle.sctp_wire_types.specs.declared.chunk.Chunk.{Chunk}
 use Rattle.sctp_wire_types.specs.declared.chunk.Chunk.TheVariants as chunks
 use Rattle.sctp_wire_types.specs.declared.chunk.ChunkHeartbeat.{ChunkHeartbeat}
@@ -18,8 +17,6 @@ use Rattle.sctp_wire_types.specs.declared.param.Param.TheVariants as params
 use Rattle.sctp_wire_types.specs.declared.param.ParamOutgoingResetRequest.{ParamOutgoingResetRequest}
 use Rattle.sctp_wire_types.specs.declared.param.ParamReconfigResponse.{ParamReconfigResponse}
 use Rattle.sctp_wire_types.specs.Checks.{checked_chunk}
-use Rattle.sctp_parts.specs.declared.state.AssociationState.{AssociationState}
-use Rattle.sctp_parts.specs.declared.state.AssociationState.TheVariants as states
 use Rattle.sctp_streams.specs.declared.event.Event.{Event}
 use Rattle.sctp_streams.specs.Streams.{StreamMap, generation_left, is_readable_in, pushed_in, refusal_in, stream_at}
 use Rattle.sctp_inbound.specs.declared.receiver.AckTrigger.{AckTrigger}
@@ -50,10 +47,10 @@ use Rattle.sctp_resets.specs.Resets as resets
 use Rattle.sctp_resets.specs.Skips.{Skipping}
 use Rattle.sctp_resets.specs.Skips as skips
 use Rattle.sctp_assoc.specs.declared.inbound.Flow.{Flow}
-use Rattle.sctp_assoc.specs.Calls.{is_beginning, is_cookie_echoed, is_cookie_wait, is_established}
+use Rattle.sctp_assoc.specs.Calls.{is_beginning, is_cookie_echoed, is_cookie_wait, is_established, sends_data}
 use Rattle.sctp_assoc.specs.Chunks.{asks, asks_or_faults, checked_first, counted_data, counted_sack, deferred_unless}
 use Rattle.sctp_assoc.specs.Chunks.{deferred_where_admitted, dispatched, on_chunk, on_counted_sack, on_data}
-use Rattle.sctp_assoc.specs.Chunks.{on_new_data}
+use Rattle.sctp_assoc.specs.Chunks.{after_sack, on_new_data}
 use Rattle.sctp_assoc.specs.Chunks.{on_sack, stream_found, taken_in, taken_unless, taken_where_admitted, then_skips}
 use Rattle.sctp_assoc.specs.Chunks.{told, with_message}
 use Rattle.sctp_assoc.specs.Closing.{is_exhausted}
@@ -63,6 +60,8 @@ use Rattle.sctp_assoc.specs.Resets.{after_param, asking_if, behind_first, behind
 use Rattle.sctp_assoc.specs.Resets.{on_reconfig, on_request, on_response, responded_with, settled, settled_with}
 use Rattle.sctp_assoc.specs.Resets.{skips_applied_of, stopped_if, with_answer, with_beside, with_resetting}
 use Rattle.sctp_assoc.specs.Shown.{Shown, all_waiting}
+use Rattle.sctp_assoc.specs.Shutdown.{all_acknowledged, shutdown_continued, shutdown_taken}
+use Rattle.sctp_sides.proofs.TimersRun.{begun_shakes_no_hands, continued_onward, taken_onward}
 use Rattle.sctp_assoc.specs.Skipping.{acknowledged_at_once, asks_behind, on_forward, skips_of, with_passed, with_skip}
 use Rattle.sctp_assoc.specs.Skipping.{with_skips}
 use Rattle.sctp_sides.proofs.ForwardKinds.{forward_is_one_of}
@@ -177,39 +176,31 @@ responded_keeps : (a : Shown) (x : Beside × TimerChange) → x.0.0.peer ≡ a.r
     → KeepsRequests a (responded_with a x)
 responded_keeps a ((r, m, told), change) e = requests_kept a _ refl refl e
 
--- a state that is not one of a handshake
-not_waiting : (s : AssociationState) → is_beginning s ≡ false
-    → (is_cookie_wait s ≡ false) × (is_cookie_echoed s ≡ false)
-not_waiting states.Closed e = absurd (true≢false e)
-not_waiting states.CookieWait e = absurd (true≢false e)
-not_waiting states.CookieEchoed e = absurd (true≢false e)
-not_waiting states.Established e = (refl, refl)
-not_waiting states.ShutdownAckSent e = (refl, refl)
-not_waiting states.ShutdownPending e = (refl, refl)
-not_waiting states.ShutdownReceived e = (refl, refl)
-not_waiting states.ShutdownSent e = (refl, refl)
-
 pub flow_same : (e : Bool) (a : Shown) (f g : Flow) → (if◌then◌else◌ {A = Shown × Flow} e (a, f) (a, g)).0 ≡ a
 flow_same true a f g = refl
 flow_same false a f g = refl
 
 module _ (P : PeerView → Type 0) (kept : IsKept P) where
-  -- The state is as it was, and what held of the peer's requests holds still.
+  -- The handshake is over where it was, and what held of the peer's requests holds still.
   pub record GoesOn (a b : Shown) : Type 0 where
-    pub state : b.state ≡ a.state
+    pub begins : is_beginning b.state ≡ is_beginning a.state
     pub holds : P a.resets.peer → P b.resets.peer
 
   keeping : (a b : Shown) → KeepsRequests a b → GoesOn a b
-  keeping a b k = record { state = k.state; holds = λ h. subst P (sym k.peer) h }
+  keeping a b k = record { begins = ap is_beginning k.state; holds = λ h. subst P (sym k.peer) h }
 
   by_parts : (a b : Shown) → b.state ≡ a.state → b.resets.peer ≡ a.resets.peer → GoesOn a b
-  by_parts a b state peer = record { state = state; holds = λ h. subst P (sym peer) h }
+  by_parts a b state peer = record { begins = ap is_beginning state; holds = λ h. subst P (sym peer) h }
+
+  -- a shutdown may go on, too
+  by_stage : (a b : Shown) → is_beginning b.state ≡ is_beginning a.state → b.resets.peer ≡ a.resets.peer → GoesOn a b
+  by_stage a b begins peer = record { begins = begins; holds = λ h. subst P (sym peer) h }
 
   same : (a : Shown) → GoesOn a a
-  same a = record { state = refl; holds = λ h. h }
+  same a = record { begins = refl; holds = λ h. h }
 
   then_on : (a b c : Shown) → GoesOn a b → GoesOn b c → GoesOn a c
-  then_on a b c x y = record { state = y.state ∙ x.state; holds = λ h. y.holds (x.holds h) }
+  then_on a b c x y = record { begins = y.begins ∙ x.begins; holds = λ h. y.holds (x.holds h) }
 
   -- A request of the peer is performed where it is due
 
@@ -217,7 +208,7 @@ module _ (P : PeerView → Type 0) (kept : IsKept P) where
       → GoesOn a (settled_with a x)
   settled_with_goes a ((r, c), answer) holds =
       let b : Shown = with_resetting a (r, c) in
-      then_on a b (with_answer answer b) (record { state = refl; holds = holds })
+      then_on a b (with_answer answer b) (record { begins = refl; holds = holds })
       (keeping b (with_answer answer b) (answer_keeps answer b))
 
   settled_goes : (a : Shown) → GoesOn a (settled a)
@@ -243,7 +234,7 @@ module _ (P : PeerView → Type 0) (kept : IsKept P) where
       let b : Shown = with_resetting a (r, c) in
       let stopped : Shown = stopped_if h.confirms b in
       let asked : Shown = asking_if h.asks stopped in
-      then_on a b (handled_with a number ((r, c), h)) (record { state = refl; holds = holds })
+      then_on a b (handled_with a number ((r, c), h)) (record { begins = refl; holds = holds })
       (then_on b stopped (handled_with a number ((r, c), h)) (keeping b stopped (stopping_keeps h.confirms b))
       (then_on stopped asked (handled_with a number ((r, c), h))
       (keeping stopped asked (asking_keeps h.asks stopped))
@@ -405,10 +396,12 @@ module _ (P : PeerView → Type 0) (kept : IsKept P) where
   outcome_goes outcomes.Older a cumulative_tsn_ack blocks window trigger now = same a
   outcome_goes outcomes.NotInFlight a cumulative_tsn_ack blocks window trigger now = same a
   outcome_goes outcomes.NamesTheUnsent a cumulative_tsn_ack blocks window trigger now = same a
-  outcome_goes outcomes.Taken a cumulative_tsn_ack blocks window trigger now = by_parts a _ refl refl
+  outcome_goes outcomes.Taken a cumulative_tsn_ack blocks window trigger now =
+      let b : Shown = after_sack a cumulative_tsn_ack blocks window now in
+      by_stage a (shutdown_continued b) (continued_onward (all_acknowledged b) a.state).begins refl
 
-  sack_goes : (established : Bool) (a : Shown) (cumulative_tsn_ack : ℕ) (blocks : List GapAckBlock) (window : ℕ)
-      (trigger : AckTrigger) (now : ℕ) → is_established a.state ≡ established
+  sack_goes : (sends : Bool) (a : Shown) (cumulative_tsn_ack : ℕ) (blocks : List GapAckBlock) (window : ℕ)
+      (trigger : AckTrigger) (now : ℕ) → sends_data a.state ≡ sends
       → GoesOn a (on_sack a cumulative_tsn_ack blocks window trigger now).0
   unfolding on_sack
   sack_goes true a cumulative_tsn_ack blocks window trigger now e =
@@ -492,19 +485,20 @@ module _ (P : PeerView → Type 0) (kept : IsKept P) where
       → is_beginning a.state ≡ false → GoesOn a (dispatched a header c trigger now).0
   kind_goes header (chunks.Data piece) a trigger now e = data_goes a piece trigger
   kind_goes header (chunks.SelectiveAck k) a trigger now e =
-      sack_goes (is_established a.state) a k.cumulative_tsn_ack k.gap_ack_blocks k.advertised_receiver_window_credit
+      sack_goes (sends_data a.state) a k.cumulative_tsn_ack k.gap_ack_blocks k.advertised_receiver_window_credit
       trigger now refl
   kind_goes header (chunks.Init x) a trigger now e = init_goes a header x trigger e
-  kind_goes header (chunks.InitAck x) a trigger now e = init_ack_goes a header x trigger now (not_waiting a.state e).0
+  kind_goes header (chunks.InitAck x) a trigger now e = init_ack_goes a header x trigger now (begun_shakes_no_hands a.state e).0
   kind_goes header (chunks.Heartbeat x) a trigger now e = heartbeat_goes a x trigger
   kind_goes header (chunks.HeartbeatAck x) a trigger now e = same a
   kind_goes header (chunks.Abort x) a trigger now e = same a
-  kind_goes header (chunks.Shutdown x) a trigger now e = same a
-  kind_goes header chunks.ShutdownAck a trigger now e = same a
+  kind_goes header (chunks.Shutdown x) a trigger now e =
+      by_stage a (shutdown_taken a) (taken_onward (all_acknowledged a) a.state).begins refl
+  kind_goes header chunks.ShutdownAck a trigger now e = by_parts a _ refl refl
   kind_goes header (chunks.Error x) a trigger now e = same a
   kind_goes header (chunks.CookieEcho x) a trigger now e =
       cookie_echo_goes (has_issued a.handshake x) (is_established a.state) a x trigger refl e refl
-  kind_goes header chunks.CookieAck a trigger now e = cookie_ack_goes a trigger (not_waiting a.state e).1
+  kind_goes header chunks.CookieAck a trigger now e = cookie_ack_goes a trigger (begun_shakes_no_hands a.state e).1
   kind_goes header chunks.ShutdownComplete a trigger now e = same a
   kind_goes header (chunks.Reconfig x) a trigger now e = reconfig_goes a x trigger
   kind_goes header (chunks.ForwardTsn x) a trigger now e = forward_goes a x.new_cumulative_tsn x.streams trigger now

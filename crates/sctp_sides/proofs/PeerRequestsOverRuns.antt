@@ -9,8 +9,9 @@ use Rattle.sctp_wire_types.specs.declared.error.Error.TheVariants as errors
 use Rattle.sctp_wire_types.specs.declared.ids.PayloadProtocolIdentifier.{PayloadProtocolIdentifier}
 use Rattle.sctp_wire_types.specs.declared.packet.CommonHeader.{CommonHeader}
 use Rattle.sctp_wire.specs.declared.packet.Packet.{Packet}
+use Rattle.sctp_parts.specs.declared.state.AssociationState.TheVariants as states
 use Rattle.sctp_parts.specs.declared.timer.Timer.TheVariants as names
-use Rattle.sctp_parts.specs.Timers.{expiry_of, started}
+use Rattle.sctp_parts.specs.Timers.{expiry_of}
 use Rattle.sctp_receive_queues.specs.Messages.{ReceivedMessage}
 use Rattle.sctp_streams.specs.declared.event.AssociationError.{AssociationError}
 use Rattle.sctp_streams.specs.declared.event.AssociationError.TheVariants as reasons
@@ -33,29 +34,28 @@ use Rattle.sctp_resets.specs.Resets.{ResetsView, ended_unless, event_told, event
 use Rattle.sctp_resets.specs.Resets.{is_retiring, read_out, stopped_reading, with_event}
 use Rattle.sctp_resets.specs.Resets.{with_read}
 use Rattle.sctp_resets.specs.Telling.{next_told}
-use Rattle.sctp_assoc.specs.declared.control.Control.{Control}
 use Rattle.sctp_assoc.specs.declared.inbound.Flow.{Flow}
 use Rattle.sctp_assoc.specs.declared.inbound.Flow.TheVariants as flows
 use Rattle.sctp_assoc.specs.Calls.{accepted_from, adjusted, after_ack_delay, after_read, after_t3, drained_behind}
-use Rattle.sctp_assoc.specs.Calls.{event_from, holds_of, is_beginning, is_established, retransmits, stopped_open}
+use Rattle.sctp_assoc.specs.Calls.{event_from, holds_of, is_beginning, retransmits, stopped_open}
 use Rattle.sctp_assoc.specs.Calls.{t3_expired, without_read_half_of, written_at}
 use Rattle.sctp_assoc.specs.Chunks.{after_chunks, after_packet, after_packet_of, goes_on, on_chunk}
 use Rattle.sctp_assoc.specs.Closing.{closed_by, closed_open, exhausted, is_closed_state, is_exhausted, relieved}
-use Rattle.sctp_assoc.specs.Gather.{control_polled, data_polled, polled}
+use Rattle.sctp_assoc.specs.Gather.{open_polled, polled}
 use Rattle.sctp_assoc.specs.Handshake.{after_t1_cookie, after_t1_init, cookie_queued, init_queued, sends_cookie}
 use Rattle.sctp_assoc.specs.Handshake.{sends_init, t1_cookie_expired, t1_init_expired}
 use Rattle.sctp_assoc.specs.Resets.{after_reconfig_timer, asks_again, gives_up, reconfig_expired, with_beside}
-use Rattle.sctp_assoc.specs.Resets.{with_reconfig_run}
 use Rattle.sctp_assoc.specs.Shown.{Shown}
+use Rattle.sctp_assoc.specs.Shutdown.{after_t2_shutdown, all_acknowledged}
 use Rattle.sctp_assoc.specs.Timeouts.{after_timeouts}
-use Rattle.sctp_assoc.proofs.GivenApart.{with_own_control}
 use Rattle.sctp_sides.specs.OneSide.{Call, Calls, IsRun, carried_out, with_told}
 use Rattle.sctp_sides.specs.Repeats.{CompletedRequestsStay, IsAnsweredAlone, IsPastHandshake, RepeatsStayKnown}
 use Rattle.sctp_sides.proofs.PeerRequestsInChunks.{GoesOn, IsKept, KeepsRequests, beside_keeps, chunk_goes}
 use Rattle.sctp_sides.proofs.PeerRequestsInChunks.{requests_kept, requests_same, requests_then, resetting_keeps}
-use Rattle.sctp_sides.proofs.PollsLeave.{PolledFrom, after_requests, control_leaves, polled_from, silent_is}
+use Rattle.sctp_sides.proofs.EndedPolls.{by_poll_end, complete_given}
+use Rattle.sctp_sides.proofs.PeerRequestsInPolls.{KeepsPeer, front_keeps}
 use Rattle.sctp_sides.proofs.RepeatsKnown.{answered_retires, passed_is_answered}
-use Rattle.sctp_sides.proofs.TimersOverRuns.{accepted_works}
+use Rattle.sctp_sides.proofs.TimersOverRuns.{IsUntouched, accepted_works}
 
 -- Calls that leave the peer's requests
 
@@ -203,60 +203,27 @@ timeouts_keep : (a : Shown) (now : ℕ) → KeepsRequests a (after_timeouts a no
 timeouts_keep a now =
     let b : Shown = after_t1_init a now in
     let c : Shown = after_t1_cookie b now in
-    let d : Shown = after_t3 c now in
+    let f : Shown = after_t2_shutdown c now in
+    let d : Shown = after_t3 f now in
     let e : Shown = after_reconfig_timer d now in
     requests_then a b (after_ack_delay e now)
     (t1_init_keeps (expiry_of names.T1Init now a.timers).expired (expiry_of names.T1Init now a.timers).failed a now)
     (requests_then b c (after_ack_delay e now)
     (t1_cookie_keeps (expiry_of names.T1Cookie now b.timers).expired (expiry_of names.T1Cookie now b.timers).failed b
     now)
-    (requests_then c d (after_ack_delay e now)
-    (t3_keeps (expiry_of names.T3RTX now c.timers).expired (expiry_of names.T3RTX now c.timers).failed c now)
+    (requests_then c f (after_ack_delay e now) (requests_kept c f refl refl refl)
+    (requests_then f d (after_ack_delay e now)
+    (t3_keeps (expiry_of names.T3RTX now f.timers).expired (expiry_of names.T3RTX now f.timers).failed f now)
     (requests_then d e (after_ack_delay e now)
     (reconfig_keeps (expiry_of names.Reconfig now d.timers).expired (expiry_of names.Reconfig now d.timers).failed d
     now)
-    (ack_delay_keeps (expiry_of names.Ack now e.timers).expired e now refl))))
+    (ack_delay_keeps (expiry_of names.Ack now e.timers).expired e now refl)))))
 
--- polls for packets
-
-own_control_keeps : (a b : Shown) (o : OwnView) (control : List Control) → KeepsRequests a b
-    → KeepsRequests a (with_own_control b o control)
-own_control_keeps a b o control k = requests_kept a (with_own_control b o control) k.state k.lost k.peer
-
-run_if : (runs : Bool) (a b : Shown) (now : ℕ) → KeepsRequests a b
-    → KeepsRequests a
-    (if runs then record b { timers = started names.Reconfig now b.estimate.rto b.timers } else b)
-run_if true a b now k = requests_kept a _ k.state k.lost k.peer
-run_if false a b now k = k
-
-run_keeps : (a b : Shown) (now : ℕ) → KeepsRequests a b → KeepsRequests a (with_reconfig_run b now)
-run_keeps a b now k = run_if _ a b now k
-
-data_keeps : (a : Shown) (now : ℕ) → KeepsRequests a (data_polled a now).0
-unfolding data_polled
-data_keeps a now = requests_kept a _ refl refl refl
-
-exchange_keeps : (a : Shown) (now : ℕ) → PolledFrom a now → KeepsRequests a (polled a now).0
-exchange_keeps a now p =
-    let asked : KeepsRequests a p.asked =
-    subst (KeepsRequests a) (sym p.requests)
-    (own_control_keeps a (data_polled a now).0 p.asked.resets.own p.asked.control (data_keeps a now)) in
-    subst (KeepsRequests a) (sym p.there)
-    (run_keeps a (after_requests p.asked) now
-    (requests_kept a (after_requests p.asked) asked.state asked.lost asked.peer))
-
-silence_keeps : (a : Shown) (now : ℕ) → is_established a.state ≡ false → KeepsRequests a (polled a now).0
-silence_keeps a now e =
-    let b : Shown = (control_polled a).0 in
-    subst (KeepsRequests a) (sym (silent_is a now e))
-    (run_keeps a b now
-    (subst (KeepsRequests a) (sym (control_leaves a))
-    (own_control_keeps a a b.resets.own b.control (requests_same a))))
-
-poll_keeps : (established : Bool) (a : Shown) (now : ℕ) → is_established a.state ≡ established
-    → KeepsRequests a (polled a now).0
-poll_keeps true a now e = exchange_keeps a now (polled_from a now e)
-poll_keeps false a now e = silence_keeps a now e
+-- a shutdown that begins leaves the handshake over
+begins_no_more : (acknowledged : Bool)
+    → is_beginning (if acknowledged then states.ShutdownSent else states.ShutdownPending) ≡ false
+begins_no_more true = refl
+begins_no_more false = refl
 
 -- A failed association
 
@@ -264,8 +231,8 @@ call_failed : (call : Call) (told : List Event) (a b : Shown) → a.failed ≡ t
     → b.failed ≡ true
 call_failed call told a b e (inl c) =
     ⊎_elim (λ (works : a.failed ≡ false). absurd (false≢true (sym works ∙ e)))
-    (λ (same : carried_out call a ≡ (a, [])).
-    ap (λ (x : Shown × List Event). x.0.failed) (sym c.there ∙ same) ∙ e)
+    (λ (same : IsUntouched a (carried_out call a)).
+    ap (λ (x : Shown × List Event). x.0.failed) (sym c.there ∙ same.1) ∙ e)
     (accepted_works call a c.accepted)
 call_failed call told a b e (inr (inl c)) = ap (λ (z : Shown). z.failed) c.same ∙ e
 call_failed call told a b e (inr (inr c)) = c.failed.marked
@@ -335,6 +302,8 @@ module _ (P : PeerView → Type 0) (kept : IsKept P) where
   flow_stands (a, flows.Next trigger) more begun holds on = on a trigger begun holds
   flow_stands (a, flows.Fault fault) more begun holds on =
       closed_stands a reasons.AssociationClosed (record { past = inl begun; holds = holds })
+  flow_stands (a, flows.Closed) more begun holds on =
+      closed_stands a reasons.AssociationClosed (record { past = inl begun; holds = holds })
   flow_stands (a, flows.Exhausted) more begun holds on =
       exhausted_stands a (record { past = inl begun; holds = holds })
 
@@ -344,7 +313,7 @@ module _ (P : PeerView → Type 0) (kept : IsKept P) where
   chunks_stand header (c ∷ cs) a trigger now begun holds =
       let on : GoesOn P kept a (on_chunk a header c trigger now).0 = chunk_goes P kept header c a trigger now begun in
       flow_stands (on_chunk a header c trigger now) (λ b next. after_chunks header cs b next now)
-      (ap is_beginning on.state ∙ begun) (on.holds holds)
+      (on.begins ∙ begun) (on.holds holds)
       (λ b next e h. chunks_stand header cs b next now e h)
 
   packet_of_stands : (packet : Option Packet) (a : Shown) (now : ℕ) → is_beginning a.state ≡ false → Stands a
@@ -363,6 +332,25 @@ module _ (P : PeerView → Type 0) (kept : IsKept P) where
   packet_stands : (packet : Option Packet) (a : Shown) (now : ℕ) → Stands a → Stands (after_packet a packet now)
   packet_stands packet a now h = packet_stands_if a.lost packet a now refl h
 
+  -- polls for packets
+
+  front_stands : (a b : Shown) → KeepsPeer a b → Stands a → Stands b
+  front_stands a b k h = record {
+    past =
+        ⊎_elim (λ (e : is_beginning a.state ≡ false). inl (k.begun ∙ e))
+        (λ (e : a.lost ≡ true). inr (k.lost ∙ e)) h.past;
+    holds = subst P (sym k.peer) h.holds;
+  }
+
+  -- the end of a poll leaves all of that, or closes
+  poll_stands : (a : Shown) (now : ℕ) → Stands a → Stands (polled a now).0
+  poll_stands a now h =
+      let m : Shown = (open_polled a now).0 in
+      let front = front_stands a m (front_keeps a now) h in
+      by_poll_end Stands a now (λ e due timer. record { past = front.past; holds = front.holds })
+      (λ e open_still. close_stands false (complete_given m) reasons.AssociationClosed
+      (record { past = front.past; holds = front.holds }))
+
   -- each call that is carried out
 
   carried_stands : (call : Call) (a : Shown) → Stands a → Stands (carried_out call a).0
@@ -372,6 +360,8 @@ module _ (P : PeerView → Type 0) (kept : IsKept P) where
   carried_stands (Call.Set id setting) a h = stands_by a _ (requests_kept a _ refl refl refl) h
   carried_stands Call.AcceptStream a h = stands_by a _ (accept_keeps a.failed a) h
   carried_stands (Call.SetMaxSendMessageSize size) a h = stands_by a _ (limit_keeps a.failed a size) h
+  carried_stands Call.Shutdown a h = record { past = inl (begins_no_more (all_acknowledged a)); holds = h.holds }
+  carried_stands Call.PollEndpointEvent a h = stands_by a _ (requests_kept a _ refl refl refl) h
   carried_stands Call.Close a h = closed_stands a reasons.AssociationClosed h
   carried_stands (Call.Read id) a h = read_stands a id (read_in a.streams id) h
   carried_stands Call.Poll a h =
@@ -379,7 +369,7 @@ module _ (P : PeerView → Type 0) (kept : IsKept P) where
       (telling_keeps (event_told a.resets a.events) a
       (told_peer (next_told a.resets.generations a.resets.debts a.events) a.resets a.events)) h
   carried_stands (Call.PollTransmit now) a h =
-      stands_by a (polled a now).0 (poll_keeps (is_established a.state) a now refl) h
+      poll_stands a now h
   carried_stands (Call.HandleTimeout now) a h = stands_by a (after_timeouts a now) (timeouts_keep a now) h
   carried_stands (Call.HandleEvent packet now) a h = packet_stands packet a now h
   carried_stands (Call.Stop id) a h = stop_stands (holds_of (λ s. is_read_half_open s.halves) a id) a id h

@@ -2,7 +2,7 @@
 use Rattle.std.proofs.Common.{◌≡◌, refl, sym, ap, ◌∙◌, inl, inr, subst, ℕ, suc, Bool, true, false, if◌then◌else◌, List}
 use Rattle.std.specs.Prelude.{⊤}
 use Rattle.std.proofs.Common.{arith, [], ◌∷◌, ◌++◌, Option, Some, None, Result, Ok, Err, is_ok}
-use Rattle.std.specs.Prelude.{slice_get}
+use Rattle.std.specs.Prelude.{flat_map, slice_get}
 use Rattle.std.specs.List.{AllByRecursion}
 use Rattle.std.proofs.lemmas.Bool.{cond-false, false≢true}
 use Rattle.std.proofs.lemmas.List.{append-nil}
@@ -21,15 +21,16 @@ use Rattle.sctp_model.proofs.Lists.{all_back, all_filter, all_front, all_get, al
 use Rattle.sctp_model.proofs.Lists.{all_weaker}
 use Rattle.sctp_directions.specs.Acts.{Act, History, all_data_given}
 use Rattle.sctp_assoc.specs.Leads.{parts}
-use Rattle.sctp_assoc.specs.Calls.{is_established}
-use Rattle.sctp_assoc.specs.Happened.{IsOfControl, IsRequestReadAgain, acks_given, exchange_given, requests_given}
+use Rattle.sctp_assoc.specs.Calls.{exchanges_data}
+use Rattle.sctp_assoc.specs.Happened.{IsOfControl, IsOfShutdown, IsRequestReadAgain, acks_given, exchange_given}
+use Rattle.sctp_assoc.specs.Happened.{requests_given}
 use Rattle.sctp_assoc.specs.Inbound.{taken_packet}
 use Rattle.sctp_assoc.specs.declared.control.Control.{Control}
 use Rattle.sctp_assoc.specs.declared.control.Control.TheVariants as controls
 use Rattle.sctp_assoc.specs.Gather.{AckIsReadAgain, AreControlReadAgain, AreReadAgain, ControlReadAgain}
-use Rattle.sctp_assoc.specs.Gather.{IsPlainControl, IsReadAgain, ack_after, after_both, control_polled, data_polled}
+use Rattle.sctp_assoc.specs.Gather.{IsPlainControl, IsReadAgain, ack_after, after_both, control_polled, data_after}
 use Rattle.sctp_assoc.specs.Gather.{exchange_after, exchange_polled, forward_after, forward_chunk, is_due}
-use Rattle.sctp_assoc.specs.Gather.{reconfig_run_after, requests_after}
+use Rattle.sctp_assoc.specs.Gather.{open_polled, reconfig_run_after, requests_after, shutdown_after, shutdown_packet}
 use Rattle.sctp_assoc.specs.Resets.{reconfig_of, with_reconfig_run}
 use Rattle.sctp_assoc.specs.Gather.{packet_bytes, single_chunk_packet, sack_chunk, sack_packet, spelled}
 use Rattle.sctp_assoc.specs.Gather.{WaitPlainly, without_control}
@@ -40,6 +41,7 @@ use Rattle.sctp_sides.specs.PastSpan.{AsksPast}
 use Rattle.sctp_assoc.specs.Shown.{Shown}
 use Rattle.sctp_sides.proofs.WithoutResets.{no_request_is_timed, what_waits_goes_out}
 use Rattle.sctp_sides.proofs.DueSacks.{sacks_say_what_was_taken}
+use Rattle.sctp_sides.proofs.EndedPolls.{quiet_end}
 
 -- each chunk that a datagram spells is so
 abbrev AreOf : (Chunk → Type 0) → List (List ℕ) → Type 0
@@ -181,11 +183,21 @@ module _ (over : ℕ → Bool) (a : Shown) (Is : Chunk → Type 0) (waits : (chu
       all_weaker (ParamOver over) (AsksSo Is) requests
       (λ request past. asks (reconfig_of (params.OutgoingResetRequest request)) (request, refl, past)) all
 
--- what goes out in Established alone
-given_if : (established : Bool) (Is : Chunk → Type 0) (packets : List (List ℕ))
-    → (established ≡ true → AreOf Is packets) → AreOf Is (if established then packets else [])
+-- what goes out while DATA is exchanged alone
+given_if : (exchanges : Bool) (Is : Chunk → Type 0) (packets : List (List ℕ))
+    → (exchanges ≡ true → AreOf Is packets) → AreOf Is (if exchanges then packets else [])
 given_if true Is packets says = says refl
 given_if false Is packets says = tt
+
+-- the chunk of a shutdown that goes out last, in a packet of its own
+ending_says : (Is : Chunk → Type 0) (a : Shown) (ending : List Chunk)
+    → AllByRecursion (IsReadAgain (header_of a.handshake)) ending → AllByRecursion Is ending
+    → AreOf Is (flat_map (shutdown_packet a) ending)
+ending_says Is a [] again all = tt
+ending_says Is a (chunk ∷ ending) (one, more) (is, rest) =
+    all_join (λ (bytes : List ℕ). OfEachChunk Is (taken_packet (packet_at bytes)))
+    (packet_bytes (header_of a.handshake) chunk) (flat_map (shutdown_packet a) ending)
+    (one_says Is (header_of a.handshake) chunk one is) (ending_says Is a ending more rest)
 
 pub polls_say_their_acts : PollsSayTheirActs
 polls_say_their_acts over acts forwards a b h packets =
@@ -197,44 +209,53 @@ polls_say_their_acts over acts forwards a b h packets =
     let requests = requests_given header polls.requests in
     let forward : List (List ℕ) = if forwards then packet_bytes header (forward_chunk b) else [] in
     let waits : (chunk : Chunk) → IsWaitingToGo a chunk → Is chunk = λ chunk there. inl there in
-    let asks : (chunk : Chunk) → AsksPast over chunk → Is chunk = λ chunk asked. inr (inr asked) in
+    let asks : (chunk : Chunk) → AsksPast over chunk → Is chunk = λ chunk asked. inr (inr (inl asked)) in
     let asked : AreOf Is requests =
     requests_say Is header polls.requests polls.requests_again
     (all_ask_so over a Is waits asks polls.requests (polls.asked over past.own)) in
-    let exchanged : is_established a.state ≡ true → AreOf Is (pieces ++ requests ++ acks_given a ++ forward) =
-    λ established.
+    let exchanged : exchanges_data a.state ≡ true → AreOf Is (pieces ++ requests ++ acks_given a ++ forward) =
+    λ exchanges.
     let IsData : ChunkPayloadData → Type 0 = λ (c : ChunkPayloadData). Is (chunks.Data c) in
     let given =
     all_weaker (λ (c : ChunkPayloadData). (k : ℕ) × (slice_get (all_data_given acts (parts a h)) k ≡ Some c)) IsData
-    (all_data_given acts (parts a h)) (λ c there. inr (inl (established, there)))
+    (all_data_given acts (parts a h)) (λ c there. inr (inl (exchanges, there)))
     (each_there (all_data_given acts (parts a h))) in
     let carried : AllByRecursion IsData (all_of polls.bundles) =
     subst (AllByRecursion IsData) (sym polls.joined)
     (all_filter IsData data_fits (all_data_given acts (parts a h)) given) in
     all_join Of (pieces ++ requests ++ acks_given a) forward
     (all_join Of (pieces ++ requests) (acks_given a)
-    (all_join Of pieces requests (data_says Is header polls.bundles (polls.data_again established) carried) asked)
-    (ack_says (is_due a.receiver.ack_state) Is a refl (polls.ack_again established)
-    (λ due. inr (inl (established, (due, sacks_say_what_was_taken a h binds))))))
-    (forward_says forwards Is header b polls.forward_again (λ due. inr (inl (established, (due, refl))))) in
+    (all_join Of pieces requests (data_says Is header polls.bundles (polls.data_again exchanges) carried) asked)
+    (ack_says (is_due a.receiver.ack_state) Is a refl (polls.ack_again exchanges)
+    (λ due. inr (inl (exchanges, (due, sacks_say_what_was_taken a h binds))))))
+    (forward_says forwards Is header b polls.forward_again (λ due. inr (inl (exchanges, (due, refl))))) in
+    let given = exchange_given a polls.bundles polls.requests forwards b in
+    let ended : AllByRecursion Is polls.ending =
+    all_weaker IsOfShutdown Is polls.ending (λ chunk ends. inr (inr (inr ends))) polls.ending_is in
     subst (AreOf Is) (sym polls.said)
-    (all_join Of (control_polled a).1 (exchange_given a polls.bundles polls.requests forwards b)
+    (all_join Of ((control_polled a).1 ++ given) (flat_map (shutdown_packet a) polls.ending)
+    (all_join Of (control_polled a).1 given
     (control_said_says over a Is waits asks past.own plain again (control_polled a).1 control)
-    (given_if (is_established a.state) Is (pieces ++ requests ++ acks_given a ++ forward) exchanged))
+    (given_if (exchanges_data a.state) Is (pieces ++ requests ++ acks_given a ++ forward) exchanged))
+    (ending_says Is a polls.ending polls.ending_again ended))
 
-exchange_nothing : (a : Shown) (now : ℕ) → is_established a.state ≡ false → exchange_polled a now ≡ (a, [])
+exchange_nothing : (a : Shown) (now : ℕ) → exchanges_data a.state ≡ false → exchange_polled a now ≡ (a, [])
 unfolding exchange_polled
 exchange_nothing a now e =
-    cond-false (is_established a.state) (forward_after (ack_after (requests_after (data_polled a now)))) (a, []) e
+    cond-false (exchanges_data a.state) (forward_after (ack_after (requests_after (data_after a now)))) (a, []) e
 
 pub polls_outside_established_give_what_waits : PollsOutsideEstablishedGiveWhatWaits
-polls_outside_established_give_what_waits a now none e =
+polls_outside_established_give_what_waits a now none e quiet =
     let b : Shown = without_control a in
     let waiting = control_packets a.control in
+    let front : open_polled a now ≡ (b, waiting) =
     ap (λ (x : Shown × List (List ℕ)). reconfig_run_after (exchange_after x now) now) (what_waits_goes_out a none)
     ∙ ap (λ (x : Shown × List (List ℕ)). reconfig_run_after (after_both waiting x) now) (exchange_nothing b now e)
     ∙ ap (λ (z : List (List ℕ)). (with_reconfig_run b now, z)) (append-nil waiting)
-    ∙ ap (λ (z : Shown). (z, waiting)) (no_request_is_timed b now none.active)
+    ∙ ap (λ (z : Shown). (z, waiting)) (no_request_is_timed b now none.active) in
+    ap (λ (x : Shown × List (List ℕ)). shutdown_after x now) front
+    ∙ ap (after_both waiting) (quiet_end b now quiet)
+    ∙ ap (λ (z : List (List ℕ)). (b, z)) (append-nil waiting)
 
 pub what_waits_goes_out_as_it_is : WhatWaitsGoesOutAsItIs
 what_waits_goes_out_as_it_is a plain again =
@@ -266,6 +287,11 @@ exchanged_no_reset acts forwards a b h (chunks.Reconfig x) g = absurd g
 exchanged_no_reset acts forwards a b h (chunks.IForwardTsn x) g = tt
 exchanged_no_reset acts forwards a b h (chunks.Other kind flags value) g = tt
 
+-- nor is a chunk of a shutdown of one
+ending_no_reset : (chunk : Chunk) → IsOfShutdown chunk → IsNoReconfig chunk
+ending_no_reset (chunks.Reconfig x) ends = absurd ends
+ending_no_reset chunk ends = tt
+
 -- where no stream is past its span no request can be of such streams alone, as each names some
 none_is_named : (ids : List ℕ) → NamesOver (λ (s : ℕ). false) ids → ⊥
 none_is_named [] names = absurd (omega (arith, names.some))
@@ -275,5 +301,6 @@ pub no_reset_goes_out : NoResetGoesOut
 no_reset_goes_out acts forwards a b h chunk none (inl waits) = waiting_no_reset a chunk none waits
 no_reset_goes_out acts forwards a b h chunk none (inr (inl given)) =
     exchanged_no_reset acts forwards a b h chunk given.1
-no_reset_goes_out acts forwards a b h chunk none (inr (inr (request, same, past))) =
+no_reset_goes_out acts forwards a b h chunk none (inr (inr (inl (request, same, past)))) =
     absurd (none_is_named request.stream_identifiers past)
+no_reset_goes_out acts forwards a b h chunk none (inr (inr (inr ends))) = ending_no_reset chunk ends

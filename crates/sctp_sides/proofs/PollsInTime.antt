@@ -3,15 +3,17 @@ use Rattle.std.proofs.Common.{◌≡◌, refl, sym, subst, ℕ, Bool, true, fals
 use Rattle.std.specs.List.{AllByRecursion}
 use Rattle.sctp_outbound_queue.specs.Outbound.{Outbound}
 use Rattle.sctp_directions.specs.Acts.{Act, History, Parts, done_all}
-use Rattle.sctp_assoc.specs.Calls.{is_established}
+use Rattle.sctp_assoc.specs.Calls.{exchanges_data}
 use Rattle.sctp_wire_types.specs.declared.chunk.ChunkPayloadData.{ChunkPayloadData}
 use Rattle.sctp_assoc.specs.Gather.{both_of, fast_polled, fast_sent, is_due, late_abandoned, late_dropped}
-use Rattle.sctp_assoc.specs.Gather.{marks_polled, marks_sent}
-use Rattle.sctp_assoc.specs.Happened.{acts_of_ack, acts_of_data_poll, acts_of_fast_poll, acts_of_forwarding}
+use Rattle.sctp_assoc.specs.Gather.{marks_polled, marks_sent, open_polled}
+use Rattle.sctp_assoc.specs.Happened.{acts_of_ack, acts_of_data_poll, acts_of_ending, acts_of_exchange}
+use Rattle.sctp_assoc.specs.Happened.{acts_of_fast_poll, acts_of_forwarding}
 use Rattle.sctp_assoc.specs.Happened.{acts_of_late, acts_of_marks_poll, acts_of_new, acts_of_poll, acts_of_unsent}
 use Rattle.sctp_assoc.specs.Happened.{forwards_of_poll}
 use Rattle.sctp_assoc.specs.Leads.{Binds, parts}
 use Rattle.sctp_assoc.specs.Shown.{Shown, uses_forward_tsn}
+use Rattle.sctp_assoc.specs.Shutdown.{completes_shutdown}
 use Rattle.sctp_assoc.proofs.ActsKeepOffsets.{done_append}
 use Rattle.sctp_assoc.proofs.Giving.{Gives}
 use Rattle.sctp_assoc.proofs.PolledSteps.{drops_gives, fast, late, marks}
@@ -126,14 +128,18 @@ ack_is_quiet a = give_if IsQuiet (is_due a.receiver.ack_state) (Act.Reported ∷
 forwarding_is_quiet : (forwards : Bool) → AllByRecursion IsQuiet (acts_of_forwarding forwards)
 forwarding_is_quiet forwards = give_if IsQuiet forwards (Act.Forwarded ∷ []) [] (λ q. refl, tt) tt
 
-poll_if : (established : Bool) (now : ℕ) (pieces acks forward : List Act) (p : Parts) → GiveNothingLate now pieces p
+-- nor is the end of a poll
+ending_is_quiet : (a : Shown) → AllByRecursion IsQuiet (acts_of_ending a)
+ending_is_quiet a = give_if IsQuiet (completes_shutdown a) (Act.Ended ∷ []) [] (λ q. refl, tt) tt
+
+exchange_if : (exchanges : Bool) (now : ℕ) (pieces acks forward : List Act) (p : Parts) → GiveNothingLate now pieces p
     → AllByRecursion IsQuiet acks → AllByRecursion IsQuiet forward
-    → GiveNothingLate now (if established then pieces ++ acks ++ forward else []) p
-poll_if true now pieces acks forward p given quiet last =
+    → GiveNothingLate now (if exchanges then pieces ++ acks ++ forward else []) p
+exchange_if true now pieces acks forward p given quiet last =
     late_join now (pieces ++ acks) forward p
     (late_join now pieces acks p given (quiet_acts now acks (done_all pieces p) quiet))
     (quiet_acts now forward (done_all (pieces ++ acks) p) last)
-poll_if false now pieces acks forward p given quiet last = tt
+exchange_if false now pieces acks forward p given quiet last = tt
 
 module _ (calls : List Call) (a b : Shown) (h k : History) (acts : List Act) (now : ℕ) (nothing : HasNothingToSend a)
     (binds : Binds a h) (run : DoInOrder calls a h acts b k) (works : b.failed ≡ false)
@@ -142,9 +148,13 @@ module _ (calls : List Call) (a b : Shown) (h k : History) (acts : List Act) (no
     poll_in_time : GiveNothingLate now (acts_of_poll b now) (parts b k)
     poll_in_time =
         let s = calls_keep_the_order calls a b h k acts nothing binds run works in
-        poll_if (is_established b.state) now (acts_of_data_poll b now) (acts_of_ack b)
+        let front = acts_of_exchange b now in
+        let ending = acts_of_ending (open_polled b now).0 in
+        late_join now front ending (parts b k)
+        (exchange_if (exchanges_data b.state) now (acts_of_data_poll b now) (acts_of_ack b)
         (acts_of_forwarding (forwards_of_poll b now)) (parts b k) (data_in_time b now k s.binds uses s.orderly)
-        (ack_is_quiet b) (forwarding_is_quiet (forwards_of_poll b now))
+        (ack_is_quiet b) (forwarding_is_quiet (forwards_of_poll b now)))
+        (quiet_acts now ending (done_all front (parts b k)) (ending_is_quiet (open_polled b now).0))
 
 pub nothing_late_goes_out : NothingLateGoesOut
 nothing_late_goes_out = poll_in_time

@@ -1,5 +1,6 @@
 -- The laws of one side, each by its name: what crates that build on this one cite of its proofs.
 pub use Rattle.sctp_assoc.proofs.ActsKeepOffsets.{acts_tied, done_append, given_append}
+pub use Rattle.sctp_sides.proofs.PacketLaws.{closed_sides_exchange_nothing}
 pub use Rattle.sctp_sides.proofs.PacketLaws.{chunks_lead_on, established_is_not_closed, exhaustion_closes, faults_close}
 pub use Rattle.sctp_sides.proofs.PacketLaws.{lost_associations_take_nothing, no_packet_changes_nothing, packets_carry}
 pub use Rattle.sctp_sides.proofs.PacketLaws.{packets_end}
@@ -26,11 +27,16 @@ pub use Rattle.sctp_sides.proofs.ActsOfChunks.{other_sacks_do_nothing, polls_giv
 pub use Rattle.sctp_sides.proofs.ActsOfChunks.{taken_sacks_acknowledge, timeouts_mark_at_most}
 pub use Rattle.sctp_sides.proofs.Status.{opened_streams_keep_the_status, reads_keep_the_status}
 pub use Rattle.sctp_sides.proofs.ReconfigStatus.{reconfigs_keep_the_status}
-pub use Rattle.sctp_sides.proofs.StatusOfPolls.{polls_keep_the_status}
+pub use Rattle.sctp_sides.proofs.ActsOfPolls.{other_polls_do_nothing_in_front, polls_end_last, polls_lead_on_in_front}
+pub use Rattle.sctp_sides.proofs.StatusOfPolls.{polls_keep_the_stage, the_same_status_is_the_same_stage}
 pub use Rattle.sctp_sides.proofs.Status.{accepted_streams_keep_the_status, limits_keep_the_status}
 pub use Rattle.sctp_sides.proofs.Status.{reads_change_streams_alone, settings_keep_the_status}
 pub use Rattle.sctp_sides.proofs.Status.{timers_keep_the_status, told_events_keep_the_status, writes_keep_the_status}
 pub use Rattle.sctp_sides.proofs.ChunksPast.{chunks_reset_no_more}
+pub use Rattle.sctp_sides.proofs.ShutdownCalls.{endpoint_event_leads_on, endpoint_events_begin_no_reset}
+pub use Rattle.sctp_sides.proofs.ShutdownCalls.{endpoint_events_keep_the_status, endpoint_events_reset_no_more}
+pub use Rattle.sctp_sides.proofs.ShutdownCalls.{shutdown_leads_on, shutdowns_begin_no_reset, shutdowns_keep_the_stage}
+pub use Rattle.sctp_sides.proofs.ShutdownCalls.{shutdowns_reset_no_more}
 pub use Rattle.sctp_sides.proofs.StopsAndReads.{reads_lead_on, stops_are_in_established, stops_keep_the_status}
 pub use Rattle.sctp_sides.proofs.ClosingCalls.{accepted_streams_do_not_close, closes_close, settings_do_not_close}
 pub use Rattle.sctp_sides.proofs.HandshakeTruth.{greetings_stay_true}
@@ -51,3 +57,4 @@ pub use Rattle.sctp_sides.proofs.ResetsNoMore.{open_stops_reset_that_stream, ope
 pub use Rattle.sctp_sides.proofs.ResetsNoMore.{packet_ends_reset_no_more, polls_reset_no_more, reads_end_past}
 pub use Rattle.sctp_sides.proofs.ResetsNoMore.{reads_reset_no_more, settings_reset_no_more, stops_reset_that_stream}
 pub use Rattle.sctp_sides.proofs.ResetsNoMore.{timers_reset_no_more, told_events_reset_no_more, writes_reset_no_more}
+pub use Rattle.sctp_sides.proofs.ShutdownsStayInOrder.{polls_complete_what_is_due, shutdowns_stay_in_order}

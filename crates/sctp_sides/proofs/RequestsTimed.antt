@@ -13,16 +13,18 @@ use Rattle.sctp_reset_requests.specs.declared.own_request.SentRequest.{SentReque
 use Rattle.sctp_reset_requests.specs.Own.{OwnView, ended}
 use Rattle.sctp_resets.specs.Resets.{Beside, ResetsView, given_up, given_up_where}
 use Rattle.sctp_assoc.specs.Calls.{after_ack_delay, after_t3, retransmits, t3_expired}
-use Rattle.sctp_assoc.specs.Gather.{control_polled, exchange_polled, polled}
+use Rattle.sctp_assoc.specs.Gather.{control_polled, exchange_polled, open_polled}
 use Rattle.sctp_assoc.specs.Handshake.{after_t1_cookie, after_t1_init, sends_cookie, sends_init, t1_cookie_expired}
 use Rattle.sctp_assoc.specs.Handshake.{t1_init_expired}
 use Rattle.sctp_assoc.specs.Resets.{after_reconfig_timer, asks_again, gives_up, reconfig_expired, with_beside}
 use Rattle.sctp_assoc.specs.Resets.{with_reconfig_run}
-use Rattle.sctp_assoc.specs.Timeouts.{after_handshake_timers}
+use Rattle.sctp_assoc.specs.Shutdown.{after_t2_shutdown, t2_expired}
+use Rattle.sctp_assoc.specs.Timeouts.{after_handshake_timers, after_shutdown_timer}
 use Rattle.sctp_assoc.specs.Shown.{Shown}
 use Rattle.sctp_sides.specs.OneSide.{is_armed}
 use Rattle.sctp_sides.specs.Witnesses.{PollsTimeRequests, TimeoutsLeaveRequestsTimed}
-use Rattle.sctp_sides.proofs.PollsLeave.{polled_leaves}
+use Rattle.sctp_sides.proofs.EndedPolls.{by_poll_end}
+use Rattle.sctp_sides.proofs.PollsLeave.{front_leaves}
 use Rattle.sctp_sides.proofs.TimersOverTimeouts.{kept_if}
 
 -- Polls
@@ -42,12 +44,19 @@ run_times : (a : Shown) (now : ℕ) → is_some (with_reconfig_run a now).resets
 run_times a now some =
     run_times_if (is_some a.resets.own.active) (is_armed names.Reconfig a.timers) a now refl refl some
 
-pub polls_time_requests : PollsTimeRequests
-polls_time_requests a now some =
+front_times : (a : Shown) (now : ℕ) → is_some (open_polled a now).0.resets.own.active ≡ true
+    → is_armed names.Reconfig (open_polled a now).0.timers ≡ true
+front_times a now some =
     let b : Shown = (exchange_polled (control_polled a).0 now).0 in
-    let e = polled_leaves a now in
+    let e = front_leaves a now in
     ap (λ (z : Shown). is_armed names.Reconfig z.timers) e
     ∙ run_times b now (sym (ap (λ (z : Shown). is_some z.resets.own.active) e) ∙ some)
+
+-- the end of a poll leaves both, or closes, and then no request is open
+pub polls_time_requests : PollsTimeRequests
+polls_time_requests a now =
+    by_poll_end (λ (z : Shown). is_some z.resets.own.active ≡ true → is_armed names.Reconfig z.timers ≡ true) a now
+    (λ e due timer. front_times a now) (λ e open_still some. absurd (false≢true some))
 
 -- Timeouts
 
@@ -123,6 +132,18 @@ t1_cookie_keeps true false a now =
     let b : Shown = t1_cookie_expired a now in
     keeps_on a b (sends_cookie b now) (cookie_expired_keeps a now) (cookie_keeps b.handshake.echo b now refl)
 
+-- that of the answer to SHUTDOWN or SHUTDOWN ACK is not that of a request
+t2_keeps : (a : Shown) (now : ℕ) → KeepsRequests a (after_t2_shutdown a now)
+t2_keeps a now = record {
+  resets = refl;
+  timer =
+      kept_if (expiry_of names.T2Shutdown now a.timers).expired
+      (started names.T2Shutdown now a.estimate.rto (t2_expired now a.timers)) a.timers (λ (z : Timers). z.reconfig)
+      (kept_if (is_due a.timers.t2_shutdown.moment now)
+      (with_timer names.T2Shutdown (expired_state a.timers.t2_shutdown) a.timers) a.timers (λ (z : Timers). z.reconfig)
+      refl);
+}
+
 t3_keeps : (expired failure : Bool) (a : Shown) (now : ℕ)
     → KeepsRequests a
     (if expired then (if failure then t3_expired a now else retransmits (t3_expired a now) now) else a)
@@ -176,7 +197,8 @@ pub timeouts_leave_requests_timed : TimeoutsLeaveRequestsTimed
 timeouts_leave_requests_timed a now armed some =
     let b : Shown = after_t1_init a now in
     let c : Shown = after_handshake_timers a now in
-    let d : Shown = after_t3 c now in
+    let t : Shown = after_shutdown_timer a now in
+    let d : Shown = after_t3 t now in
     let e : Shown = after_reconfig_timer d now in
     let first : KeepsRequests a d =
     keeps_on a b d
@@ -184,7 +206,8 @@ timeouts_leave_requests_timed a now armed some =
     (keeps_on b c d
     (t1_cookie_keeps (expiry_of names.T1Cookie now b.timers).expired (expiry_of names.T1Cookie now b.timers).failed b
     now)
-    (t3_keeps (expiry_of names.T3RTX now c.timers).expired (expiry_of names.T3RTX now c.timers).failed c now)) in
+    (keeps_on c t d (t2_keeps c now)
+    (t3_keeps (expiry_of names.T3RTX now t.timers).expired (expiry_of names.T3RTX now t.timers).failed t now))) in
     let last = delay_keeps e now in
     ap (λ (z : TimerState). is_some z.moment) last.timer
     ∙ reconfig_times (expiry_of names.Reconfig now d.timers).expired (expiry_of names.Reconfig now d.timers).failed d

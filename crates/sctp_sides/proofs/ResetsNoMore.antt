@@ -27,11 +27,12 @@ use Rattle.sctp_resets.proofs.ListsOver.{all_taken}
 use Rattle.sctp_assoc.specs.declared.control.Control.{Control}
 use Rattle.sctp_assoc.specs.declared.control.Control.TheVariants as controls
 use Rattle.sctp_assoc.specs.Calls.{accepted_from, after_ack_delay, after_read, after_t3, drained_behind, event_from}
-use Rattle.sctp_assoc.specs.Calls.{holds_of, is_established, retransmits, stopped_open, t3_expired}
+use Rattle.sctp_assoc.specs.Calls.{exchanges_data, holds_of, is_established, retransmits, stopped_open, t3_expired}
 use Rattle.sctp_assoc.specs.Calls.{without_read_half_of, written_at}
 use Rattle.sctp_assoc.specs.Closing.{closed_by, closed_open, exhausted, is_closed_state, is_exhausted, out_of_resource}
 use Rattle.sctp_assoc.specs.Closing.{relieved}
-use Rattle.sctp_assoc.specs.Gather.{ack_after, ack_polled, after_both, control_polled, data_polled, exchange_after}
+use Rattle.sctp_assoc.specs.Gather.{ack_after, ack_polled, after_both, control_polled, data_after, data_polled}
+use Rattle.sctp_assoc.specs.Gather.{exchange_after, open_polled}
 use Rattle.sctp_assoc.specs.Gather.{exchange_polled, first_request_behind, first_request_polled, forward_after}
 use Rattle.sctp_assoc.specs.Gather.{forward_polled, is_due, reconfig_run_after, repeat_polled, request_made}
 use Rattle.sctp_assoc.specs.Gather.{requests_after, requests_polled, with_control_given, with_request_again}
@@ -42,6 +43,7 @@ use Rattle.sctp_assoc.specs.ResetActs.{spans_end_if}
 use Rattle.sctp_assoc.specs.Resets.{after_reconfig_timer, asks_again, gives_up, reconfig_expired, with_beside}
 use Rattle.sctp_assoc.specs.Resets.{with_reconfig_run}
 use Rattle.sctp_assoc.specs.Shown.{Shown}
+use Rattle.sctp_assoc.specs.Shutdown.{after_t2_shutdown}
 use Rattle.sctp_sides.specs.NoReset.{HasNoReset}
 use Rattle.sctp_sides.specs.PastSpan.{AcceptedStreamsResetNoMore, ClosesEndResets, ClosesResetNoMore, EndsPast}
 use Rattle.sctp_sides.specs.PastSpan.{ExhaustionEndsResets, ExhaustionResetsNoMore, LimitsResetNoMore}
@@ -50,6 +52,7 @@ use Rattle.sctp_sides.specs.PastSpan.{ReadsResetNoMore, ResetsNoMore, ResetsPast
 use Rattle.sctp_sides.specs.PastSpan.{StopsResetThatStream, TimersResetNoMore, ToldEventsResetNoMore, WaitsPast}
 use Rattle.sctp_sides.specs.PastSpan.{WritesResetNoMore}
 use Rattle.sctp_sides.specs.SideLaws.{OpenStopsResetThatStream, ReadsEndPast, with_read}
+use Rattle.sctp_sides.proofs.EndedPolls.{by_poll_end, complete_given, with_answer_timed}
 use Rattle.sctp_sides.proofs.BeginsNoReset.{one_more_waits}
 use Rattle.sctp_sides.proofs.PastOnly.{asking_if_is_past, asking_is_past, beside_is_past, others_are_past}
 use Rattle.sctp_sides.proofs.PastOnly.{queued_is_past, resetting_is_past, same_stays_past}
@@ -283,16 +286,18 @@ pub timers_reset_no_more : TimersResetNoMore
 timers_reset_no_more a now over h =
     let b : Shown = after_t1_init a now in
     let c : Shown = after_t1_cookie b now in
-    let d : Shown = after_t3 c now in
+    let f : Shown = after_t2_shutdown c now in
+    let d : Shown = after_t3 f now in
     let e : Shown = after_reconfig_timer d now in
     ack_delay_past (expiry_of names.Ack now e.timers).expired e now refl over
     (reconfig_past (expiry_of names.Reconfig now d.timers).expired (expiry_of names.Reconfig now d.timers).failed d now
     over
-    (t3_past (expiry_of names.T3RTX now c.timers).expired (expiry_of names.T3RTX now c.timers).failed c now over
+    (t3_past (expiry_of names.T3RTX now f.timers).expired (expiry_of names.T3RTX now f.timers).failed f now over
+    (same_stays_past c f refl refl over
     (t1_cookie_past (expiry_of names.T1Cookie now b.timers).expired (expiry_of names.T1Cookie now b.timers).failed b now
     over
     (t1_init_past (expiry_of names.T1Init now a.timers).expired (expiry_of names.T1Init now a.timers).failed a now over
-    h))))
+    h)))))
 
 -- Polls. The streams that are past their span:
 module _ (over : ℕ → Bool) where
@@ -363,10 +368,15 @@ module _ (over : ℕ → Bool) where
   behind_past (a, packets) h =
       both_past packets (first_request_polled (request_made a)) (first_past (request_made a) (made_past a h))
 
+  requests_past_if : (established : Bool) (a : Shown) → ResetsPastOnly over a
+      → GivenPast (if established then first_request_behind (repeat_polled a) else (a, []))
+  requests_past_if true a h =
+      behind_past (repeat_polled a) (again_past a (request_again a.resets) (again_over over a.resets h.resets).0 h)
+  requests_past_if false a h = h
+
   pub requests_past : (a : Shown) → ResetsPastOnly over a → GivenPast (requests_polled a)
   unfolding requests_polled
-  requests_past a h =
-      behind_past (repeat_polled a) (again_past a (request_again a.resets) (again_over over a.resets h.resets).0 h)
+  requests_past a h = requests_past_if (is_established a.state) a h
 
   requests_after_past : (x : Shown × List (List ChunkPayloadData)) → ResetsPastOnly over x.0
       → GivenPast (requests_after x)
@@ -375,7 +385,7 @@ module _ (over : ℕ → Bool) where
 
   -- DATA, acknowledgements and FORWARD TSN are of no reset
 
-  data_past : (a : Shown) (now : ℕ) → ResetsPastOnly over a → ResetsPastOnly over (data_polled a now).0
+  data_past : (a : Shown) (now : ℕ) → ResetsPastOnly over a → ResetsPastOnly over (data_after a now).0
   unfolding data_polled
   data_past a now h = same_stays_past a _ refl refl over h
 
@@ -396,20 +406,20 @@ module _ (over : ℕ → Bool) where
   forward_after_past : (x : Shown × List (List ℕ)) → GivenPast x → GivenPast (forward_after x)
   forward_after_past (a, packets) h = both_past packets (forward_polled a) (forward_past a h)
 
-  -- all of that in Established, and then the timer of a request
+  -- all of that while DATA is exchanged, and then the timer of a request
 
-  exchange_past : (established : Bool) (a : Shown) (now : ℕ) → is_established a.state ≡ established
+  exchange_past : (exchanges : Bool) (a : Shown) (now : ℕ) → exchanges_data a.state ≡ exchanges
       → ResetsPastOnly over a → GivenPast (exchange_polled a now)
   unfolding exchange_polled
   exchange_past true a now e =
-      rw e (λ h. forward_after_past (ack_after (requests_after (data_polled a now)))
-      (ack_after_past (requests_after (data_polled a now))
-      (requests_after_past (data_polled a now) (data_past a now h))))
+      rw e (λ h. forward_after_past (ack_after (requests_after (data_after a now)))
+      (ack_after_past (requests_after (data_after a now))
+      (requests_after_past (data_after a now) (data_past a now h))))
   exchange_past false a now e = rw e (λ h. h)
 
   exchange_after_past : (x : Shown × List (List ℕ)) (now : ℕ) → GivenPast x → GivenPast (exchange_after x now)
   exchange_after_past (a, packets) now h =
-      both_past packets (exchange_polled a now) (exchange_past (is_established a.state) a now refl h)
+      both_past packets (exchange_polled a now) (exchange_past (exchanges_data a.state) a now refl h)
 
   run_past_if : (starts : Bool) (a : Shown) (now : ℕ) → ResetsPastOnly over a
       → ResetsPastOnly over
@@ -423,10 +433,20 @@ module _ (over : ℕ → Bool) where
   run_after_past : (x : Shown × List (List ℕ)) (now : ℕ) → GivenPast x → GivenPast (reconfig_run_after x now)
   run_after_past (a, packets) now h = run_past a now h
 
-pub polls_reset_no_more : PollsResetNoMore
-polls_reset_no_more a now over h =
+front_resets_no_more : (a : Shown) (now : ℕ) → ResetsNoMore a (open_polled a now).0
+front_resets_no_more a now over h =
     run_after_past over (exchange_after (control_polled a) now) now
     (exchange_after_past over (control_polled a) now (control_past over a h))
+
+-- the end of a poll changes no reset, or closes
+pub polls_reset_no_more : PollsResetNoMore
+polls_reset_no_more a now over h =
+    let m : Shown = (open_polled a now).0 in
+    let front = front_resets_no_more a now over h in
+    by_poll_end (ResetsPastOnly over) a now
+    (λ e due timer. same_stays_past m (with_answer_timed m due timer) refl refl over front)
+    (λ e open_still. closed_past false (complete_given m) reasons.AssociationClosed over
+    (same_stays_past m (complete_given m) refl refl over front))
 
 -- The end of a packet
 

@@ -21,7 +21,7 @@ use Rattle.sctp_model.proofs.Lists.{all_join}
 use Rattle.sctp_directions.specs.Acts.{Act, CanAll, History, Parts, done, done_all}
 use Rattle.sctp_assoc.specs.declared.inbound.Flow.{Flow}
 use Rattle.sctp_assoc.specs.declared.inbound.Flow.TheVariants as flows
-use Rattle.sctp_assoc.specs.Calls.{adjusted, holds_of, is_established, read_exhausts, stopped_open}
+use Rattle.sctp_assoc.specs.Calls.{adjusted, exchanges_data, holds_of, read_exhausts, sends_data, stopped_open}
 use Rattle.sctp_assoc.specs.Chunks.{on_chunk}
 use Rattle.sctp_assoc.specs.Closing.{is_closed_state, is_exhausted}
 use Rattle.sctp_assoc.specs.Happened.{acts_after, acts_of_chunk, acts_of_chunks, acts_of_close, acts_of_close_stream}
@@ -58,6 +58,7 @@ use Rattle.sctp_assoc.specs.Skipping.{skips_of, with_passed, with_skips}
 use Rattle.sctp_sides.proofs.ActsOfChunks.{timeouts_mark_at_most}
 use Rattle.sctp_sides.proofs.ForwardKinds.{acts_are_one_of}
 use Rattle.sctp_sides.proofs.ForwardTsnSettled.{IsSettled, carried_settles}
+use Rattle.sctp_sides.proofs.TimersRun.{exchanging_begins_no_more}
 use Rattle.sctp_sides.proofs.RetriesInPolls.{polls_spare, spare_join}
 use Rattle.sctp_sides.proofs.SentCounts.{none_stand, stand_as}
 use Rattle.sctp_sides.proofs.TimersOverRuns.{Works, accepted_works}
@@ -197,7 +198,7 @@ second_acts (b, false) param = tt
 kind_acts : (a : Shown) (header : CommonHeader) (c : Chunk) → GiveNoneAgain (acts_of_kind a header c)
 kind_acts a header (chunks.Data piece) = data_acts a piece
 kind_acts a header (chunks.SelectiveAck sack) =
-    some_if (is_established a.state) _
+    some_if (sends_data a.state) _
     (outcome_acts (sack_outcome a.sender sack.cumulative_tsn_ack sack.gap_ack_blocks) _ _ sack.gap_ack_blocks)
 kind_acts a header (chunks.Init init) =
     some_if (is_beginning a.state) (Act.PeerKnown init.initial_tsn ∷ []) (tt, tt)
@@ -225,6 +226,7 @@ after_acts : (x : Shown × Flow) (more : Shown → AckTrigger → List Act)
     → ((b : Shown) (trigger : AckTrigger) → GiveNoneAgain (more b trigger)) → GiveNoneAgain (acts_after x more)
 after_acts (b, flows.Next trigger) more h = h b trigger
 after_acts (b, flows.Fault fault) more h = close_acts b
+after_acts (b, flows.Closed) more h = close_acts b
 after_acts (b, flows.Exhausted) more h = close_acts b
 
 chunks_acts : (header : CommonHeader) (cs : List Chunk) (a : Shown) (trigger : AckTrigger) (now : ℕ)
@@ -251,15 +253,17 @@ timeouts_acts a now =
 
 -- no call gives a piece out again that was sent as often as its policy allows
 call_spares : (call : Call) (a : Shown) (h : History) → Binds a h
-    → (is_established a.state ≡ true → uses_forward_tsn a ≡ true) → AllSpare (acts_of_call call a) (parts a h)
+    → (exchanges_data a.state ≡ true → uses_forward_tsn a ≡ true) → AllSpare (acts_of_call call a) (parts a h)
 call_spares (Call.OpenStream id kind) a h binds uses = (tt, tt)
 call_spares (Call.Write id named bytes) a h binds uses = (tt, tt)
 call_spares (Call.Set id setting) a h binds uses = (tt, tt)
 call_spares Call.AcceptStream a h binds uses = tt
 call_spares (Call.SetMaxSendMessageSize size) a h binds uses = tt
+call_spares Call.Shutdown a h binds uses = tt
 call_spares Call.Close a h binds uses = none_again_spare (acts_of_close a) (parts a h) (close_acts a)
 call_spares (Call.Read id) a h binds uses = none_again_spare (acts_of_read a id) (parts a h) (read_acts a id)
 call_spares Call.Poll a h binds uses = tt
+call_spares Call.PollEndpointEvent a h binds uses = tt
 call_spares (Call.PollTransmit now) a h binds uses = polls_spare a now h binds uses
 call_spares (Call.HandleTimeout now) a h binds uses =
     none_again_spare (acts_of_timeouts a now) (parts a h) (timeouts_acts a now)
@@ -291,7 +295,7 @@ carried_is call told a c k = ap (λ (x : Shown × List Event). x.0) k.there
 carried_worked : (call : Call) (told : List Event) (a c : Shown) → IsCarriedOut call told a c → Works call a
     → c.failed ≡ false → a.failed ≡ false
 carried_worked call told a c k (inl e) works = e
-carried_worked call told a c k (inr same) works =
+carried_worked call told a c k (inr (event, same)) works =
     ap (λ (x : Shown × List Event). x.0.failed) (sym same) ∙ ap (λ (b : Shown). b.failed) (carried_is call told a c k)
     ∙ works
 
@@ -314,7 +318,7 @@ module _ (call : Call) (told : List Event) (a c : Shown) (h l : History) (xs : L
   led_nowhere e f g binds = rw (e, f, g) (record { can = tt; spares = tt; there = refl; binds = binds })
 
   does_lead : DoesSo call told a h xs c l → c.failed ≡ false → Binds a h
-      → (is_established a.state ≡ true → uses_forward_tsn a ≡ true) → LedOn xs a h c l
+      → (exchanges_data a.state ≡ true → uses_forward_tsn a ≡ true) → LedOn xs a h c l
   does_lead (inl (k, is, leads)) works binds uses = record {
     can = leads.can;
     spares = subst (λ (ys : List Act). AllSpare ys (parts a h)) (sym is) (call_spares call a h binds uses);
@@ -342,13 +346,13 @@ module _ (b : Shown) (k : History) (works : b.failed ≡ false) where
       (does_settles call d.told a c h l first used d.does (order_worked calls c l later rest) s)
 
 module _ (b : Shown) (k : History) (works : b.failed ≡ false) (uses : uses_forward_tsn b ≡ true) where
-  -- where FORWARD TSN is in use in the end, it was so whenever the association was established
+  -- where FORWARD TSN is in use in the end, it was so whenever DATA was exchanged
   uses_before : (calls : List Call) (a : Shown) (h : History) (acts : List Act) → DoInOrder calls a h acts b k
-      → is_established a.state ≡ true → uses_forward_tsn a ≡ true
-  uses_before calls a h acts run established =
+      → exchanges_data a.state ≡ true → uses_forward_tsn a ≡ true
+  uses_before calls a h acts run exchanges =
       let s =
       order_settles b k works (uses_forward_tsn a) calls a h acts run
-      (record { over = inl established; uses = refl }) in
+      (record { over = inl (exchanging_begins_no_more a.state exchanges); uses = refl }) in
       sym s.uses ∙ uses
 
   order_spares : (calls : List Call) (a : Shown) (h : History) (acts : List Act) → DoInOrder calls a h acts b k

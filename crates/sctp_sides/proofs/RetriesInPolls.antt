@@ -22,13 +22,15 @@ use Rattle.sctp_outbound.proofs.Spared.{alone_marked, due_index, marked_index, s
 use Rattle.sctp_outbound.proofs.Unlimited.{index_on, index_skip, index_spent}
 use Rattle.sctp_directions.specs.Acts.{Act, CanAll, History, Parts, all_data_given, can_go_again, chunk_said}
 use Rattle.sctp_directions.specs.Acts.{data_given, done, done_all}
-use Rattle.sctp_assoc.specs.Calls.{is_established}
+use Rattle.sctp_assoc.specs.Calls.{exchanges_data}
 use Rattle.sctp_assoc.specs.Gather.{both_of, fast_polled, fast_sent, is_due, late_abandoned, late_dropped, marks_polled}
-use Rattle.sctp_assoc.specs.Gather.{marks_sent, spent_abandoned}
-use Rattle.sctp_assoc.specs.Happened.{acts_of_ack, acts_of_data_poll, acts_of_fast_poll, acts_of_forwarding}
+use Rattle.sctp_assoc.specs.Gather.{marks_sent, open_polled, spent_abandoned}
+use Rattle.sctp_assoc.specs.Happened.{acts_of_ack, acts_of_data_poll, acts_of_ending, acts_of_exchange}
+use Rattle.sctp_assoc.specs.Happened.{acts_of_fast_poll, acts_of_forwarding}
 use Rattle.sctp_assoc.specs.Happened.{acts_of_late, acts_of_marks, acts_of_marks_poll, acts_of_missing, acts_of_new}
 use Rattle.sctp_assoc.specs.Happened.{acts_of_new_poll, acts_of_poll, acts_of_resending, acts_of_spent, acts_of_unsent}
 use Rattle.sctp_assoc.specs.Happened.{first_again, forwards_of_poll}
+use Rattle.sctp_assoc.specs.Shutdown.{completes_shutdown}
 use Rattle.sctp_assoc.specs.Leads.{Binds, parts}
 use Rattle.sctp_assoc.specs.Shown.{Shown, uses_forward_tsn}
 use Rattle.sctp_assoc.proofs.Giving.{Gives, gives_on}
@@ -236,9 +238,9 @@ module _ (a : Shown) (now : ℕ) (h : History) (tied : a.sender.queue.first_tsn 
       (subst (AllSpare third) to_marks.there fast_spares))
       (subst (AllSpare fourth) to_fast.there new_spares)
 
-  polls_spare_established : AllSpare (acts_of_data_poll a now ++ acts_of_ack a
+  exchange_spares_where : AllSpare (acts_of_data_poll a now ++ acts_of_ack a
       ++ acts_of_forwarding (forwards_of_poll a now)) (parts a h)
-  polls_spare_established =
+  exchange_spares_where =
       let data_acts = acts_of_data_poll a now in
       spare_join (data_acts ++ acts_of_ack a) (acts_of_forwarding (forwards_of_poll a now)) (parts a h)
       (spare_join data_acts (acts_of_ack a) (parts a h) data_poll_spares
@@ -249,10 +251,19 @@ spare_if : (c : Bool) (xs : List Act) (p : Parts) → (c ≡ true → AllSpare x
 spare_if true xs p all = all refl
 spare_if false xs p all = tt
 
--- Outside of Established it gives none out.
-pub polls_spare : (a : Shown) (now : ℕ) (h : History) → Binds a h
-    → (is_established a.state ≡ true → uses_forward_tsn a ≡ true) → AllSpare (acts_of_poll a now) (parts a h)
-polls_spare a now h binds uses =
-    spare_if (is_established a.state)
+-- While no DATA is exchanged it gives none out.
+exchange_spares : (a : Shown) (now : ℕ) (h : History) → Binds a h
+    → (exchanges_data a.state ≡ true → uses_forward_tsn a ≡ true) → AllSpare (acts_of_exchange a now) (parts a h)
+exchange_spares a now h binds uses =
+    spare_if (exchanges_data a.state)
     (acts_of_data_poll a now ++ acts_of_ack a ++ acts_of_forwarding (forwards_of_poll a now)) (parts a h)
-    (λ e. polls_spare_established a now h binds.first binds.marked (uses e))
+    (λ e. exchange_spares_where a now h binds.first binds.marked (uses e))
+
+-- The end of a poll gives none out.
+pub polls_spare : (a : Shown) (now : ℕ) (h : History) → Binds a h
+    → (exchanges_data a.state ≡ true → uses_forward_tsn a ≡ true) → AllSpare (acts_of_poll a now) (parts a h)
+polls_spare a now h binds uses =
+    let front = acts_of_exchange a now in
+    let b : Shown = (open_polled a now).0 in
+    spare_join front (acts_of_ending b) (parts a h) (exchange_spares a now h binds uses)
+    (spare_if (completes_shutdown b) (Act.Ended ∷ []) (done_all front (parts a h)) (λ e. (tt, tt)))

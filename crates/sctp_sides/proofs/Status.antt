@@ -1,5 +1,5 @@
 -- Calls leave an association's status as it is: whether it failed, its state, whether it was lost, and its payload
--- size.
+-- size; a SACK leaves its stage, since a shutdown may go on behind it.
 use Rattle.std.proofs.Common.{◌++◌, ◌≡◌, refl, sym, ap, ◌∙◌, ℕ, Bool, true, false, ◌&&◌, if◌then◌else◌, not}
 use Rattle.std.proofs.Common.{List, [], ◌∷◌, Option, Some, None, is_some, Result, Ok, Err}
 use Rattle.sctp_wire_types.specs.declared.chunk.Chunk.{Chunk}
@@ -9,6 +9,7 @@ use Rattle.sctp_wire_types.specs.declared.error.Error.{Error}
 use Rattle.sctp_wire_types.specs.declared.error.Error.TheVariants as errors
 use Rattle.sctp_wire_types.specs.declared.packet.CommonHeader.{CommonHeader}
 use Rattle.sctp_wire_types.specs.Checks.{checked_chunk}
+use Rattle.sctp_parts.specs.declared.state.AssociationState.{AssociationState}
 use Rattle.sctp_parts.specs.declared.state.AssociationState.TheVariants as states
 use Rattle.sctp_parts.specs.declared.timer.Timer.TheVariants as names
 use Rattle.sctp_parts.specs.Timers.{expiry_of}
@@ -60,8 +61,8 @@ use Rattle.sctp_outbound.specs.Sacks.{before_acknowledging}
 use Rattle.sctp_outbound.specs.Sender.{sack_outcome}
 use Rattle.sctp_wire_types.specs.declared.ids.PayloadProtocolIdentifier.{PayloadProtocolIdentifier}
 use Rattle.sctp_assoc.specs.Calls.{accepted_from, after_ack_delay, after_t3, event_from, is_beginning, is_cookie_echoed}
-use Rattle.sctp_assoc.specs.Calls.{is_cookie_wait, is_established, retransmits, t3_expired, written_at}
-use Rattle.sctp_assoc.specs.Chunks.{checked_first, counted_data, dispatched, counted_sack}
+use Rattle.sctp_assoc.specs.Calls.{is_cookie_wait, is_established, retransmits, sends_data, t3_expired, written_at}
+use Rattle.sctp_assoc.specs.Chunks.{after_sack, checked_first, counted_data, dispatched, counted_sack}
 use Rattle.sctp_assoc.specs.Chunks.{on_chunk, on_counted_sack, on_data, on_new_data, on_sack, stream_found, taken_in}
 use Rattle.sctp_assoc.specs.Chunks.{told}
 use Rattle.sctp_assoc.specs.Handshake.{after_t1_init, cookie_queued, echoed, information_returned, init_queued}
@@ -74,13 +75,13 @@ use Rattle.sctp_assoc.specs.Skipping.{with_skips}
 use Rattle.sctp_wire_types.specs.declared.chunk.SkippedStream.{SkippedStream}
 use Rattle.sctp_sides.proofs.ForwardKinds.{forward_is_one_of}
 use Rattle.sctp_sides.proofs.WithoutResets.{nothing_is_drained}
-use Rattle.sctp_assoc.specs.Timeouts.{after_handshake_timers}
-use Rattle.sctp_sides.specs.SideLaws.{IsSameStatus, KeepsWorking, Leaves, LimitsKeepTheStatus}
+use Rattle.sctp_assoc.specs.Timeouts.{after_handshake_timers, after_shutdown_timer}
+use Rattle.sctp_sides.specs.SideLaws.{IsSameStatus, KeepsTheStage, KeepsWorking, Leaves, LimitsKeepTheStatus}
 use Rattle.sctp_sides.specs.SideLaws.{OpenedStreamsKeepTheStatus}
 use Rattle.sctp_sides.specs.SideLaws.{ReadsChangeStreamsAlone}
 use Rattle.sctp_sides.specs.SideLaws.{ReadsKeepTheStatus, TimersKeepTheStatus, ToldEventsKeepTheStatus}
 use Rattle.sctp_sides.specs.SideLaws.{AcceptedStreamsKeepTheStatus, SettingsKeepTheStatus, WritesKeepTheStatus}
-use Rattle.sctp_sides.specs.Meeting.{IsTruthful, SaysWhatIsSo, WaitsTruthfully, stage_of}
+use Rattle.sctp_sides.specs.Meeting.{IsAsFarOn, IsTruthful, SaysWhatIsSo, WaitsTruthfully, stage_of}
 use Rattle.sctp_assoc.specs.Control.{queued}
 use Rattle.sctp_inbound.specs.Greeting.{first_cookie, information_of, init_of}
 use Rattle.sctp_wire_types.specs.declared.chunk.ChunkInit.{ChunkInit}
@@ -94,8 +95,9 @@ use Rattle.sctp_assoc.specs.Calls.{after_read}
 use Rattle.sctp_assoc.specs.Closing.{exhausted, is_exhausted}
 use Rattle.sctp_receive_queues.specs.Messages.{ReceivedMessage}
 use Rattle.sctp_streams.specs.Streams.{read_in}
-use Rattle.std.proofs.Common.{subst}
+use Rattle.std.proofs.Common.{inl, inr, subst}
 use Rattle.std.proofs.lemmas.Bool.{true≢false, false≢true}
+use Rattle.sctp_assoc.specs.Shutdown.{all_acknowledged, shutdown_continued, state_behind_data}
 
 pub status_same : (a : Shown) → IsSameStatus a a
 status_same a = record {
@@ -131,6 +133,49 @@ status_on a b c x y = record {
   side = y.side ∙ x.side;
   handshake = y.handshake ∙ x.handshake;
   truthful = λ own t. y.truthful own (x.truthful own t);
+}
+
+-- The stage stays where the status does, and over a shutdown that goes on.
+
+pub stage_by_status : (a b : Shown) → IsSameStatus a b → KeepsTheStage a b
+stage_by_status a b x = record {
+  failed = x.failed;
+  state = inl x.state;
+  lost = x.lost;
+  size = x.size;
+  side = x.side;
+  handshake = x.handshake;
+  truthful = x.truthful;
+}
+
+pub stage_on : (a b c : Shown) → IsSameStatus a b → KeepsTheStage b c → KeepsTheStage a c
+stage_on a b c x y = record {
+  failed = y.failed ∙ x.failed;
+  state = subst (λ (s : AssociationState). IsAsFarOn s c.state) x.state y.state;
+  lost = y.lost ∙ x.lost;
+  size = y.size ∙ x.size;
+  side = y.side ∙ x.side;
+  handshake = y.handshake ∙ x.handshake;
+  truthful = λ own t. y.truthful own (x.truthful own t);
+}
+
+behind_data_far : (acknowledged : Bool) (s : AssociationState)
+    → IsAsFarOn s (if acknowledged then state_behind_data s else s)
+behind_data_far false s = inl refl
+behind_data_far true states.ShutdownPending = inr (refl, refl)
+behind_data_far true states.ShutdownReceived = inr (refl, refl)
+behind_data_far true s = inl refl
+
+pub continued_stage : (a : Shown) → KeepsTheStage a (shutdown_continued a)
+continued_stage a = record {
+  failed = refl;
+  state = behind_data_far (all_acknowledged a) a.state;
+  lost = refl;
+  size = refl;
+  side = refl;
+  handshake = refl;
+  truthful =
+      λ own t. truthful_still own a (shutdown_continued a) t (keeps_saying a (shutdown_continued a) refl refl) refl;
 }
 
 -- Resets of streams
@@ -343,13 +388,9 @@ data_status a piece trigger =
 
 -- SACK
 
-outcome_status : (o : SackOutcome) (a : Shown) (cumulative_tsn_ack : ℕ) (blocks : List GapAckBlock) (window : ℕ)
-    (trigger : AckTrigger) (now : ℕ)
-    → IsSameStatus a (on_counted_sack o a cumulative_tsn_ack blocks window trigger now).0
-outcome_status outcomes.Older a cumulative_tsn_ack blocks window trigger now = status_same a
-outcome_status outcomes.NotInFlight a cumulative_tsn_ack blocks window trigger now = status_same a
-outcome_status outcomes.NamesTheUnsent a cumulative_tsn_ack blocks window trigger now = status_same a
-outcome_status outcomes.Taken a cumulative_tsn_ack blocks window trigger now =
+acknowledged_status : (a : Shown) (cumulative_tsn_ack : ℕ) (blocks : List GapAckBlock) (window now : ℕ)
+    → IsSameStatus a (after_sack a cumulative_tsn_ack blocks window now)
+acknowledged_status a cumulative_tsn_ack blocks window now =
     status_by a _ refl refl refl
     (blocks_size now blocks
     (acknowledged (tsns_up_to a.sender cumulative_tsn_ack) now
@@ -359,16 +400,24 @@ outcome_status outcomes.Taken a cumulative_tsn_ack blocks window trigger now =
     a.estimate a.streams)
     refl refl refl
 
-sack_status : (established : Bool) (a : Shown) (cumulative_tsn_ack : ℕ) (blocks : List GapAckBlock) (window : ℕ)
+outcome_stage : (o : SackOutcome) (a : Shown) (cumulative_tsn_ack : ℕ) (blocks : List GapAckBlock) (window : ℕ)
     (trigger : AckTrigger) (now : ℕ)
-    → is_established a.state ≡ established
-    → IsSameStatus a (on_sack a cumulative_tsn_ack blocks window trigger now).0
+    → KeepsTheStage a (on_counted_sack o a cumulative_tsn_ack blocks window trigger now).0
+outcome_stage outcomes.Taken a cumulative_tsn_ack blocks window trigger now =
+    let b : Shown = after_sack a cumulative_tsn_ack blocks window now in
+    stage_on a b (shutdown_continued b) (acknowledged_status a cumulative_tsn_ack blocks window now) (continued_stage b)
+outcome_stage other a cumulative_tsn_ack blocks window trigger now = stage_by_status a a (status_same a)
+
+sack_stage : (sends : Bool) (a : Shown) (cumulative_tsn_ack : ℕ) (blocks : List GapAckBlock) (window : ℕ)
+    (trigger : AckTrigger) (now : ℕ)
+    → sends_data a.state ≡ sends
+    → KeepsTheStage a (on_sack a cumulative_tsn_ack blocks window trigger now).0
 unfolding on_sack
-sack_status true a cumulative_tsn_ack blocks window trigger now e =
-    rw e (status_on a (counted_sack a) _ (status_by a (counted_sack a) refl refl refl refl refl refl refl)
-    (outcome_status (sack_outcome a.sender cumulative_tsn_ack blocks)
+sack_stage true a cumulative_tsn_ack blocks window trigger now e =
+    rw e (stage_on a (counted_sack a) _ (status_by a (counted_sack a) refl refl refl refl refl refl refl)
+    (outcome_stage (sack_outcome a.sender cumulative_tsn_ack blocks)
     (counted_sack a) cumulative_tsn_ack blocks window trigger now))
-sack_status false a cumulative_tsn_ack blocks window trigger now e = rw e (status_same a)
+sack_stage false a cumulative_tsn_ack blocks window trigger now e = rw e (stage_by_status a a (status_same a))
 
 -- FORWARD TSN
 
@@ -484,7 +533,7 @@ kind_leaves : (header : CommonHeader) (c : Chunk) (a : Shown) (trigger : AckTrig
     → Leaves c a (dispatched a header c trigger now).0
 kind_leaves header (chunks.Data piece) a trigger now = data_status a piece trigger
 kind_leaves header (chunks.SelectiveAck k) a trigger now =
-    sack_status (is_established a.state) a k.cumulative_tsn_ack k.gap_ack_blocks k.advertised_receiver_window_credit
+    sack_stage (sends_data a.state) a k.cumulative_tsn_ack k.gap_ack_blocks k.advertised_receiver_window_credit
     trigger now refl
 kind_leaves header (chunks.Init x) a trigger now = init_works (is_beginning a.state) a header x trigger refl
 kind_leaves header (chunks.InitAck x) a trigger now =
@@ -492,8 +541,8 @@ kind_leaves header (chunks.InitAck x) a trigger now =
 kind_leaves header (chunks.Heartbeat x) a trigger now = heartbeat_works a x trigger
 kind_leaves header (chunks.HeartbeatAck x) a trigger now = works_same a
 kind_leaves header (chunks.Abort x) a trigger now = works_same a
-kind_leaves header (chunks.Shutdown x) a trigger now = works_same a
-kind_leaves header chunks.ShutdownAck a trigger now = works_same a
+kind_leaves header (chunks.Shutdown x) a trigger now = works_by a _ refl refl refl
+kind_leaves header chunks.ShutdownAck a trigger now = works_by a _ refl refl refl
 kind_leaves header (chunks.Error x) a trigger now = works_same a
 kind_leaves header (chunks.CookieEcho x) a trigger now =
     cookie_echo_works (has_issued a.handshake x) (is_beginning a.state) (is_established a.state) a x trigger
@@ -509,7 +558,7 @@ kind_leaves header (chunks.Other kind flags value) a trigger now = works_same a
 
 same_leaves : (c : Chunk) (a : Shown) → Leaves c a a
 same_leaves (chunks.Data piece) a = status_same a
-same_leaves (chunks.SelectiveAck k) a = status_same a
+same_leaves (chunks.SelectiveAck k) a = stage_by_status a a (status_same a)
 same_leaves (chunks.Init x) a = works_same a
 same_leaves (chunks.InitAck x) a = works_same a
 same_leaves (chunks.Heartbeat x) a = works_same a
@@ -730,17 +779,19 @@ pub timers_keep_the_status : TimersKeepTheStatus
 timers_keep_the_status a now =
     let b : Shown = after_t1_init a now in
     let c : Shown = after_handshake_timers a now in
-    let d : Shown = after_t3 c now in
+    let f : Shown = after_shutdown_timer a now in
+    let d : Shown = after_t3 f now in
     let e : Shown = after_reconfig_timer d now in
     let first : IsSameBeside a b =
     t1_init_beside (expiry_of names.T1Init now a.timers).expired (expiry_of names.T1Init now a.timers).failed a now in
     let second : IsSameBeside b c =
     t1_cookie_beside (expiry_of names.T1Cookie now b.timers).expired
     (expiry_of names.T1Cookie now b.timers).failed b now in
-    let third : IsSameBeside c d =
-    t3_beside (expiry_of names.T3RTX now c.timers).expired (expiry_of names.T3RTX now c.timers).failed c now in
+    let answer : IsSameBeside c f = (status_by c f refl refl refl refl refl refl refl, refl) in
+    let third : IsSameBeside f d =
+    t3_beside (expiry_of names.T3RTX now f.timers).expired (expiry_of names.T3RTX now f.timers).failed f now in
     let fourth : IsSameBeside d e =
     reconfig_beside (expiry_of names.Reconfig now d.timers).expired (expiry_of names.Reconfig now d.timers).failed d now
     in
     ack_delay_beside (expiry_of names.Ack now e.timers).expired a e now refl
-    (beside_on a b e first (beside_on b c e second (beside_on c d e third fourth)))
+    (beside_on a b e first (beside_on b c e second (beside_on c f e answer (beside_on f d e third fourth))))

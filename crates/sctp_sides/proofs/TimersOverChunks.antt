@@ -38,22 +38,24 @@ use Rattle.sctp_assoc.specs.declared.inbound.Flow.{Flow}
 use Rattle.sctp_assoc.specs.declared.inbound.Flow.TheVariants as flows
 use Rattle.sctp_assoc.specs.Calls.{is_beginning, is_cookie_echoed, is_cookie_wait}
 use Rattle.sctp_assoc.specs.Closing.{closed_open, is_closed_state, is_exhausted}
-use Rattle.sctp_assoc.specs.Calls.{is_established}
+use Rattle.sctp_assoc.specs.Calls.{is_established, sends_data}
+use Rattle.sctp_assoc.specs.Shutdown.{on_shutdown_complete}
 use Rattle.sctp_assoc.specs.Handshake.{acknowledged_cookie, answered, connected, echoed, information_returned, learned}
 use Rattle.sctp_assoc.specs.Handshake.{on_cookie_ack, on_cookie_echo, on_heartbeat, on_init, on_init_ack, sends_cookie}
-use Rattle.sctp_assoc.specs.Chunks.{after_chunks, after_packet, after_packet_of, checked_first, counted_data}
+use Rattle.sctp_assoc.specs.Chunks.{after_chunks, after_packet, after_packet_of, after_sack, checked_first}
+use Rattle.sctp_assoc.specs.Chunks.{counted_data}
 use Rattle.sctp_assoc.specs.Chunks.{counted_sack, dispatched, ended, goes_on, on_chunk, on_counted_data}
 use Rattle.sctp_assoc.specs.Chunks.{on_counted_sack, on_data, on_new_data, on_sack, stream_found, taken_in, told}
 use Rattle.sctp_assoc.specs.Chunks.{asks, asks_or_faults, deferred, deferred_unless, deferred_where_admitted}
 use Rattle.sctp_assoc.specs.Chunks.{taken_where_admitted, then_skips, with_acknowledged}
 use Rattle.sctp_sides.specs.OneSide.{is_delayed}
 use Rattle.sctp_assoc.specs.Shown.{Shown, all_waiting, uses_forward_tsn}
-use Rattle.sctp_sides.proofs.TimersRun.{AtRest, FitsTimers, IsSameTime, Ticks, ack_kept, established_begins_no_more}
+use Rattle.sctp_sides.proofs.TimersRun.{AtRest, FitsTimers, IsSameTime, Ticks, ack_kept, continued_ticks}
 use Rattle.sctp_sides.proofs.TimersRun.{fits_restarted, none_armed, restarted, restarted_keeps_ack}
 use Rattle.sctp_sides.proofs.TimersRun.{same_time, ticks_by, time_by, time_on}
 use Rattle.sctp_assoc.specs.Closing.{out_of_resource}
 use Rattle.sctp_assoc.specs.Control.{queued}
-use Rattle.sctp_sides.proofs.TimersRun.{rest_by}
+use Rattle.sctp_sides.proofs.TimersRun.{rest_by, sending_begins_no_more, shutdown_answered_ticks, shutdown_taken_ticks}
 use Rattle.std.proofs.Common.{not}
 use Rattle.sctp_wire_types.specs.declared.chunk.SkippedStream.{SkippedStream}
 use Rattle.sctp_assoc.specs.Skipping.{acknowledged_at_once, on_forward, skips_of, unrecognized_chunk}
@@ -244,8 +246,9 @@ outcome_ticks outcomes.Older a cumulative_tsn_ack blocks window trigger now b h 
 outcome_ticks outcomes.NotInFlight a cumulative_tsn_ack blocks window trigger now b h = h
 outcome_ticks outcomes.NamesTheUnsent a cumulative_tsn_ack blocks window trigger now b h = h
 outcome_ticks outcomes.Taken a cumulative_tsn_ack blocks window trigger now b h =
-    taken_ticks a (progress_of a.sender cumulative_tsn_ack blocks) now
-    (sack_taken cumulative_tsn_ack blocks window now a.sender a.estimate a.streams) b h
+    continued_ticks (after_sack a cumulative_tsn_ack blocks window now)
+    (taken_ticks a (progress_of a.sender cumulative_tsn_ack blocks) now
+    (sack_taken cumulative_tsn_ack blocks window now a.sender a.estimate a.streams) b h)
 
 -- The handshake
 
@@ -258,6 +261,7 @@ pub record IsFaulty (b : Shown) : Type 0 where
 abbrev pub TicksOn : Shown × Flow → Type 0
 TicksOn (b, flows.Next trigger) = Ticks b
 TicksOn (b, flows.Fault fault) = IsFaulty b
+TicksOn (b, flows.Closed) = IsFaulty b
 TicksOn (b, flows.Exhausted) = Ticks b
 
 faulty : (b : Shown) → Ticks b → IsFaulty b
@@ -266,6 +270,7 @@ faulty b h = record { working = h.working; not_lost = h.not_lost; if_closed = λ
 ticks_on : (x : Shown × Flow) → Ticks x.0 → TicksOn x
 ticks_on (b, flows.Next trigger) h = h
 ticks_on (b, flows.Fault fault) h = faulty b h
+ticks_on (b, flows.Closed) h = faulty b h
 ticks_on (b, flows.Exhausted) h = h
 
 waiting_is_open : (s : AssociationState) → is_cookie_wait s ≡ true
@@ -405,14 +410,14 @@ forward_ticks a tsn es trigger now h =
 
 -- Each chunk keeps the timers where they should run, or is a fault.
 module _ (a : Shown) (trigger : AckTrigger) (h : Ticks a) where
-  sack_ticks : (established : Bool) (cumulative_tsn_ack : ℕ) (blocks : List GapAckBlock) (window now : ℕ)
-      → is_established a.state ≡ established
+  sack_ticks : (sends : Bool) (cumulative_tsn_ack : ℕ) (blocks : List GapAckBlock) (window now : ℕ)
+      → sends_data a.state ≡ sends
       → Ticks (on_sack a cumulative_tsn_ack blocks window trigger now).0
   unfolding on_sack
   sack_ticks true cumulative_tsn_ack blocks window now e =
       rw e (outcome_ticks (sack_outcome a.sender cumulative_tsn_ack blocks)
       (counted_sack a) cumulative_tsn_ack blocks window trigger now
-      (established_begins_no_more a.state e)
+      (sending_begins_no_more a.state e)
       (ticks_by a (counted_sack a) (time_by a (counted_sack a) refl refl refl refl refl refl) h))
   sack_ticks false cumulative_tsn_ack blocks window now e = rw e h
 
@@ -459,7 +464,7 @@ module _ (a : Shown) (trigger : AckTrigger) (h : Ticks a) where
   kind_ticks header (chunks.Data piece) now = ticks_on (on_data a piece trigger) (data_ticks a piece trigger h)
   kind_ticks header (chunks.SelectiveAck k) now =
       ticks_on (on_sack a k.cumulative_tsn_ack k.gap_ack_blocks k.advertised_receiver_window_credit trigger now)
-      (sack_ticks (is_established a.state) k.cumulative_tsn_ack k.gap_ack_blocks k.advertised_receiver_window_credit
+      (sack_ticks (sends_data a.state) k.cumulative_tsn_ack k.gap_ack_blocks k.advertised_receiver_window_credit
       now refl)
   kind_ticks header (chunks.Init x) now = ticks_on (on_init a header x trigger)
       (init_ticks (is_beginning a.state) header x refl)
@@ -468,15 +473,15 @@ module _ (a : Shown) (trigger : AckTrigger) (h : Ticks a) where
   kind_ticks header (chunks.Heartbeat x) now = heartbeat_ticks x
   kind_ticks header (chunks.HeartbeatAck x) now = faulty a h
   kind_ticks header (chunks.Abort x) now = faulty a h
-  kind_ticks header (chunks.Shutdown x) now = faulty a h
-  kind_ticks header chunks.ShutdownAck now = faulty a h
+  kind_ticks header (chunks.Shutdown x) now = shutdown_taken_ticks a h
+  kind_ticks header chunks.ShutdownAck now = shutdown_answered_ticks a h
   kind_ticks header (chunks.Error x) now = faulty a h
   kind_ticks header (chunks.CookieEcho x) now =
       ticks_on (on_cookie_echo a x trigger) (cookie_echo_ticks (has_issued a.handshake x) (is_beginning a.state)
       (is_established a.state) x refl refl refl)
   kind_ticks header chunks.CookieAck now = ticks_on (on_cookie_ack a trigger)
       (cookie_ack_ticks (is_cookie_echoed a.state) refl)
-  kind_ticks header chunks.ShutdownComplete now = faulty a h
+  kind_ticks header chunks.ShutdownComplete now = ticks_on (a, on_shutdown_complete a.state trigger) h
   kind_ticks header (chunks.Reconfig x) now = ticks_on (on_reconfig a x trigger)
       (ticks_beside a (on_reconfig a x trigger).0 (reconfig_changes a x trigger) h)
   kind_ticks header (chunks.ForwardTsn x) now = ticks_on (on_forward a x.new_cumulative_tsn x.streams trigger now)
@@ -522,6 +527,7 @@ goes_on_soundly : (x : Shown × Flow) (more : Shown → AckTrigger → Shown) �
 goes_on_soundly (b, flows.Next trigger) more h k = k b trigger h
 goes_on_soundly (b, flows.Fault fault) more h k = fault_rests (is_closed_state b.state) b reasons.AssociationClosed
     refl h
+goes_on_soundly (b, flows.Closed) more h k = fault_rests (is_closed_state b.state) b reasons.AssociationClosed refl h
 goes_on_soundly (b, flows.Exhausted) more h k = exhausted_sound (is_closed_state b.state) b h
 
 ended_ticks : (trigger : AckTrigger) (a : Shown) (now : ℕ) → Ticks a → Ticks (ended a trigger now)

@@ -31,19 +31,24 @@ use Rattle.sctp_outbound.specs.Abandonment.{next_given_up, tail_given_up, with_s
 use Rattle.sctp_outbound.specs.Sender.{after_marked, after_missing, both_windows, can_send_next, fast_room}
 use Rattle.sctp_outbound.specs.Sender.{first_counted, resends_alone, resent_pieces, sent_new, sent_one}
 use Rattle.sctp_outbound.specs.Sender.{sent_within}
-use Rattle.sctp_assoc.specs.Calls.{is_beginning, is_established}
-use Rattle.sctp_assoc.specs.Gather.{ack_polled, after_fast, after_marks, both_of, control_polled, data_polled}
-use Rattle.sctp_assoc.specs.Gather.{fell_in_poll, is_due, late_abandoned, late_dropped, polled, with_both}
+use Rattle.sctp_streams.specs.declared.event.AssociationError.TheVariants as ends
+use Rattle.sctp_assoc.specs.Calls.{exchanges_data, is_beginning}
+use Rattle.sctp_assoc.specs.Gather.{ack_polled, after_fast, after_marks, both_of, control_polled, data_after}
+use Rattle.sctp_assoc.specs.Gather.{data_polled, fell_in_poll, is_due, late_abandoned, late_dropped, open_polled}
+use Rattle.sctp_assoc.specs.Gather.{polled, with_both}
 use Rattle.sctp_assoc.specs.Gather.{with_low_told, with_sent_data, with_t3}
 use Rattle.sctp_assoc.specs.Resets.{with_reconfig_run}
 use Rattle.sctp_assoc.specs.Shown.{Shown, uses_forward_tsn}
 use Rattle.sctp_assoc.proofs.GivenApart.{ChangesControl, with_own_control}
+use Rattle.sctp_sides.proofs.EndedPolls.{by_poll_end, complete_given}
 use Rattle.sctp_sides.proofs.PollsLeave.{acknowledged_is, after_requests, control_leaves, polled_from, silent_is}
 use Rattle.sctp_sides.proofs.ResetsBeside.{run_changes}
+use Rattle.sctp_sides.proofs.TimersOverChunks.{IsSound, closed_rests}
 use Rattle.sctp_sides.proofs.TimersRun.{ticks_beside}
 use Rattle.sctp_sides.proofs.GivingUpKeeps.{KeptByGivingUp, all_kept, late_kept}
 use Rattle.sctp_sides.proofs.GivingUpKeeps.{spent_kept}
-use Rattle.sctp_sides.proofs.TimersRun.{FitsTimers, Ticks, ack_kept, established_begins_no_more, fits_restarted}
+use Rattle.sctp_sides.proofs.TimersRun.{FitsTimers, Ticks, ack_kept, continued_ticks, exchanging_begins_no_more}
+use Rattle.sctp_sides.proofs.TimersRun.{fits_restarted}
 use Rattle.sctp_sides.proofs.TimersRun.{nothing_is_not_something, restarted, restarted_keeps_ack, ticks_by, time_by}
 
 -- Sending DATA for the first time
@@ -402,10 +407,10 @@ sent_ticks a now b h =
     let grows = new_grows a.sender now in
     run_ticks (ltb 0 (length x.1)) a now (x.0, a.streams) b (sent_some a.sender x grows) (sent_alike a.sender x grows) h
 
-data_ticks : (a : Shown) (now : ℕ) → is_established a.state ≡ true → Ticks a → Ticks (data_polled a now).0
+data_ticks : (a : Shown) (now : ℕ) → exchanges_data a.state ≡ true → Ticks a → Ticks (data_polled a now).0
 unfolding data_polled
 data_ticks a now e h =
-    let b = established_begins_no_more a.state e in
+    let b = exchanging_begins_no_more a.state e in
     let late : Shown = late_abandoned a now in
     let marks : Shown = after_marks late in
     let fast : Shown = after_fast marks in
@@ -441,18 +446,29 @@ control_ticks a b e h =
     let c : Shown = with_own_control a b.resets.own b.control in
     subst (λ (z : Shown). Ticks z) (sym e) (ticks_by a c (time_by a c refl refl refl refl refl refl) h)
 
-polls_tick_if : (established : Bool) (a : Shown) (now : ℕ) → is_established a.state ≡ established → Ticks a
-    → Ticks (polled a now).0
-polls_tick_if true a now e h =
+front_ticks_if : (exchanges : Bool) (a : Shown) (now : ℕ) → exchanges_data a.state ≡ exchanges → Ticks a
+    → Ticks (open_polled a now).0
+front_ticks_if true a now e h =
     let p = polled_from a now e in
     let b = after_requests p.asked in
     subst (λ (z : Shown). Ticks z) (sym p.there)
     (ticks_beside b (with_reconfig_run b now) (run_changes b now)
-    (after_ticks p.asked (control_ticks (data_polled a now).0 p.asked p.requests (data_ticks a now e h))))
-polls_tick_if false a now e h =
+    (after_ticks p.asked (control_ticks (data_after a now).0 p.asked p.requests
+    (continued_ticks (data_polled a now).0 (data_ticks a now e h)))))
+front_ticks_if false a now e h =
     let b = (control_polled a).0 in
     subst (λ (z : Shown). Ticks z) (sym (silent_is a now e))
     (ticks_beside b (with_reconfig_run b now) (run_changes b now) (control_ticks a b (control_leaves a) h))
 
-pub polls_tick : (a : Shown) (now : ℕ) → Ticks a → Ticks (polled a now).0
-polls_tick a now h = polls_tick_if (is_established a.state) a now refl h
+front_ticks : (a : Shown) (now : ℕ) → Ticks a → Ticks (open_polled a now).0
+front_ticks a now h = front_ticks_if (exchanges_data a.state) a now refl h
+
+-- it works on, or the end of the poll closed it
+pub polls_sound : (a : Shown) (now : ℕ) → Ticks a → IsSound (polled a now).0
+polls_sound a now h =
+    let m : Shown = (open_polled a now).0 in
+    let front = front_ticks a now h in
+    by_poll_end IsSound a now
+    (λ e due timer.
+    inl (record { working = front.working; not_lost = front.not_lost; fits = front.fits; acks = front.acks }))
+    (λ e open_still. inr (closed_rests (complete_given m) ends.AssociationClosed))

@@ -4,19 +4,25 @@ use Rattle.std.proofs.Common.{if◌then◌else◌, List, [], ◌∷◌, length, 
 use Rattle.std.proofs.lemmas.Bool.{false≢true, true≢false}
 use Rattle.sctp_wire_types.specs.declared.error.Error.{Error}
 use Rattle.sctp_wire_types.specs.declared.ids.PayloadProtocolIdentifier.{PayloadProtocolIdentifier}
+use Rattle.sctp_parts.specs.declared.shared.EndpointEvent.{EndpointEvent}
+use Rattle.sctp_parts.specs.declared.state.AssociationState.{AssociationState}
+use Rattle.sctp_parts.specs.declared.state.AssociationState.TheVariants as states
 use Rattle.sctp_parts.specs.declared.timer.Timer.TheVariants as names
+use Rattle.sctp_parts.specs.Shared.{drained_event}
 use Rattle.sctp_parts.specs.Timers.{IsNoneArmed, Timers, earlier, least_moment, moment_of}
 use Rattle.sctp_streams.specs.declared.event.AssociationError.{AssociationError}
 use Rattle.sctp_streams.specs.declared.event.AssociationError.TheVariants as reasons
 use Rattle.sctp_streams.specs.declared.event.Event.{Event}
 use Rattle.sctp_streams.specs.Stream.{StreamView}
 use Rattle.sctp_streams.specs.Streams.{stream_at}
-use Rattle.sctp_assoc.specs.Calls.{event_from, is_cookie_echoed, is_cookie_wait, is_established}
+use Rattle.sctp_assoc.specs.Calls.{event_from, is_beginning, is_cookie_echoed, is_cookie_wait}
+use Rattle.sctp_assoc.specs.Calls.{is_established, sends_data}
 use Rattle.sctp_assoc.specs.Closing.{closed_open, is_closed_state}
 use Rattle.sctp_assoc.specs.Calls.{accepted_from, written_at}
 use Rattle.sctp_assoc.specs.Handshake.{sends_init}
 use Rattle.sctp_sides.specs.OneSide.{Call, Calls, FailsFrom, IsFresh, IsRun, call_refusal, carried_out, is_armed}
 use Rattle.sctp_sides.specs.OneSide.{is_delayed, with_told}
+use Rattle.sctp_assoc.specs.Shutdown.{shutdown_begun}
 use Rattle.sctp_assoc.specs.Gather.{control_polled, polled, with_control_given, with_request_placed, without_control}
 use Rattle.sctp_assoc.specs.Shown.{Shown, all_stopped}
 use Rattle.sctp_sides.specs.Witnesses.{CookiesAreTimedInCookieEchoedAlone, CreatedSidesAreFresh, DelayedSacksAreTimed}
@@ -25,14 +31,15 @@ use Rattle.sctp_sides.specs.Witnesses.{InitsAreTimedInCookieWaitAlone, IsHandsha
 use Rattle.sctp_sides.specs.Witnesses.{LossesStopTheTimers, LostSidesWaitForNothing}
 use Rattle.sctp_sides.specs.Witnesses.{NoHandshakeTimerRunsOnceEstablished, NothingInFlightIsNotTimed}
 use Rattle.sctp_sides.specs.Witnesses.{OutstandingDataIsTimed, SentInitsAreTimed, WaitsForNothing}
-use Rattle.sctp_sides.proofs.PollsLeave.{control_leaves, silent_is}
+use Rattle.sctp_sides.proofs.PollsLeave.{control_leaves, silent_poll}
 use Rattle.sctp_sides.proofs.ResetsBeside.{draining_changes, stop_changes}
 use Rattle.sctp_sides.proofs.TimersRun.{AtRest, IsQuiet, IsSameTime, Ticks, closed_waits_for_nothing, ticks_beside}
-use Rattle.sctp_sides.proofs.TimersRun.{established_shakes_no_hands}
+use Rattle.sctp_sides.proofs.TimersRun.{begun_shakes_no_hands, closed_gives_nothing, closed_is_not_established}
+use Rattle.sctp_sides.proofs.TimersRun.{IsOnward, begins_established, continued_ticks, onward_fits}
 use Rattle.sctp_sides.proofs.TimersRun.{none_armed, nothing_is_not_something, rest_by, rest_quietly, same_time}
 use Rattle.sctp_sides.proofs.TimersRun.{ticks_by, time_by, unarmed}
 use Rattle.sctp_sides.proofs.TimersOverChunks.{IsSound, closed_rests, packets_sound}
-use Rattle.sctp_sides.proofs.TimersOverPolls.{polls_tick}
+use Rattle.sctp_sides.proofs.TimersOverPolls.{polls_sound}
 use Rattle.sctp_sides.proofs.TimersOverTimeouts.{timeouts_tick, unarmed_timeouts_do_nothing}
 use Rattle.sctp_sides.proofs.TimersOverChunks.{exhausted_sound}
 use Rattle.sctp_assoc.specs.Calls.{adjusted, after_read, drained_behind, holds_of, stopped_open}
@@ -87,20 +94,22 @@ unrefused : (failed : Bool) (fault : Error) (more : Option Error) → (if failed
 unrefused true fault more e = absurd (true≢false (ap (λ (o : Option Error). is_some o) e))
 unrefused false fault more e = refl
 
--- It works, or the call did nothing.
+-- This leaves all but what the endpoint is to be told, and tells nothing.
+abbrev pub IsUntouched : Shown → Shown × List Event → Type 0
+IsUntouched a x = (event : Option EndpointEvent) × (x ≡ (record a { endpoint_event = event }, []))
+
+-- It works, or the call did nothing but ask what the endpoint is to be told.
 abbrev pub Works : Call → Shown → Type 0
-Works call a = (a.failed ≡ false) ⊎ (carried_out call a ≡ (a, []))
+Works call a = (a.failed ≡ false) ⊎ IsUntouched a (carried_out call a)
 
 accept_works : (failed : Bool) (a : Shown) → a.failed ≡ failed
-    → (a.failed ≡ false)
-    ⊎ (◌≡◌ {A = Shown × List Event} ((if failed then (a, None) else accepted_from a.to_accept a).0, []) (a, []))
-accept_works true a e = inr refl
+    → (a.failed ≡ false) ⊎ IsUntouched a ((if failed then (a, None) else accepted_from a.to_accept a).0, [])
+accept_works true a e = inr (a.endpoint_event, refl)
 accept_works false a e = inl e
 
 limit_works : (failed : Bool) (a : Shown) (size : ℕ) → a.failed ≡ failed
-    → (a.failed ≡ false)
-    ⊎ (◌≡◌ {A = Shown × List Event} (if failed then a else record a { max_send_message_size = size }, []) (a, []))
-limit_works true a size e = inr refl
+    → (a.failed ≡ false) ⊎ IsUntouched a (if failed then a else record a { max_send_message_size = size }, [])
+limit_works true a size e = inr (a.endpoint_event, refl)
 limit_works false a size e = inl e
 
 pub accepted_works : (call : Call) (a : Shown) → call_refusal call a ≡ None → Works call a
@@ -109,6 +118,8 @@ accepted_works (Call.Write id named bytes) a e = inl (unrefused a.failed _ _ e)
 accepted_works (Call.Set id setting) a e = inl (unrefused a.failed _ _ e)
 accepted_works Call.AcceptStream a e = accept_works a.failed a refl
 accepted_works (Call.SetMaxSendMessageSize size) a e = limit_works a.failed a size refl
+accepted_works Call.Shutdown a e = inl (unrefused a.failed _ _ e)
+accepted_works Call.PollEndpointEvent a e = inr (None, refl)
 accepted_works Call.Close a e = inl (unrefused a.failed _ _ e)
 accepted_works (Call.Read id) a e = inl (unrefused a.failed _ _ e)
 accepted_works Call.Poll a e = inl (unrefused a.failed _ _ e)
@@ -324,79 +335,134 @@ poll_transmit_rests : (a : Shown) (now : ℕ) → a.failed ≡ false → a.lost 
 poll_transmit_rests a now works lost h =
     let b = (control_polled a).0 in
     let there = control_rests a works h in
+    let nothing = closed_gives_nothing a.state (h.closed lost) in
     subst AtRest
-    (sym (silent_is a now (closed_waits_for_nothing a.state (h.closed lost)).0
+    (sym (silent_poll a now nothing.0 nothing.1
     ∙ no_run_if (is_some b.resets.own.active) _ b _ (ap (λ (z : Option SentRequest). is_some z) there.1)))
     there.0
 
-ticks_carried : (call : Call) (a : Shown) → Ticks a → IsSound (carried_out call a).0
-ticks_carried (Call.OpenStream id kind) a h = inl (ticks_by a _ (time_by a _ refl refl refl refl refl refl) h)
-ticks_carried (Call.Write id named bytes) a h = inl (write_ticks (stream_at a.streams id) a id named bytes h)
-ticks_carried (Call.Set id setting) a h = inl (ticks_by a _ (time_by a _ refl refl refl refl refl refl) h)
-ticks_carried Call.AcceptStream a h = inl (accept_ticks a.failed a h)
-ticks_carried (Call.SetMaxSendMessageSize size) a h = inl (limit_ticks a.failed a size h)
-ticks_carried Call.Close a h = close_sound (is_closed_state a.state) a reasons.AssociationClosed h
-ticks_carried (Call.Read id) a h = read_sound (read_in a.streams id) a id h
-ticks_carried Call.Poll a h = inl (poll_ticks (event_told a.resets a.events) a h)
-ticks_carried (Call.PollTransmit now) a h = inl (polls_tick a now h)
-ticks_carried (Call.HandleTimeout now) a h = inl (timeouts_tick a now h)
-ticks_carried (Call.HandleEvent packet now) a h = packets_sound packet a now h
-ticks_carried (Call.Stop id) a h = stop_sound (holds_of (λ s. is_read_half_open s.halves) a id) a id h
-ticks_carried (Call.CloseStream id) a h =
+-- a shutdown begins, in Established alone
+
+pending_onward : (s : AssociationState) → is_established s ≡ true → IsOnward s states.ShutdownPending
+pending_onward states.Closed e = absurd (false≢true e)
+pending_onward states.CookieWait e = absurd (false≢true e)
+pending_onward states.CookieEchoed e = absurd (false≢true e)
+pending_onward states.Established e = record { sends = λ _. refl; waits = refl; echoed = refl; begins = refl }
+pending_onward states.ShutdownAckSent e = absurd (false≢true e)
+pending_onward states.ShutdownPending e = absurd (false≢true e)
+pending_onward states.ShutdownReceived e = absurd (false≢true e)
+pending_onward states.ShutdownSent e = absurd (false≢true e)
+
+shutdown_ticks : (a : Shown) → is_established a.state ≡ true → Ticks a → Ticks (shutdown_begun a)
+shutdown_ticks a e h =
+    let b : Shown = record a { state = states.ShutdownPending; endpoint_event = Some drained_event } in
+    continued_ticks b (record {
+      working = h.working;
+      not_lost = h.not_lost;
+      fits = onward_fits a.state states.ShutdownPending a.sender.queue.in_flight a.timers (pending_onward a.state e)
+          h.fits;
+      acks = h.acks;
+    })
+
+pub ticks_carried : (call : Call) (a : Shown) → call_refusal call a ≡ None → Ticks a
+    → IsSound (carried_out call a).0
+ticks_carried (Call.OpenStream id kind) a e h = inl (ticks_by a _ (time_by a _ refl refl refl refl refl refl) h)
+ticks_carried (Call.Write id named bytes) a e h = inl (write_ticks (stream_at a.streams id) a id named bytes h)
+ticks_carried (Call.Set id setting) a e h = inl (ticks_by a _ (time_by a _ refl refl refl refl refl refl) h)
+ticks_carried Call.AcceptStream a e h = inl (accept_ticks a.failed a h)
+ticks_carried (Call.SetMaxSendMessageSize size) a e h = inl (limit_ticks a.failed a size h)
+ticks_carried Call.Shutdown a e h =
+    inl (shutdown_ticks a (begins_established a.failed (is_established a.state) _ _ e) h)
+ticks_carried Call.PollEndpointEvent a e h = inl (ticks_by a _ (time_by a _ refl refl refl refl refl refl) h)
+ticks_carried Call.Close a e h = close_sound (is_closed_state a.state) a reasons.AssociationClosed h
+ticks_carried (Call.Read id) a e h = read_sound (read_in a.streams id) a id h
+ticks_carried Call.Poll a e h = inl (poll_ticks (event_told a.resets a.events) a h)
+ticks_carried (Call.PollTransmit now) a e h = polls_sound a now h
+ticks_carried (Call.HandleTimeout now) a e h = inl (timeouts_tick a now h)
+ticks_carried (Call.HandleEvent packet now) a e h = packets_sound packet a now h
+ticks_carried (Call.Stop id) a e h = stop_sound (holds_of (λ s. is_read_half_open s.halves) a id) a id h
+ticks_carried (Call.CloseStream id) a e h =
     let b : Shown = adjusted a id settings.WriteHalfClosed in
     stop_sound (holds_of (λ s. is_read_half_open s.halves) b id) b id
     (ticks_by a b (time_by a b refl refl refl refl refl refl) h)
 
-rest_carried : (call : Call) (a : Shown) → a.failed ≡ false → a.lost ≡ true → AtRest a
+rest_carried : (call : Call) (a : Shown) → call_refusal call a ≡ None → a.failed ≡ false → a.lost ≡ true → AtRest a
     → AtRest (carried_out call a).0
-rest_carried (Call.OpenStream id kind) a works lost h = rest_by a _ refl refl refl refl refl h
-rest_carried (Call.Write id named bytes) a works lost h = write_rests (stream_at a.streams id) a id named bytes h
-rest_carried (Call.Set id setting) a works lost h = rest_by a _ refl refl refl refl refl h
-rest_carried Call.AcceptStream a works lost h = accept_rests a.failed a h
-rest_carried (Call.SetMaxSendMessageSize size) a works lost h = limit_rests a.failed a size h
-rest_carried Call.Close a works lost h = close_rests (is_closed_state a.state) a reasons.AssociationClosed h
-rest_carried (Call.Read id) a works lost h = read_rests (read_in a.streams id) a id h
-rest_carried Call.Poll a works lost h =
+rest_carried (Call.OpenStream id kind) a e works lost h = rest_by a _ refl refl refl refl refl h
+rest_carried (Call.Write id named bytes) a e works lost h = write_rests (stream_at a.streams id) a id named bytes h
+rest_carried (Call.Set id setting) a e works lost h = rest_by a _ refl refl refl refl refl h
+rest_carried Call.AcceptStream a e works lost h = accept_rests a.failed a h
+rest_carried (Call.SetMaxSendMessageSize size) a e works lost h = limit_rests a.failed a size h
+rest_carried Call.Shutdown a e works lost h =
+    absurd (false≢true (sym (closed_is_not_established a.state (h.closed lost))
+    ∙ begins_established a.failed (is_established a.state) _ _ e))
+rest_carried Call.PollEndpointEvent a e works lost h = rest_by a _ refl refl refl refl refl h
+rest_carried Call.Close a e works lost h = close_rests (is_closed_state a.state) a reasons.AssociationClosed h
+rest_carried (Call.Read id) a e works lost h = read_rests (read_in a.streams id) a id h
+rest_carried Call.Poll a e works lost h =
     poll_rests (event_told a.resets a.events) a
     (told_keeps_requests (next_told a.resets.generations a.resets.debts a.events) a.resets a.events) h
-rest_carried (Call.PollTransmit now) a works lost h = poll_transmit_rests a now works lost h
-rest_carried (Call.HandleTimeout now) a works lost h =
+rest_carried (Call.PollTransmit now) a e works lost h = poll_transmit_rests a now works lost h
+rest_carried (Call.HandleTimeout now) a e works lost h =
     subst AtRest (sym (unarmed_timeouts_do_nothing a now h.stopped)) h
-rest_carried (Call.HandleEvent packet now) a works lost h =
+rest_carried (Call.HandleEvent packet now) a e works lost h =
     subst AtRest (sym (cond-true a.lost a (after_packet_of a packet now) lost)) h
-rest_carried (Call.Stop id) a works lost h = stop_rests (holds_of (λ s. is_read_half_open s.halves) a id) a id h
-rest_carried (Call.CloseStream id) a works lost h =
+rest_carried (Call.Stop id) a e works lost h = stop_rests (holds_of (λ s. is_read_half_open s.halves) a id) a id h
+rest_carried (Call.CloseStream id) a e works lost h =
     let b : Shown = adjusted a id settings.WriteHalfClosed in
     stop_rests (holds_of (λ s. is_read_half_open s.halves) b id) b id (rest_by a b refl refl refl refl refl h)
 
-is_lost : (a : Shown) → a.failed ≡ false → AtRest a → a.lost ≡ true
+pub is_lost : (a : Shown) → a.failed ≡ false → AtRest a → a.lost ≡ true
 is_lost a e h = ⊎_elim (λ (f : a.failed ≡ true). absurd (false≢true (sym e ∙ f))) (λ (l : a.lost ≡ true). l) h.over
+
+carried_rests : (call : Call) (a : Shown) → call_refusal call a ≡ None → Works call a → AtRest a
+    → AtRest (carried_out call a).0
+carried_rests call a e (inl works) h = rest_carried call a e works (is_lost a works h) h
+carried_rests call a e (inr (event, same)) h =
+    subst (λ (x : Shown × List Event). AtRest x.0) (sym same) (rest_by a _ refl refl refl refl refl h)
+
+pub fell_rests : (a b : Shown) → (a.lost ≡ true → is_closed_state a.state ≡ true) → Fell a b → AtRest b
+fell_rests a b closed f = record {
+  over = inl f.failed;
+  closed = λ e. ap is_closed_state f.state ∙ closed (sym f.lost ∙ e);
+  stopped = fell_stopped a b f;
+  quiet = λ e. absurd (false≢true (sym e ∙ f.failed));
+}
 
 pub sound_closed : (a : Shown) → IsSound a → a.lost ≡ true → is_closed_state a.state ≡ true
 sound_closed a (inl h) e = absurd (false≢true (sym h.not_lost ∙ e))
 sound_closed a (inr h) e = h.closed e
 
-works_sound : (call : Call) (a : Shown) → a.failed ≡ false → IsSound a → IsSound (carried_out call a).0
-works_sound call a works (inl h) = ticks_carried call a h
-works_sound call a works (inr h) = inr (rest_carried call a works (is_lost a works h) h)
+-- at rest it stays so
+pub call_rests : (call : Call) (told : List Event) (a b : Shown) → AtRest a → Calls call told a b → AtRest b
+call_rests call told a b h (inl c) =
+    subst (λ (x : Shown × List Event). AtRest x.0) c.there
+    (carried_rests call a c.accepted (accepted_works call a c.accepted) h)
+call_rests call told a b h (inr (inl c)) = subst AtRest (sym c.same) h
+call_rests call told a b h (inr (inr c)) = fell_rests a b h.closed (fell a b c.failed)
 
-carried_sound : (call : Call) (a : Shown) → Works call a → IsSound a → IsSound (carried_out call a).0
-carried_sound call a (inl works) h = works_sound call a works h
-carried_sound call a (inr same) h = subst (λ (x : Shown × List Event). IsSound x.0) (sym same) h
+works_sound : (call : Call) (a : Shown) → call_refusal call a ≡ None → a.failed ≡ false → IsSound a
+    → IsSound (carried_out call a).0
+works_sound call a e works (inl h) = ticks_carried call a e h
+works_sound call a e works (inr h) = inr (carried_rests call a e (inl works) h)
 
-fell_sound : (a b : Shown) → IsSound a → Fell a b → IsSound b
-fell_sound a b h f = inr (record {
-  over = inl f.failed;
-  closed = λ e. ap is_closed_state f.state ∙ sound_closed a h (sym f.lost ∙ e);
-  stopped = fell_stopped a b f;
-  quiet = λ e. absurd (false≢true (sym e ∙ f.failed));
-})
+untouched_sound : (a : Shown) (event : Option EndpointEvent) → IsSound a
+    → IsSound (record a { endpoint_event = event })
+untouched_sound a event (inl h) = inl (ticks_by a _ (time_by a _ refl refl refl refl refl refl) h)
+untouched_sound a event (inr h) = inr (rest_by a _ refl refl refl refl refl h)
+
+carried_sound : (call : Call) (a : Shown) → call_refusal call a ≡ None → Works call a → IsSound a
+    → IsSound (carried_out call a).0
+carried_sound call a e (inl works) h = works_sound call a e works h
+carried_sound call a e (inr (event, same)) h =
+    subst (λ (x : Shown × List Event). IsSound x.0) (sym same) (untouched_sound a event h)
 
 pub call_sound : (call : Call) (told : List Event) (a b : Shown) → IsSound a → Calls call told a b → IsSound b
 call_sound call told a b h (inl c) =
-    subst (λ (x : Shown × List Event). IsSound x.0) c.there (carried_sound call a (accepted_works call a c.accepted) h)
+    subst (λ (x : Shown × List Event). IsSound x.0) c.there
+    (carried_sound call a c.accepted (accepted_works call a c.accepted) h)
 call_sound call told a b h (inr (inl c)) = subst IsSound (sym c.same) h
-call_sound call told a b h (inr (inr c)) = fell_sound a b h (fell a b c.failed)
+call_sound call told a b h (inr (inr c)) = inr (fell_rests a b (sound_closed a h) (fell a b c.failed))
 
 -- All calls
 
@@ -438,6 +504,9 @@ created_sides_are_fresh None config size tag initial_tsn cookie remote_addr loca
       init = refl;
       cookie = refl;
       acknowledgement = refl;
+      in_use = refl;
+      no_shutdown = refl;
+      answer = refl;
     }
 created_sides_are_fresh (Some of_server) config size tag initial_tsn cookie remote_addr local_ip now =
     record {
@@ -449,6 +518,9 @@ created_sides_are_fresh (Some of_server) config size tag initial_tsn cookie remo
       init = refl;
       cookie = refl;
       acknowledgement = refl;
+      in_use = refl;
+      no_shutdown = refl;
+      answer = refl;
     }
 
 pub joined_sides_are_fresh : JoinedSidesAreFresh
@@ -462,11 +534,14 @@ joined_sides_are_fresh config size remote_addr local_ip own peer =
       init = refl;
       cookie = refl;
       acknowledgement = refl;
+      in_use = refl;
+      no_shutdown = refl;
+      answer = refl;
     }
 
 -- Timers
 
-data_timed : (b : Shown) → IsSound b → b.failed ≡ false → is_established b.state ≡ true
+data_timed : (b : Shown) → IsSound b → b.failed ≡ false → sends_data b.state ≡ true
     → 0 < length b.sender.queue.in_flight → IsTimed names.T3RTX b.timers
 data_timed b (inl h) works e p = h.fits.flies.timed e p
 data_timed b (inr h) works e p = absurd (false≢true
@@ -520,9 +595,9 @@ cookie_alone b (inr h) e = absurd (false≢true (sym (unarmed names.T1Cookie b.t
 pub cookies_are_timed_in_cookie_echoed_alone : CookiesAreTimedInCookieEchoedAlone
 cookies_are_timed_in_cookie_echoed_alone calls told a b h r = cookie_alone b (after_run calls told a b h r)
 
-handshake_untimed : (b : Shown) → IsSound b → is_established b.state ≡ true → IsHandshakeUntimed b.timers
+handshake_untimed : (b : Shown) → IsSound b → is_beginning b.state ≡ false → IsHandshakeUntimed b.timers
 handshake_untimed b (inl h) e =
-    let none = established_shakes_no_hands b.state e in
+    let none = begun_shakes_no_hands b.state e in
     (h.fits.inits.alone none.0, h.fits.cookies.alone none.1)
 handshake_untimed b (inr h) e = (unarmed names.T1Init b.timers h.stopped, unarmed names.T1Cookie b.timers h.stopped)
 

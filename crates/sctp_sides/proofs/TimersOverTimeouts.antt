@@ -4,6 +4,7 @@ use Rattle.std.proofs.Common.{List, [], length, map, Option, Some, None, is_some
 use Rattle.std.proofs.lemmas.Bool.{false≢true, true≢false}
 use Rattle.std.proofs.lemmas.List.{length-map, nil_from_length}
 use Rattle.sctp_wire_types.specs.declared.error.Error.TheVariants as errors
+use Rattle.sctp_parts.specs.declared.state.AckState.{AckState}
 use Rattle.sctp_parts.specs.declared.state.AssociationState.{AssociationState}
 use Rattle.sctp_parts.specs.declared.timer.Timer.TheVariants as names
 use Rattle.sctp_parts.specs.Timers.{IsNoneArmed, TimerState, Timers, after_expiry, expired_state, expiry_of, is_due}
@@ -12,12 +13,15 @@ use Rattle.sctp_inbound.specs.declared.handshake.Offer.{Offer}
 use Rattle.sctp_outbound_queue.specs.declared.message.InFlight.{InFlight}
 use Rattle.sctp_outbound_queue.specs.Message.{marked_again}
 use Rattle.sctp_assoc.specs.Calls.{after_ack_delay, after_t3, is_beginning, is_cookie_echoed, is_cookie_wait}
-use Rattle.sctp_assoc.specs.Calls.{is_established, retransmits, t3_expired}
+use Rattle.sctp_assoc.specs.Calls.{retransmits, sends_data, t3_expired}
 use Rattle.sctp_assoc.specs.Handshake.{after_t1_cookie, after_t1_init, sends_cookie, sends_init, t1_cookie_expired}
 use Rattle.sctp_assoc.specs.Handshake.{t1_init_expired}
 use Rattle.sctp_assoc.specs.Resets.{after_reconfig_timer}
-use Rattle.sctp_assoc.specs.Timeouts.{after_handshake_timers, after_timeouts}
+use Rattle.sctp_assoc.specs.Timeouts.{after_handshake_timers, after_shutdown_timer, after_timeouts}
 use Rattle.sctp_assoc.specs.Shown.{Shown}
+use Rattle.sctp_assoc.specs.Shutdown.{after_t2_shutdown}
+use Rattle.sctp_assoc.specs.declared.shutdown.ShutdownDue.{ShutdownDue}
+use Rattle.sctp_sides.specs.OneSide.{is_delayed}
 use Rattle.sctp_sides.proofs.TimersRun.{FitsTimers, Flies, IsSameTime, Ticks, Waits, ack_kept, ticks_by, time_by}
 use Rattle.sctp_sides.proofs.TimersRun.{ticks_beside, unarmed_is_not_due}
 use Rattle.sctp_sides.proofs.ResetsBeside.{reconfig_timer_changes}
@@ -39,19 +43,19 @@ limits_kept due x t u same l = record {
 }
 
 fits_of : (s : AssociationState) (g : List InFlight) (t u : Timers) → HasLimits t u
-    → Flies (is_established s) g u.t3_rtx t.data_limit → Waits (is_cookie_wait s) u.t1_init t.handshake_limit
+    → Flies (sends_data s) g u.t3_rtx t.data_limit → Waits (is_cookie_wait s) u.t1_init t.handshake_limit
     → Waits (is_cookie_echoed s) u.t1_cookie t.handshake_limit → (is_beginning s ≡ true → g ≡ [])
     → FitsTimers s g u
 fits_of s g t u l flies inits cookies unsent = record {
-  flies = subst (λ (z : Option ℕ). Flies (is_established s) g u.t3_rtx z) (sym l.data_limit) flies;
+  flies = subst (λ (z : Option ℕ). Flies (sends_data s) g u.t3_rtx z) (sym l.data_limit) flies;
   inits = subst (λ (z : Option ℕ). Waits (is_cookie_wait s) u.t1_init z) (sym l.handshake_limit) inits;
   cookies = subst (λ (z : Option ℕ). Waits (is_cookie_echoed s) u.t1_cookie z) (sym l.handshake_limit) cookies;
   unsent = unsent;
 }
 
-pub flies_still : (established : Bool) (f : List InFlight) (x y : TimerState) (l : Option ℕ) → y ≡ x
-    → Flies established f x l → Flies established f y l
-flies_still established f x y l e h = subst (λ (z : TimerState). Flies established f z l) (sym e) h
+pub flies_still : (sends : Bool) (f : List InFlight) (x y : TimerState) (l : Option ℕ) → y ≡ x
+    → Flies sends f x l → Flies sends f y l
+flies_still sends f x y l e h = subst (λ (z : TimerState). Flies sends f z l) (sym e) h
 
 pub waits_still : (there : Bool) (x y : TimerState) (l : Option ℕ) → y ≡ x → Waits there x l → Waits there y l
 waits_still there x y l e h = subst (λ (z : TimerState). Waits there z l) (sym e) h
@@ -68,7 +72,7 @@ module _ (s : AssociationState) (f : List InFlight) (t : Timers) (now : ℕ) (u 
       let due = is_due t.t1_init.moment now in
       let x : Timers = with_timer names.T1Init (expired_state t.t1_init) t in
       fits_of s f t u (limits_kept due x t u record { data_limit = refl; handshake_limit = refl } l)
-      (flies_still (is_established s) f t.t3_rtx u.t3_rtx t.data_limit
+      (flies_still (sends_data s) f t.t3_rtx u.t3_rtx t.data_limit
       (a ∙ kept_if due x t (λ (z : Timers). z.t3_rtx) refl) h.flies) w
       (waits_still (is_cookie_echoed s) t.t1_cookie u.t1_cookie t.handshake_limit
       (b ∙ kept_if due x t (λ (z : Timers). z.t1_cookie) refl) h.cookies) h.unsent
@@ -81,7 +85,7 @@ module _ (s : AssociationState) (f : List InFlight) (t : Timers) (now : ℕ) (u 
       let due = is_due t.t1_cookie.moment now in
       let x : Timers = with_timer names.T1Cookie (expired_state t.t1_cookie) t in
       fits_of s f t u (limits_kept due x t u record { data_limit = refl; handshake_limit = refl } l)
-      (flies_still (is_established s) f t.t3_rtx u.t3_rtx t.data_limit
+      (flies_still (sends_data s) f t.t3_rtx u.t3_rtx t.data_limit
       (a ∙ kept_if due x t (λ (z : Timers). z.t3_rtx) refl) h.flies)
       (waits_still (is_cookie_wait s) t.t1_init u.t1_init t.handshake_limit
       (b ∙ kept_if due x t (λ (z : Timers). z.t1_init) refl) h.inits) w h.unsent
@@ -89,7 +93,7 @@ module _ (s : AssociationState) (f : List InFlight) (t : Timers) (now : ℕ) (u 
   t3_fits : (g : List InFlight) → u.t1_init ≡ (after_expiry names.T3RTX now t).t1_init
       → u.t1_cookie ≡ (after_expiry names.T3RTX now t).t1_cookie
       → HasLimits (after_expiry names.T3RTX now t) u
-      → Flies (is_established s) g u.t3_rtx t.data_limit → (is_beginning s ≡ true → g ≡ [])
+      → Flies (sends_data s) g u.t3_rtx t.data_limit → (is_beginning s ≡ true → g ≡ [])
       → FitsTimers s g u
   t3_fits g a b l flies unsent =
       let due = is_due t.t3_rtx.moment now in
@@ -205,6 +209,39 @@ t1_cookie_ticks true false a now d e h =
           refl) h.acks;
     })
 
+-- The timer of the answer to SHUTDOWN or SHUTDOWN ACK, at which none of this looks
+
+-- it expired, and runs again
+abbrev answer_again : Bool → ℕ → ℕ → Timers → Timers
+answer_again due now rto t =
+    started names.T2Shutdown now rto (with_moment names.T2Shutdown None
+    (if due then with_timer names.T2Shutdown (expired_state t.t2_shutdown) t else t))
+
+t2_fits : (expired due : Bool) (s : AssociationState) (f : List InFlight) (t : Timers) (now rto : ℕ)
+    → FitsTimers s f t → FitsTimers s f (if expired then answer_again due now rto t else t)
+t2_fits true true s f t now rto h =
+    record { flies = h.flies; inits = h.inits; cookies = h.cookies; unsent = h.unsent }
+t2_fits true false s f t now rto h =
+    record { flies = h.flies; inits = h.inits; cookies = h.cookies; unsent = h.unsent }
+t2_fits false due s f t now rto h = h
+
+t2_acks : (expired due : Bool) (s : AckState) (t : Timers) (now rto : ℕ) → is_some t.ack.moment ≡ is_delayed s
+    → is_some (if expired then answer_again due now rto t else t).ack.moment ≡ is_delayed s
+t2_acks true true s t now rto h = h
+t2_acks true false s t now rto h = h
+t2_acks false due s t now rto h = h
+
+t2_ticks : (a : Shown) (now : ℕ) → Ticks a → Ticks (after_t2_shutdown a now)
+t2_ticks a now h =
+    let expired = (expiry_of names.T2Shutdown now a.timers).expired in
+    let due = is_due a.timers.t2_shutdown.moment now in
+    record {
+      working = h.working;
+      not_lost = h.not_lost;
+      fits = t2_fits expired due a.state a.sender.queue.in_flight a.timers now a.estimate.rto h.fits;
+      acks = t2_acks expired due a.receiver.ack_state a.timers now a.estimate.rto h.acks;
+    }
+
 -- The retransmission timer
 
 map_nil : (f : List InFlight) → map marked_again f ≡ [] → f ≡ []
@@ -259,7 +296,7 @@ ack_fits s f t now h =
       data_limit = refl;
       handshake_limit = refl;
     })
-    (flies_still (is_established s) f t.t3_rtx u.t3_rtx t.data_limit (kept_if due x t (λ (z : Timers). z.t3_rtx) refl)
+    (flies_still (sends_data s) f t.t3_rtx u.t3_rtx t.data_limit (kept_if due x t (λ (z : Timers). z.t3_rtx) refl)
     h.flies)
     (waits_still (is_cookie_wait s) t.t1_init u.t1_init t.handshake_limit
     (kept_if due x t (λ (z : Timers). z.t1_init) refl) h.inits)
@@ -284,15 +321,16 @@ pub timeouts_tick : (a : Shown) (now : ℕ) → Ticks a → Ticks (after_timeout
 timeouts_tick a now h =
     let b : Shown = after_t1_init a now in
     let c : Shown = after_handshake_timers a now in
-    let d : Shown = after_t3 c now in
+    let f : Shown = after_shutdown_timer a now in
+    let d : Shown = after_t3 f now in
     let hb : Ticks b =
     t1_init_ticks (expiry_of names.T1Init now a.timers).expired (expiry_of names.T1Init now a.timers).failed a
     now refl refl h in
     let hc : Ticks c = t1_cookie_ticks (expiry_of names.T1Cookie now b.timers).expired
     (expiry_of names.T1Cookie now b.timers).failed b now refl refl hb in
     let hd : Ticks d =
-    t3_ticks (expiry_of names.T3RTX now c.timers).expired (expiry_of names.T3RTX now c.timers).failed c now
-    refl refl hc in
+    t3_ticks (expiry_of names.T3RTX now f.timers).expired (expiry_of names.T3RTX now f.timers).failed f now
+    refl refl (t2_ticks c now hc) in
     let e : Shown = after_reconfig_timer d now in
     delay_ticks e now (ticks_beside d e (reconfig_timer_changes d now) hd)
 
@@ -305,12 +343,24 @@ quiet false x y e = refl
 undue : (o : Option ℕ) (now : ℕ) → o ≡ None → is_due o now ≡ false
 undue o now e = unarmed_is_not_due o now (ap (λ (z : Option ℕ). is_some z) e)
 
+quiet_answer : (expired : Bool) (a : Shown) (t : Timers) (due : ShutdownDue) → expired ≡ false
+    → ◌≡◌ {A = Shown} (record a {
+      timers = if expired then t else a.timers;
+      shutdown_due = if expired then due else a.shutdown_due;
+    }) a
+quiet_answer true a t due e = absurd (true≢false e)
+quiet_answer false a t due e = refl
+
 pub unarmed_timeouts_do_nothing : (a : Shown) (now : ℕ) → IsNoneArmed a.timers → after_timeouts a now ≡ a
 unarmed_timeouts_do_nothing a now h =
-    ap (λ (z : Shown). after_ack_delay (after_reconfig_timer (after_t3 (after_t1_cookie z now) now) now) now)
+    ap (λ (z : Shown).
+    after_ack_delay (after_reconfig_timer (after_t3 (after_t2_shutdown (after_t1_cookie z now) now) now) now) now)
     (quiet (expiry_of names.T1Init now a.timers).expired _ a (undue a.timers.t1_init.moment now (h names.T1Init)))
-    ∙ ap (λ (z : Shown). after_ack_delay (after_reconfig_timer (after_t3 z now) now) now)
+    ∙ ap (λ (z : Shown). after_ack_delay (after_reconfig_timer (after_t3 (after_t2_shutdown z now) now) now) now)
     (quiet (expiry_of names.T1Cookie now a.timers).expired _ a (undue a.timers.t1_cookie.moment now (h names.T1Cookie)))
+    ∙ ap (λ (z : Shown). after_ack_delay (after_reconfig_timer (after_t3 z now) now) now)
+    (quiet_answer (expiry_of names.T2Shutdown now a.timers).expired a _ _
+    (undue a.timers.t2_shutdown.moment now (h names.T2Shutdown)))
     ∙ ap (λ (z : Shown). after_ack_delay (after_reconfig_timer z now) now)
     (quiet (expiry_of names.T3RTX now a.timers).expired _ a (undue a.timers.t3_rtx.moment now (h names.T3RTX)))
     ∙ ap (λ (z : Shown). after_ack_delay z now) (quiet (expiry_of names.Reconfig now a.timers).expired _ a

@@ -3,24 +3,30 @@ use Rattle.std.proofs.Common.{if◌then◌else◌, ◌≡◌, refl, sym, ap, ◌
 use Rattle.std.proofs.Common.{true, false, List, [], ◌∷◌, length, Option, Some, None, is_some}
 use Rattle.std.proofs.lemmas.Bool.{false≢true, true≢false}
 use Rattle.std.proofs.lemmas.List.{nil_from_length}
+use Rattle.sctp_wire_types.specs.declared.error.Error.{Error}
 use Rattle.sctp_parts.specs.declared.state.AckState.{AckState}
 use Rattle.sctp_parts.specs.declared.state.AssociationState.{AssociationState}
 use Rattle.sctp_parts.specs.declared.state.AssociationState.TheVariants as states
 use Rattle.sctp_parts.specs.declared.timer.Timer.{Timer}
 use Rattle.sctp_parts.specs.declared.timer.Timer.TheVariants as names
 use Rattle.sctp_parts.specs.Timers.{IsNoneArmed, TimerState, Timers, is_ahead, is_due, moment_of, passes}
-use Rattle.sctp_parts.specs.Timers.{restarted_if_stale, started}
+use Rattle.sctp_parts.specs.Timers.{restarted_if_stale, started, with_stopped}
+use Rattle.sctp_parts.specs.State.{is_closing}
 use Rattle.sctp_outbound_queue.specs.declared.message.InFlight.{InFlight}
 use Rattle.sctp_reset_requests.specs.Own.{OwnView}
-use Rattle.sctp_assoc.specs.Calls.{is_beginning, is_cookie_echoed, is_cookie_wait, is_established}
+use Rattle.sctp_assoc.specs.Calls.{exchanges_data, is_beginning, is_cookie_echoed, is_cookie_wait, is_established}
+use Rattle.sctp_assoc.specs.Calls.{sends_data}
 use Rattle.sctp_assoc.specs.Closing.{is_closed_state}
 use Rattle.sctp_sides.specs.OneSide.{is_armed, is_delayed}
 use Rattle.sctp_assoc.specs.Shown.{Shown, all_stopped}
+use Rattle.sctp_assoc.specs.Shutdown.{all_acknowledged, awaits_answer, shutdown_answered, shutdown_continued}
+use Rattle.sctp_assoc.specs.Shutdown.{shutdown_taken, state_at_shutdown, state_behind_data}
 use Rattle.sctp_sides.proofs.ResetsBeside.{ChangesResets, with_resets_of}
 
--- T3-rtx runs where DATA is in flight in Established, or is past its limit; with nothing in flight it does not run.
-pub record Flies (established : Bool) (flown : List InFlight) (t3 : TimerState) (limit : Option ℕ) : Type 0 where
-  pub timed : established ≡ true → 0 < length flown → (is_some t3.moment ≡ true) ⊎ (passes t3.retries limit ≡ true)
+-- T3-rtx runs where DATA is in flight in a state that sends it, or is past its limit; with nothing in flight it does
+-- not run.
+pub record Flies (sends : Bool) (flown : List InFlight) (t3 : TimerState) (limit : Option ℕ) : Type 0 where
+  pub timed : sends ≡ true → 0 < length flown → (is_some t3.moment ≡ true) ⊎ (passes t3.retries limit ≡ true)
   pub none : flown ≡ [] → is_some t3.moment ≡ false
 
 -- A timer of the handshake runs in its state alone, and there it does, or is past its limit.
@@ -31,7 +37,7 @@ pub record Waits (there : Bool) (timer : TimerState) (limit : Option ℕ) : Type
 -- the timers of DATA and of the handshake
 pub record AreTimersOf (state : AssociationState) (flown : List InFlight) (t3 init cookie : TimerState)
     (data_limit handshake_limit : Option ℕ) : Type 0 where
-  pub flies : Flies (is_established state) flown t3 data_limit
+  pub flies : Flies (sends_data state) flown t3 data_limit
   pub inits : Waits (is_cookie_wait state) init handshake_limit
   pub cookies : Waits (is_cookie_echoed state) cookie handshake_limit
   -- before it is established nothing was sent
@@ -147,8 +153,50 @@ established_begins_no_more states.ShutdownPending e = refl
 established_begins_no_more states.ShutdownReceived e = refl
 established_begins_no_more states.ShutdownSent e = refl
 
+pub sending_begins_no_more : (s : AssociationState) → sends_data s ≡ true → is_beginning s ≡ false
+sending_begins_no_more states.Closed e = absurd (false≢true e)
+sending_begins_no_more states.CookieWait e = absurd (false≢true e)
+sending_begins_no_more states.CookieEchoed e = absurd (false≢true e)
+sending_begins_no_more states.Established e = refl
+sending_begins_no_more states.ShutdownAckSent e = refl
+sending_begins_no_more states.ShutdownPending e = refl
+sending_begins_no_more states.ShutdownReceived e = refl
+sending_begins_no_more states.ShutdownSent e = refl
+
+pub exchanging_begins_no_more : (s : AssociationState) → exchanges_data s ≡ true → is_beginning s ≡ false
+exchanging_begins_no_more states.Closed e = absurd (false≢true e)
+exchanging_begins_no_more states.CookieWait e = absurd (false≢true e)
+exchanging_begins_no_more states.CookieEchoed e = absurd (false≢true e)
+exchanging_begins_no_more states.Established e = refl
+exchanging_begins_no_more states.ShutdownAckSent e = refl
+exchanging_begins_no_more states.ShutdownPending e = refl
+exchanging_begins_no_more states.ShutdownReceived e = refl
+exchanging_begins_no_more states.ShutdownSent e = refl
+
+-- in Closed no DATA is exchanged, and no shutdown goes on
+pub closed_gives_nothing : (s : AssociationState) → is_closed_state s ≡ true
+    → (exchanges_data s ≡ false) × (is_closing s ≡ false)
+closed_gives_nothing states.Closed e = (refl, refl)
+closed_gives_nothing states.CookieWait e = absurd (false≢true e)
+closed_gives_nothing states.CookieEchoed e = absurd (false≢true e)
+closed_gives_nothing states.Established e = absurd (false≢true e)
+closed_gives_nothing states.ShutdownAckSent e = absurd (false≢true e)
+closed_gives_nothing states.ShutdownPending e = absurd (false≢true e)
+closed_gives_nothing states.ShutdownReceived e = absurd (false≢true e)
+closed_gives_nothing states.ShutdownSent e = absurd (false≢true e)
+
+pub closed_is_not_established : (s : AssociationState) → is_closed_state s ≡ true → is_established s ≡ false
+closed_is_not_established states.Closed e = refl
+closed_is_not_established states.CookieWait e = refl
+closed_is_not_established states.CookieEchoed e = refl
+closed_is_not_established states.Established e = absurd (false≢true e)
+closed_is_not_established states.ShutdownAckSent e = refl
+closed_is_not_established states.ShutdownPending e = refl
+closed_is_not_established states.ShutdownReceived e = refl
+closed_is_not_established states.ShutdownSent e = refl
+
 pub closed_waits_for_nothing : (s : AssociationState) → is_closed_state s ≡ true
-    → (is_established s ≡ false) × (is_cookie_wait s ≡ false) × (is_cookie_echoed s ≡ false)
+    → (sends_data s ≡ false) × (is_cookie_wait s ≡ false) × (is_cookie_echoed s ≡ false)
 closed_waits_for_nothing states.Closed e = (refl, refl, refl)
 closed_waits_for_nothing states.CookieWait e = absurd (false≢true e)
 closed_waits_for_nothing states.CookieEchoed e = absurd (false≢true e)
@@ -158,16 +206,17 @@ closed_waits_for_nothing states.ShutdownPending e = absurd (false≢true e)
 closed_waits_for_nothing states.ShutdownReceived e = absurd (false≢true e)
 closed_waits_for_nothing states.ShutdownSent e = absurd (false≢true e)
 
-pub established_shakes_no_hands : (s : AssociationState) → is_established s ≡ true
+-- from Established on neither INIT nor COOKIE ECHO waits for an answer
+pub begun_shakes_no_hands : (s : AssociationState) → is_beginning s ≡ false
     → (is_cookie_wait s ≡ false) × (is_cookie_echoed s ≡ false)
-established_shakes_no_hands states.Closed e = absurd (false≢true e)
-established_shakes_no_hands states.CookieWait e = absurd (false≢true e)
-established_shakes_no_hands states.CookieEchoed e = absurd (false≢true e)
-established_shakes_no_hands states.Established e = (refl, refl)
-established_shakes_no_hands states.ShutdownAckSent e = absurd (false≢true e)
-established_shakes_no_hands states.ShutdownPending e = absurd (false≢true e)
-established_shakes_no_hands states.ShutdownReceived e = absurd (false≢true e)
-established_shakes_no_hands states.ShutdownSent e = absurd (false≢true e)
+begun_shakes_no_hands states.Closed e = absurd (true≢false e)
+begun_shakes_no_hands states.CookieWait e = absurd (true≢false e)
+begun_shakes_no_hands states.CookieEchoed e = absurd (true≢false e)
+begun_shakes_no_hands states.Established e = (refl, refl)
+begun_shakes_no_hands states.ShutdownAckSent e = (refl, refl)
+begun_shakes_no_hands states.ShutdownPending e = (refl, refl)
+begun_shakes_no_hands states.ShutdownReceived e = (refl, refl)
+begun_shakes_no_hands states.ShutdownSent e = (refl, refl)
 
 -- All timers stopped
 
@@ -265,3 +314,99 @@ restarted_keeps_ack now rto t = kept (is_ahead (moment_of names.T3RTX t) now)
     kept : (c : Bool) → (if c then t else started names.T3RTX now rto t).ack ≡ t.ack
     kept true = refl
     kept false = refl
+
+-- A shutdown
+
+-- where a shutdown that begins is not refused it is established
+pub begins_established : (failed established : Bool) (x y : Error)
+    → (if failed then Some x else (if established then None else Some y)) ≡ None → established ≡ true
+begins_established true established x y e = absurd (true≢false (ap (λ (o : Option Error). is_some o) e))
+begins_established false true x y e = refl
+begins_established false false x y e = absurd (true≢false (ap (λ (o : Option Error). is_some o) e))
+
+-- A shutdown may have gone on from one state to the other: where DATA is sent still it was sent before, and the
+-- handshake is as far.
+pub record IsOnward (s t : AssociationState) : Type 0 where
+  pub sends : sends_data t ≡ true → sends_data s ≡ true
+  pub waits : is_cookie_wait t ≡ is_cookie_wait s
+  pub echoed : is_cookie_echoed t ≡ is_cookie_echoed s
+  pub begins : is_beginning t ≡ is_beginning s
+
+still_onward : (s : AssociationState) → IsOnward s s
+still_onward s = record { sends = λ e. e; waits = refl; echoed = refl; begins = refl }
+
+behind_data_onward : (s : AssociationState) → IsOnward s (state_behind_data s)
+behind_data_onward states.Closed = still_onward states.Closed
+behind_data_onward states.CookieWait = still_onward states.CookieWait
+behind_data_onward states.CookieEchoed = still_onward states.CookieEchoed
+behind_data_onward states.Established = still_onward states.Established
+behind_data_onward states.ShutdownAckSent = still_onward states.ShutdownAckSent
+behind_data_onward states.ShutdownPending =
+    record { sends = λ e. refl; waits = refl; echoed = refl; begins = refl }
+behind_data_onward states.ShutdownReceived =
+    record { sends = λ e. refl; waits = refl; echoed = refl; begins = refl }
+behind_data_onward states.ShutdownSent = still_onward states.ShutdownSent
+
+pub continued_onward : (acknowledged : Bool) (s : AssociationState)
+    → IsOnward s (if acknowledged then state_behind_data s else s)
+continued_onward true s = behind_data_onward s
+continued_onward false s = still_onward s
+
+pub taken_onward : (acknowledged : Bool) (s : AssociationState) → IsOnward s (state_at_shutdown acknowledged s)
+taken_onward acknowledged states.Closed = still_onward states.Closed
+taken_onward acknowledged states.CookieWait = still_onward states.CookieWait
+taken_onward acknowledged states.CookieEchoed = still_onward states.CookieEchoed
+taken_onward true states.Established = record { sends = λ e. refl; waits = refl; echoed = refl; begins = refl }
+taken_onward false states.Established = record { sends = λ e. refl; waits = refl; echoed = refl; begins = refl }
+taken_onward acknowledged states.ShutdownAckSent = still_onward states.ShutdownAckSent
+taken_onward acknowledged states.ShutdownPending = still_onward states.ShutdownPending
+taken_onward acknowledged states.ShutdownReceived = still_onward states.ShutdownReceived
+taken_onward acknowledged states.ShutdownSent =
+    record { sends = λ e. absurd (false≢true e); waits = refl; echoed = refl; begins = refl }
+
+pub onward_fits : (s z : AssociationState) (f : List InFlight) (t : Timers) → IsOnward s z → FitsTimers s f t
+    → FitsTimers z f t
+onward_fits s z f t on h = record {
+  flies = record { timed = λ e. h.flies.timed (on.sends e); none = h.flies.none };
+  inits = subst (λ (there : Bool). Waits there t.t1_init t.handshake_limit) (sym on.waits) h.inits;
+  cookies = subst (λ (there : Bool). Waits there t.t1_cookie t.handshake_limit) (sym on.echoed) h.cookies;
+  unsent = λ e. h.unsent (sym on.begins ∙ e);
+}
+
+-- a shutdown that goes on behind DATA, SHUTDOWN and SHUTDOWN ACK keep the timers that this looks at
+pub continued_ticks : (a : Shown) → Ticks a → Ticks (shutdown_continued a)
+continued_ticks a h = record {
+  working = h.working;
+  not_lost = h.not_lost;
+  fits = onward_fits a.state (shutdown_continued a).state a.sender.queue.in_flight a.timers
+      (continued_onward (all_acknowledged a) a.state) h.fits;
+  acks = h.acks;
+}
+
+pub shutdown_taken_ticks : (a : Shown) → Ticks a → Ticks (shutdown_taken a)
+shutdown_taken_ticks a h = record {
+  working = h.working;
+  not_lost = h.not_lost;
+  fits = onward_fits a.state (shutdown_taken a).state a.sender.queue.in_flight a.timers
+      (taken_onward (all_acknowledged a) a.state) h.fits;
+  acks = h.acks;
+}
+
+-- the timer of the answer stopped, or not
+answer_stopped_fits : (stops : Bool) (s : AssociationState) (f : List InFlight) (t : Timers) → FitsTimers s f t
+    → FitsTimers s f (if stops then with_stopped names.T2Shutdown t else t)
+answer_stopped_fits true s f t h = record { flies = h.flies; inits = h.inits; cookies = h.cookies; unsent = h.unsent }
+answer_stopped_fits false s f t h = h
+
+answer_stopped_acks : (stops : Bool) (s : AckState) (t : Timers) → is_some t.ack.moment ≡ is_delayed s
+    → is_some (if stops then with_stopped names.T2Shutdown t else t).ack.moment ≡ is_delayed s
+answer_stopped_acks true s t h = h
+answer_stopped_acks false s t h = h
+
+pub shutdown_answered_ticks : (a : Shown) → Ticks a → Ticks (shutdown_answered a)
+shutdown_answered_ticks a h = record {
+  working = h.working;
+  not_lost = h.not_lost;
+  fits = answer_stopped_fits (awaits_answer a.state) a.state a.sender.queue.in_flight a.timers h.fits;
+  acks = answer_stopped_acks (awaits_answer a.state) a.receiver.ack_state a.timers h.acks;
+}

@@ -4,6 +4,7 @@ use Rattle.std.proofs.Common.{Bool, true, false, not, ◌&&◌, if◌then◌else
 use Rattle.std.proofs.Common.{slice_get, Option, Some, None, Ok}
 use Rattle.std.specs.List.{AllByRecursion, filter, list_any}
 use Rattle.std.proofs.lemmas.Bool.{cond-false, cond-true, lt-ltb}
+use Rattle.std.proofs.lemmas.List.{append_assoc}
 use Rattle.std.proofs.lemmas.List.Sums.{sum_by-cons}
 use Rattle.sctp_wire_types.specs.declared.chunk.ChunkPayloadData.{ChunkPayloadData}
 use Rattle.sctp_wire_types.specs.declared.packet.CommonHeader.{CommonHeader}
@@ -33,18 +34,21 @@ use Rattle.sctp_outbound.specs.Sender.{first_counted, marked_by, missing_by, nex
 use Rattle.sctp_outbound.specs.Sender.{resent_chunks, resent_pieces, sent_new, sent_one, sent_within}
 use Rattle.sctp_directions.specs.Acts.{Act, Parts, all_data_given, done_all}
 use Rattle.sctp_assoc.specs.Leads.{parts}
-use Rattle.sctp_assoc.specs.Happened.{acts_of_ack, acts_of_data_poll, acts_of_forwarding, forwards_of_poll}
-use Rattle.sctp_assoc.specs.Calls.{is_established}
+use Rattle.sctp_assoc.specs.Happened.{acts_of_ack, acts_of_data_poll, acts_of_ending, acts_of_exchange}
+use Rattle.sctp_assoc.specs.Happened.{acts_of_forwarding, forwards_of_poll}
+use Rattle.sctp_assoc.specs.Calls.{exchanges_data}
 use Rattle.sctp_sides.specs.Laws.{IsNextWithNothingInFlight, IsNotLate, PollsBeginWithWhatWaits, WhatWaitsIsGiven}
 use Rattle.sctp_sides.specs.Laws.{WhatWaitsIsPolled}
 use Rattle.sctp_assoc.specs.Gather.{both_of, control_polled, data_polled, exchange_polled, fast_polled, fast_sent}
-use Rattle.sctp_assoc.specs.Gather.{late_abandoned, late_dropped, marks_polled, marks_sent, new_sent, spent_abandoned}
+use Rattle.sctp_assoc.specs.Gather.{late_abandoned, late_dropped, marks_polled, marks_sent, new_sent, open_polled}
+use Rattle.sctp_assoc.specs.Gather.{shutdown_polled, spent_abandoned}
 use Rattle.sctp_assoc.specs.Shown.{Shown, uses_forward_tsn}
 use Rattle.sctp_assoc.proofs.ActsKeepOffsets.{given_append}
 use Rattle.sctp_assoc.proofs.PolledSteps.{data_of_poll, data_poll_carries, data_poll_gives}
 use Rattle.sctp_sides.proofs.BundlesFilled.{IsFilled, polled_bundles_are_filled}
 use Rattle.sctp_sides.proofs.GivingUpKeeps.{as_both}
-use Rattle.sctp_sides.proofs.PollsLeave.{control_leaves, exchange_said, polled_gives_behind}
+use Rattle.sctp_sides.proofs.EndedPolls.{polled_gives_last}
+use Rattle.sctp_sides.proofs.PollsLeave.{control_leaves, exchange_said, front_gives}
 use Rattle.sctp_assoc.proofs.GivenApart.{with_own_control}
 
 -- lists that begin with something go on beginning with it
@@ -317,7 +321,7 @@ first_due q own base e f =
     ∙ ap (λ (z : List InFlight). (tsn own base + length z) % 2 ^ 32) f ∙ omega arith
 
 pub what_waits_is_given : WhatWaitsIsGiven
-what_waits_is_given a h now m established binds next kept =
+what_waits_is_given a h now m exchanges binds next kept =
     let gives = data_poll_gives a now h binds.first binds.marked in
     let forward = acts_of_forwarding (forwards_of_poll a now) in
     let first : slice_get (all_data_given (acts_of_data_poll a now) (parts a h)) 0
@@ -327,12 +331,17 @@ what_waits_is_given a h now m established binds next kept =
     first_due a.sender.queue h.own h.base binds.first next.flown in
     let p : Parts = parts a h in
     let both = acts_of_data_poll a now ++ acts_of_ack a in
+    let exchange = acts_of_exchange a now in
+    let ending = acts_of_ending (open_polled a now).0 in
+    let given : slice_get (all_data_given exchange p) 0 ≡ Some (next_chunk_of m (tsn h.own h.base)) =
     ap (λ (xs : List Act). slice_get (all_data_given xs p) 0)
-    (cond-true (is_established a.state) (acts_of_data_poll a now ++ acts_of_ack a ++ forward) [] established)
+    (cond-true (exchanges_data a.state) (acts_of_data_poll a now ++ acts_of_ack a ++ forward) [] exchanges)
     ∙ ap (λ (z : List ChunkPayloadData). slice_get z 0) (given_append both forward p
     ∙ ap (λ (z : List ChunkPayloadData). z ++ all_data_given forward (done_all both p))
     (given_append (acts_of_data_poll a now) (acts_of_ack a) p))
-    ∙ first_before _ _ _ (first_before _ _ _ (first ∙ ap (λ (t : ℕ). Some (next_chunk_of m t)) due))
+    ∙ first_before _ _ _ (first_before _ _ _ (first ∙ ap (λ (t : ℕ). Some (next_chunk_of m t)) due)) in
+    ap (λ (z : List ChunkPayloadData). slice_get z 0) (given_append exchange ending p)
+    ∙ first_before (all_data_given exchange p) (all_data_given ending (done_all exchange p)) _ given
 
 pub fits_written : (p : Packet) → packet_fits p ≡ true → written p ≡ Ok (spelling p)
 unfolding written
@@ -350,17 +359,17 @@ first_bundle header ((d ∷ ds) ∷ bs) c filled e =
     let same : d ≡ c = cc in (ds, ap (λ (z : ChunkPayloadData). Some (spelling (data_packet header (z ∷ ds)))) same)
 
 -- what stands in front of a poll's packets of DATA waited
-exchange_begins : (a : Shown) (now : ℕ) (m : Waiting) → is_established a.state ≡ true → IsNextWithNothingInFlight a m
+exchange_begins : (a : Shown) (now : ℕ) (m : Waiting) → exchanges_data a.state ≡ true → IsNextWithNothingInFlight a m
     → IsNotLate a now m → length m.user_data ≤ 65519
     → (rest : List ChunkPayloadData)
     × (slice_get (exchange_polled a now).1 0 ≡ Some
     (spelling (data_packet (header_of a.handshake) (next_chunk_of m (next_tsn_of a.sender.queue) ∷ rest))))
-exchange_begins a now m established next kept short =
+exchange_begins a now m exchanges next kept short =
     let first =
     first_bundle (header_of a.handshake) (data_polled a now).1 (next_chunk_of m (next_tsn_of a.sender.queue))
     (polled_bundles_are_filled a now) (what_waits_is_polled a now m next kept short) in (
       first.0,
-      ap (λ (z : List (List ℕ)). slice_get z 0) (exchange_said a now established)
+      ap (λ (z : List (List ℕ)). slice_get z 0) (exchange_said a now exchanges)
           ∙ first_before _ _ _ (first_before _ _ _ (first_before _ _ _ first.1)),
     )
 
@@ -369,14 +378,20 @@ behind [] ys = refl
 behind (x ∷ xs) ys = behind xs ys
 
 pub polls_begin_with_what_waits : PollsBeginWithWhatWaits
-polls_begin_with_what_waits a now m established next kept short =
+polls_begin_with_what_waits a now m exchanges next kept short =
     let b = (control_polled a).0 in
     let c : Shown = with_own_control a b.resets.own b.control in
     let waits : IsNextWithNothingInFlight c
     m = record { others = next.others; waits = next.waits; flown = next.flown } in
-    let first = exchange_begins c now m established waits kept short in (
+    let first = exchange_begins c now m exchanges waits kept short in
+    let control = (control_polled a).1 in
+    let exchange = (exchange_polled b now).1 in
+    let ending = (shutdown_polled (open_polled a now).0 now).1 in
+    let begins = ap (λ (z : Shown). slice_get (exchange_polled z now).1 0) (control_leaves a) ∙ first.1 in (
       first.0,
-      ap (λ (z : List (List ℕ)). slice_get z (length (control_polled a).1)) (polled_gives_behind a now)
-          ∙ behind (control_polled a).1 (exchange_polled b now).1
-          ∙ ap (λ (z : Shown). slice_get (exchange_polled z now).1 0) (control_leaves a) ∙ first.1,
+      ap (λ (z : List (List ℕ)). slice_get z (length control))
+          (polled_gives_last a now ∙ ap (λ (z : List (List ℕ)). z ++ ending) (front_gives a now)
+          ∙ append_assoc control exchange ending)
+          ∙ behind control (exchange ++ ending)
+          ∙ first_before exchange ending _ begins,
     )

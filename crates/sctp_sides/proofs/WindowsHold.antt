@@ -20,10 +20,12 @@ use Rattle.sctp_outbound.specs.Abandonment.{abandoned_of, first_dropped, tail_gi
 use Rattle.sctp_outbound.specs.Forward.{forward_given}
 use Rattle.sctp_outbound.specs.Sender.{can_send_next, fits_windows, sent_new, sent_one, sent_within}
 use Rattle.sctp_directions.specs.Acts.{Act}
-use Rattle.sctp_assoc.specs.Calls.{is_established}
-use Rattle.sctp_assoc.specs.Gather.{data_polled, fast_polled, is_due, late_dropped, polled}
-use Rattle.sctp_assoc.specs.Happened.{acts_of_ack, acts_of_data_poll, acts_of_forwarding, acts_of_new}
-use Rattle.sctp_assoc.specs.Happened.{acts_of_sending, first_sent, forwards_of_poll}
+use Rattle.sctp_assoc.specs.Calls.{exchanges_data}
+use Rattle.sctp_assoc.specs.Gather.{data_polled, fast_polled, is_due, late_dropped, open_polled, polled}
+use Rattle.sctp_assoc.specs.Happened.{acts_of_ack, acts_of_data_poll, acts_of_ending, acts_of_exchange}
+use Rattle.sctp_assoc.specs.Happened.{acts_of_forwarding, acts_of_new, acts_of_poll, acts_of_sending, first_sent}
+use Rattle.sctp_assoc.specs.Happened.{forwards_of_poll}
+use Rattle.sctp_assoc.specs.Shutdown.{completes_shutdown}
 use Rattle.sctp_assoc.specs.Shown.{Shown, uses_forward_tsn}
 use Rattle.sctp_sides.specs.Laws.{NewDataStaysInTheCongestionWindow}
 use Rattle.sctp_sides.specs.SideLaws.{GivesUpOrAgain}
@@ -272,29 +274,35 @@ data_sender : (a : Shown) (now : ℕ)
 unfolding data_polled
 data_sender a now = refl
 
-polled_sender : (a : Shown) (now : ℕ) → is_established a.state ≡ true
+polled_sender : (a : Shown) (now : ℕ) → exchanges_data a.state ≡ true
     → (polled a now).0.sender
     ≡ forward_given (sent_new (late_dropped (fast_polled a now) now).sender now).0
 polled_sender a now e = sender_left a now e ∙ ap (λ (z : Sender). forward_given z) (data_sender a now)
 
-window_in : (established : Bool) (a : Shown) (now index at : ℕ) → is_established a.state ≡ established
+window_in : (exchanges : Bool) (a : Shown) (now : ℕ) → exchanges_data a.state ≡ exchanges
     → a.sender.congestion.cwnd < 2 ^ 32
-    → slice_get (if established then
-    acts_of_data_poll a now ++ acts_of_ack a ++ acts_of_forwarding (forwards_of_poll a now) else []) index
-    ≡ Some (Act.Sent at)
+    → list_any is_sent (if exchanges then
+    acts_of_data_poll a now ++ acts_of_ack a ++ acts_of_forwarding (forwards_of_poll a now) else []) ≡ true
     → IsWithinWindow (polled a now).0.sender ⊎ (length (polled a now).0.sender.queue.in_flight ≡ 1)
-window_in false a now index at e bound sent = absurd cc
-window_in true a now index at e bound sent =
+window_in false a now e bound sent = absurd (false≢true sent)
+window_in true a now e bound sent =
     let d : Sender = (late_dropped (fast_polled a now) now).sender in
     let same : d.congestion.cwnd ≡ a.sender.congestion.cwnd =
     drops_poll_kept (HasWindow a.sender.congestion.cwnd) now a
     (polls_keep_the_window a.sender.congestion.cwnd (uses_forward_tsn a) now) refl in
-    let some =
-    sent_is_new a now (any_at
-    (acts_of_data_poll a now ++ acts_of_ack a ++ acts_of_forwarding (forwards_of_poll a now)) index at sent) in
     subst (λ (z : Sender). IsWithinWindow z ⊎ (length z.queue.in_flight ≡ 1)) (sym (polled_sender a now e))
-    (sent_stays d now (omega (arith, bound, same)) some)
+    (sent_stays d now (omega (arith, bound, same)) (sent_is_new a now sent))
+
+-- no DATA goes out by the end of a poll
+sent_in_front : (a : Shown) (now : ℕ) → list_any is_sent (acts_of_poll a now) ≡ true
+    → list_any is_sent (acts_of_exchange a now) ≡ true
+sent_in_front a now e =
+    let front = acts_of_exchange a now in
+    let ending = acts_of_ending (open_polled a now).0 in
+    first_of (list_any is_sent front) (list_any is_sent ending) (sym (list_any-append is_sent front ending) ∙ e)
+    (last_if (completes_shutdown (open_polled a now).0) Act.Ended refl)
 
 pub new_data_stays_in_the_congestion_window : NewDataStaysInTheCongestionWindow
 new_data_stays_in_the_congestion_window a now index at bound sent =
-    window_in (is_established a.state) a now index at refl bound sent
+    window_in (exchanges_data a.state) a now refl bound
+    (sent_in_front a now (any_at (acts_of_poll a now) index at sent))

@@ -32,7 +32,7 @@ use Rattle.sctp_outbound.proofs.SenderSteps.{pieces_full, pieces_sent, pieces_sk
 use Rattle.sctp_streams.specs.Stream.{StreamView}
 use Rattle.sctp_streams.specs.Streams.{StreamMap, stream_at}
 use Rattle.sctp_directions.specs.Acts.{message_of, type_on}
-use Rattle.sctp_assoc.specs.Calls.{is_established, written_at}
+use Rattle.sctp_assoc.specs.Calls.{exchanges_data, written_at}
 use Rattle.sctp_sides.specs.Laws.{IsDroppedAt, PollsKeepWhatIsHeld, WritesAreHeld, is_held}
 use Rattle.sctp_assoc.specs.Gather.{both_of, data_polled, fast_polled, late_dropped, polled}
 use Rattle.sctp_assoc.specs.Shown.{Shown, uses_forward_tsn}
@@ -590,7 +590,7 @@ data_held a now number held =
     (held_or (uses_forward_tsn a) a now number (both_of d) refl (before_new a now number held
     (held_at_first (uses_forward_tsn a) a.sender a.streams now number held)))
 
-polls_held_if : (c : Bool) (a : Shown) (now number : ℕ) → is_established a.state ≡ c
+polls_held_if : (c : Bool) (a : Shown) (now number : ℕ) → exchanges_data a.state ≡ c
     → is_held a.sender.queue number ≡ true
     → (is_held (polled a now).0.sender.queue number ≡ true) ⊎ IsDroppedAt a now number
 polls_held_if true a now number e held =
@@ -600,4 +600,4 @@ polls_held_if false a now number e held =
     inl (ap (λ (s : Sender). is_held s.queue number) (silent_sender a now e) ∙ held)
 
 pub polls_keep_what_is_held : PollsKeepWhatIsHeld
-polls_keep_what_is_held a now number held = polls_held_if (is_established a.state) a now number refl held
+polls_keep_what_is_held a now number held = polls_held_if (exchanges_data a.state) a now number refl held

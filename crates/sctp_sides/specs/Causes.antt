@@ -1,5 +1,5 @@
 -- What closes an association: the chunks that are faults, by what stands in them and in the state (RFC 4960
--- sections 3.3, 5 and 6.2.1).
+-- sections 3.3, 5 and 6.2.1), and the SHUTDOWN COMPLETE that ends a shutdown (section 9.2).
 use Rattle.std.specs.Prelude.{◌≡◌, ◌≢◌, ◌⊎◌, ◌↔◌, ◌≤◌, ◌<◌, ℕ, zero, suc, ◌+◌, ◌%◌, ◌^◌, true, false, List, [], ◌∷◌}
 use Rattle.std.specs.Prelude.{length, ◌-◌, min, Bool}
 use Rattle.std.specs.Prelude.{slice_get, Option, Some, None, Err, ⊤}
@@ -30,6 +30,7 @@ use Rattle.sctp_streams.specs.Streams.{StreamMap, bytes_waiting, live_streams}
 use Rattle.sctp_receive_queues.specs.Pieces.{bytes_of}
 use Rattle.sctp_receive_queues.specs.Reassembly.{ready}
 use Rattle.sctp_model.specs.Packets.{mem}
+use Rattle.sctp_assoc.specs.Calls.{sends_data}
 use Rattle.sctp_assoc.specs.Happened.{acts_of_chunk}
 use Rattle.sctp_assoc.specs.Leads.{Binds, parts}
 use Rattle.sctp_directions.specs.Acts.{History, IsNewTsn, Parts, done_all, reach_in}
@@ -120,10 +121,12 @@ pub record NamesNoPiece (a : Shown) (h : History) (sack : ChunkSelectiveAck) : T
   pub named : is_named offset sack.gap_ack_blocks ≡ true
   pub unsent : (index : ℕ) → index < length a.sender.queue.in_flight → count + offset ≢ index + 1
 
--- A SACK in Established acknowledges what is not in flight: its cumulative TSN ack is not behind the acknowledged one,
--- and it lies beyond what was sent, or the gap ack blocks name a TSN that no piece in flight has.
+-- A SACK, where it counts, in Established and in a shutdown until SHUTDOWN or SHUTDOWN ACK is due, acknowledges what is
+-- not in flight: its cumulative TSN ack
+-- is not behind the acknowledged one, and it lies beyond what was sent, or the gap ack blocks name a TSN that no piece
+-- in flight has.
 pub record AcknowledgesTheUnsent (a : Shown) (h : History) (sack : ChunkSelectiveAck) : Type 0 where
-  pub established : a.state ≡ states.Established
+  pub counts : sends_data a.state ≡ true
   pub not_behind : tsn_gt (tsn_before (tsn h.own h.base)) sack.cumulative_tsn_ack ≡ false
   pub unsent : IsBeyondTheSent a h sack.cumulative_tsn_ack ⊎ NamesNoPiece a h sack
 
@@ -155,8 +158,9 @@ is_second_of_reset (Some param) = is_of_reset param
 abbrev pub HasOtherParameter : ChunkReconfig → Type 0
 HasOtherParameter reconfig = (is_of_reset reconfig.first ≡ false) ⊎ (is_second_of_reset reconfig.second ≡ false)
 
--- what a chunk of each kind is a fault by; an ABORT or an ERROR always is one, and so is a chunk of a kind that is
--- not processed
+-- what a chunk of each kind is a fault by; an ABORT or an ERROR always is one, and so is a chunk of a kind that is not
+-- processed. A SHUTDOWN COMPLETE that answers this side's SHUTDOWN ACK is no fault, but closes, too (RFC 4960 section
+-- 9.2).
 abbrev pub IsCauseOfItsKind : Shown → History → CommonHeader → Chunk → Type 0
 IsCauseOfItsKind a h header (chunks.Data piece) =
     FitsNoMessage a h piece ⊎ (FitsNoLaterMessage a h piece ⊎ LeavesNothingToRead a h header piece)
@@ -171,6 +175,9 @@ IsCauseOfItsKind a h header (chunks.ForwardTsn forward) =
 IsCauseOfItsKind a h header (chunks.IForwardTsn forward) =
     PassesToNothingToRead a h header (chunks.IForwardTsn forward) forward.new_cumulative_tsn
 IsCauseOfItsKind a h header (chunks.Reconfig reconfig) = HasOtherParameter reconfig
+IsCauseOfItsKind a h header (chunks.Shutdown cumulative_tsn_ack) = ⊥
+IsCauseOfItsKind a h header chunks.ShutdownAck = ⊥
+IsCauseOfItsKind a h header chunks.ShutdownComplete = a.state ≡ states.ShutdownAckSent
 IsCauseOfItsKind a h header (chunks.Abort abort) = ⊤
 IsCauseOfItsKind a h header (chunks.Error error) = ⊤
 IsCauseOfItsKind a h header chunk = ⊤
@@ -181,18 +188,19 @@ IsCause a h header chunk = IsMalformed chunk ⊎ IsCauseOfItsKind a h header chu
 
 -- Chunks
 
--- a chunk is a fault, or finds or leaves the receive buffer exhausted
-abbrev pub IsFault : Shown × Flow → Type 0
-IsFault outcome = ((error : Error) × (outcome.1 ≡ flows.Fault error)) ⊎ (outcome.1 ≡ flows.Exhausted)
+-- a chunk is a fault, or ends a shutdown, or finds or leaves the receive buffer exhausted
+abbrev pub EndsThePacket : Shown × Flow → Type 0
+EndsThePacket outcome =
+    ((error : Error) × (outcome.1 ≡ flows.Fault error)) ⊎ ((outcome.1 ≡ flows.Closed) ⊎ (outcome.1 ≡ flows.Exhausted))
 
--- The faults are the causes, neither more nor fewer.
+-- What ends a packet so are the causes, neither more nor fewer.
 abbrev pub FaultsAreCauses : Type 0
 FaultsAreCauses = (a : Shown) (h : History) (header : CommonHeader) (chunk : Chunk) (trigger : AckTrigger) (now : ℕ)
-    → Binds a h → IsFault (on_chunk a header chunk trigger now) ↔ IsCause a h header chunk
+    → Binds a h → EndsThePacket (on_chunk a header chunk trigger now) ↔ IsCause a h header chunk
 
 -- Packets
 
--- the chunk at this index of a packet is reached, with the association so: none of those before it is a fault
+-- the chunk at this index of a packet is reached, with the association so: none of those before it ends the packet
 abbrev pub Reaches : CommonHeader → List Chunk → Shown → AckTrigger → ℕ → ℕ → Shown → Type 0
 Reaches header [] a trigger now index reached = ⊥
 Reaches header (c ∷ cs) a trigger now zero reached = reached ≡ a

@@ -34,16 +34,17 @@ use Rattle.sctp_assoc.specs.declared.inbound.Flow.TheVariants as flows
 use Rattle.sctp_assoc.specs.Leads.{Binds, parts}
 use Rattle.sctp_directions.specs.Acts.{Act, History, all_data_given, reach_in}
 use Rattle.sctp_fit.specs.Incoming.{tsn_before}
-use Rattle.sctp_assoc.specs.Calls.{accepted_stream, adjusted, is_established, opened, read_exhausts, read_from_stream}
+use Rattle.sctp_assoc.specs.Calls.{accepted_stream, adjusted, exchanges_data, is_established, opened}
+use Rattle.sctp_assoc.specs.Calls.{read_exhausts, read_from_stream}
 use Rattle.sctp_assoc.specs.Calls.{holds_of, stopped, stopped_open, with_max_send_message_size, written}
 use Rattle.sctp_assoc.specs.Closing.{closed_by, is_closed_state, is_exhausted}
 use Rattle.sctp_assoc.specs.Chunks.{after_packet, on_chunk}
 use Rattle.sctp_assoc.specs.Happened.{acts_of_poll, forwards_of_poll}
 use Rattle.sctp_assoc.specs.Gather.{control_polled, data_polled, is_due, packet_bytes, single_chunk_packet, polled}
-use Rattle.sctp_assoc.specs.Gather.{forward_packet, sack_chunk}
-use Rattle.sctp_assoc.specs.Gather.{sack_packet}
+use Rattle.sctp_assoc.specs.Gather.{forward_packet, open_polled, sack_chunk, sack_packet, shutdown_polled}
 use Rattle.sctp_directions.specs.Reports.{SaysWhatWasTaken}
 use Rattle.sctp_assoc.specs.Shown.{Shown, all_waiting, uses_forward_tsn}
+use Rattle.sctp_assoc.specs.Shutdown.{completes_shutdown, endpoint_event_polled, shutdown_begun}
 use Rattle.sctp_assoc.specs.Timeouts.{after_timeouts}
 
 -- Sending
@@ -66,9 +67,10 @@ WhatWaitsIsPolled = (a : Shown) (now : ℕ) (m : Waiting) → IsNextWithNothingI
     → length m.user_data ≤ 65519
     → slice_get (all_of (data_polled a now).1) 0 ≡ Some (next_chunk_of m (next_tsn_of a.sender.queue))
 
--- In Established its acts give that DATA, under the TSN of the first offset that is not acknowledged.
+-- In Established, and in a shutdown until SHUTDOWN ACK is due, its acts give that DATA, under the TSN of the first
+-- offset that is not acknowledged.
 abbrev pub WhatWaitsIsGiven : Type 0
-WhatWaitsIsGiven = (a : Shown) (h : History) (now : ℕ) (m : Waiting) → is_established a.state ≡ true → Binds a h
+WhatWaitsIsGiven = (a : Shown) (h : History) (now : ℕ) (m : Waiting) → exchanges_data a.state ≡ true → Binds a h
     → IsNextWithNothingInFlight a m → IsNotLate a now m
     → slice_get (all_data_given (acts_of_poll a now) (parts a h)) 0 ≡ Some (next_chunk_of m (tsn h.own h.base))
 
@@ -76,7 +78,7 @@ WhatWaitsIsGiven = (a : Shown) (h : History) (now : ℕ) (m : Waiting) → is_es
 -- already, requests to reset streams among them; other DATA may be bundled with it (RFC 4960 section 6.10), of which
 -- the acts of the poll say what it is.
 abbrev pub PollsBeginWithWhatWaits : Type 0
-PollsBeginWithWhatWaits = (a : Shown) (now : ℕ) (m : Waiting) → is_established a.state ≡ true
+PollsBeginWithWhatWaits = (a : Shown) (now : ℕ) (m : Waiting) → exchanges_data a.state ≡ true
     → IsNextWithNothingInFlight a m → IsNotLate a now m
     → length m.user_data ≤ 65519
     → (bundled : List ChunkPayloadData)
@@ -87,7 +89,7 @@ PollsBeginWithWhatWaits = (a : Shown) (now : ℕ) (m : Waiting) → is_establish
 abbrev pub IsShortOrAlone : CommonHeader → ℕ → List ChunkPayloadData → Type 0
 IsShortOrAlone header mtu cs = (length cs ≡ 1) ⊎ (length (spelling (data_packet header cs)) ≤ mtu)
 
--- Each packet of DATA that a poll gives in Established has one chunk, or is at most `mtu` bytes long (RFC 4960 section
+-- Each packet of DATA that a poll gives has one chunk, or is at most `mtu` bytes long (RFC 4960 section
 -- 6.10).
 abbrev pub BundlesFitThePacket : Type 0
 BundlesFitThePacket = (a : Shown) (now : ℕ)
@@ -159,8 +161,14 @@ pub record TellsNothing (a b : Shown) : Type 0 where
   pub lost : b.lost ≡ a.lost
   pub events : b.events ≡ a.events
 
--- No write, setting, limit, opened or accepted stream, poll for packets or timer closes an association. A write, a poll
--- and a request to reset streams that is given up may be told as events, but as no loss.
+-- It is not closed after it either; the mark of a loss and the events are as they were.
+pub record BeginsToClose (a b : Shown) : Type 0 where
+  pub still_open : is_closed_state b.state ≡ false
+  pub lost : b.lost ≡ a.lost
+  pub events : b.events ≡ a.events
+
+-- No write, setting, limit, opened or accepted stream, begin of a shutdown or timer closes an association. A write and
+-- a request to reset streams that is given up may be told as events, but as no loss.
 abbrev pub WritesDoNotClose : Type 0
 WritesDoNotClose = (a : Shown) (id : ℕ) (named : Option PayloadProtocolIdentifier) (bytes : List ℕ)
     → DoesNotClose a (written a id named bytes)
@@ -177,8 +185,11 @@ AcceptedStreamsDoNotClose = (a : Shown) → TellsNothing a (accepted_stream a).0
 abbrev pub OpenedStreamsDoNotClose : Type 0
 OpenedStreamsDoNotClose = (a : Shown) (id : ℕ) (kind : PayloadProtocolIdentifier) → TellsNothing a (opened a id kind)
 
-abbrev pub PollsDoNotClose : Type 0
-PollsDoNotClose = (a : Shown) (now : ℕ) → DoesNotClose a (polled a now).0
+abbrev pub ShutdownsDoNotClose : Type 0
+ShutdownsDoNotClose = (a : Shown) → is_established a.state ≡ true → BeginsToClose a (shutdown_begun a)
+
+abbrev pub EndpointEventsDoNotClose : Type 0
+EndpointEventsDoNotClose = (a : Shown) → TellsNothing a (endpoint_event_polled a).0
 
 abbrev pub TimersDoNotClose : Type 0
 TimersDoNotClose = (a : Shown) (now : ℕ) → DoesNotClose a (after_timeouts a now)
@@ -186,10 +197,11 @@ TimersDoNotClose = (a : Shown) (now : ℕ) → DoesNotClose a (after_timeouts a 
 abbrev pub faults_or : Shown × Flow → (Shown → AckTrigger → Bool) → Bool
 faults_or (a, flows.Next trigger) more = more a trigger
 faults_or (a, flows.Fault fault) more = not (is_closed_state a.state)
+faults_or (a, flows.Closed) more = not (is_closed_state a.state)
 faults_or (a, flows.Exhausted) more = not (is_closed_state a.state)
 
--- one of these chunks, taken in order, is a fault, or finds or leaves the receive buffer exhausted, and the association
--- is open then
+-- one of these chunks, taken in order, is a fault, or ends a shutdown, or finds or leaves the receive buffer exhausted,
+-- and the association is open then
 abbrev pub is_faulted : CommonHeader → List Chunk → Shown → AckTrigger → ℕ → Bool
 is_faulted header [] a trigger now = false
 is_faulted header (c ∷ cs) a trigger now =
@@ -199,7 +211,8 @@ abbrev pub is_faulted_packet : Shown → Option Packet → ℕ → Bool
 is_faulted_packet a None now = false
 is_faulted_packet a (Some packet) now = is_faulted packet.common_header packet.chunks a triggers.None now
 
--- what came closes an open association: one of its chunks is a fault, or leaves the receive buffer exhausted
+-- what came closes an open association: one of its chunks is a fault, or ends a shutdown, or leaves the receive buffer
+-- exhausted
 abbrev pub closes : Shown → Option Packet → ℕ → Bool
 closes a packet now = not a.lost && is_faulted_packet a packet now
 
@@ -211,8 +224,8 @@ pub record IsClosedIf (closing : Bool) (a b : Shown) : Type 0 where
   pub lost : b.lost ≡ (closing || a.lost)
   pub told : losses b.events ≡ losses a.events + (if closing then 1 else 0)
 
--- A packet closes an association exactly where a chunk of the packet is a fault while it is open, and the loss is told
--- once.
+-- A packet closes an association exactly where a chunk of the packet is a fault, is the SHUTDOWN COMPLETE that it waits
+-- for, or leaves the receive buffer exhausted, while it is open, and the loss is told once.
 abbrev pub FaultsAloneClose : Type 0
 FaultsAloneClose =
     (a : Shown) (packet : Option Packet) (now : ℕ) → IsClosedIf (closes a packet now) a (after_packet a packet now)
@@ -239,6 +252,14 @@ ExhaustingStopsAloneClose = (a : Shown) (id : ℕ) → IsClosedIf (stop_closes a
 abbrev pub ClosesClose : Type 0
 ClosesClose =
     (a : Shown) (reason : AssociationError) → IsClosedIf (not (is_closed_state a.state)) a (closed_by a reason)
+
+-- a poll closes an association: it gives out SHUTDOWN COMPLETE (RFC 4960 section 9.2)
+abbrev pub poll_closes : Shown → ℕ → Bool
+poll_closes a now = completes_shutdown (open_polled a now).0
+
+-- A poll closes exactly there, and the loss is told once.
+abbrev pub EndedShutdownsAloneClose : Type 0
+EndedShutdownsAloneClose = (a : Shown) (now : ℕ) → IsClosedIf (poll_closes a now) a (polled a now).0
 
 -- Reporting
 
@@ -274,16 +295,21 @@ abbrev pub SacksAreSpelled : Type 0
 SacksAreSpelled = (a : Shown) → length (sack_of a.receiver (all_waiting a)).gap_ack_blocks ≤ 16379
     → sack_packet a ≡ spelling (single_chunk_packet (header_of a.handshake) (sack_chunk a)) ∷ []
 
--- A SACK that is due goes out with the next poll in Established, as its last packet, or with FORWARD TSN alone behind
--- it; requests to reset streams go out in front of it.
+-- A SACK that is due goes out with the next poll in Established, and in a shutdown until SHUTDOWN ACK is due, as its
+-- last packet, or with FORWARD TSN and the chunk of a shutdown alone behind it; requests to reset streams go out in
+-- front of it.
 abbrev pub DueSacksGoOut : Type 0
-DueSacksGoOut = (a : Shown) (now : ℕ) → is_established a.state ≡ true → is_due a.receiver.ack_state ≡ true
+DueSacksGoOut = (a : Shown) (now : ℕ) → exchanges_data a.state ≡ true → is_due a.receiver.ack_state ≡ true
     → (packets : List (List ℕ))
     × ((polled a now).1
-    ≡ packets ++ sack_packet a ++ (if forwards_of_poll a now then forward_packet (polled a now).0 else []))
+    ≡ packets ++ sack_packet a ++ (if forwards_of_poll a now then forward_packet (polled a now).0 else [])
+    ++ (shutdown_polled (open_polled a now).0 now).1)
 
--- FORWARD TSN goes out, as the last packet, with a poll in Established that finds it due, where pieces in front of all
--- others in flight are abandoned once DATA was selected (RFC 3758 section 3.5).
+-- FORWARD TSN goes out, as the last packet or with the chunk of a shutdown alone behind it, with a poll that finds it
+-- due, in Established and in a shutdown until SHUTDOWN ACK is due, where pieces in front of all others in flight are
+-- abandoned once DATA was selected (RFC 3758 section 3.5).
 abbrev pub DueForwardsGoOut : Type 0
 DueForwardsGoOut = (a : Shown) (now : ℕ) → forwards_of_poll a now ≡ true
-    → (packets : List (List ℕ)) × ((polled a now).1 ≡ packets ++ forward_packet (polled a now).0)
+    → (packets : List (List ℕ))
+    × ((polled a now).1
+    ≡ packets ++ forward_packet (polled a now).0 ++ (shutdown_polled (open_polled a now).0 now).1)

@@ -1,4 +1,5 @@
 pub mod Causes
+pub mod Ending
 pub mod Generations
 pub mod Intake
 pub mod Laws

@@ -6,11 +6,13 @@ use Rattle.sctp_wire_types.specs.declared.chunk.Chunk.TheVariants as chunks
 use Rattle.sctp_wire_types.specs.declared.ids.Side.{Side}
 use Rattle.sctp_wire_types.specs.declared.ids.Side.TheVariants as sides
 use Rattle.sctp_wire_types.specs.declared.packet.CommonHeader.{CommonHeader}
+use Rattle.sctp_parts.specs.declared.state.AssociationState.{AssociationState}
 use Rattle.sctp_parts.specs.declared.state.AssociationState.TheVariants as states
 use Rattle.sctp_inbound.specs.Greeting.{first_cookie}
 use Rattle.sctp_assoc.specs.declared.control.Control.{Control}
 use Rattle.sctp_assoc.specs.declared.control.Control.TheVariants as controls
 use Rattle.sctp_directions.specs.Acts.{Act}
+use Rattle.sctp_assoc.specs.Calls.{is_beginning}
 use Rattle.sctp_assoc.specs.Happened.{acts_of_chunk}
 use Rattle.sctp_assoc.specs.Gather.{WaitPlainly}
 use Rattle.sctp_assoc.specs.Shown.{Shown}
@@ -33,7 +35,8 @@ pub record IsNoEarlier (s t : Stage) : Type 0 where
 
 -- What a packet of the handshake says of the side that gives it out, whose initial TSN is own: INIT and INIT ACK say
 -- that TSN, and INIT that the side is a client; an INIT ACK has a cookie; a COOKIE ECHO says that a client learnt the
--- peer's initial TSN, and a COOKIE ACK that the side is established or was. An ABORT and an ERROR say nothing of these.
+-- peer's initial TSN, and a COOKIE ACK that the side is established or was. An ABORT and an ERROR say nothing of these,
+-- and neither do the chunks of a shutdown.
 abbrev pub Greets : ℕ → Stage → Chunk → Type 0
 Greets own s (chunks.Init init) = (init.initial_tsn ≡ own) × (s.side ≡ sides.Client)
 Greets own s (chunks.InitAck init) = (init.initial_tsn ≡ own) × (is_some (first_cookie init.params) ≡ true)
@@ -41,6 +44,9 @@ Greets own s (chunks.CookieEcho cookie) = (s.side ≡ sides.Client) × (s.knows 
 Greets own s chunks.CookieAck = s.completed ≡ true
 Greets own s (chunks.Abort abort) = ⊤
 Greets own s (chunks.Error error) = ⊤
+Greets own s (chunks.Shutdown cumulative_tsn_ack) = ⊤
+Greets own s chunks.ShutdownAck = ⊤
+Greets own s chunks.ShutdownComplete = ⊤
 Greets own s chunk = ⊥
 
 -- A chunk that waits to go out says what is so; a RE-CONFIG says nothing of the handshake.
@@ -86,11 +92,16 @@ pub record Listens (a : Shown) : Type 0 where
   pub incomplete : a.handshake.completed ≡ false
   pub issued : a.handshake.cookie_issued ≡ true → is_some a.handshake.peer_initial_tsn ≡ true
 
--- An association that is established.
+-- An association that is established, or in which a shutdown began since (RFC 4960 section 9.2).
 pub record IsEstablished (a : Shown) : Type 0 where
-  pub state : a.state ≡ states.Established
+  pub state : is_beginning a.state ≡ false
   pub completed : a.handshake.completed ≡ true
   pub known : is_some a.handshake.peer_initial_tsn ≡ true
+
+-- A state as far on as another one: the same, or both are past the handshake, and a shutdown may have gone on between
+-- them.
+abbrev pub IsAsFarOn : AssociationState → AssociationState → Type 0
+IsAsFarOn s t = (t ≡ s) ⊎ ((is_beginning s ≡ false) × (is_beginning t ≡ false))
 
 -- how far the handshake has come
 abbrev pub HasCome : Shown → Type 0

@@ -24,6 +24,7 @@ use Rattle.sctp_assoc.specs.Closing.{closed_by, exhausted}
 use Rattle.sctp_assoc.specs.Created.{created, joined}
 use Rattle.sctp_assoc.specs.Gather.{packet_bytes, polled}
 use Rattle.sctp_assoc.specs.Shown.{Shown}
+use Rattle.sctp_assoc.specs.Shutdown.{endpoint_event_polled, shutdown_begun}
 use Rattle.sctp_assoc.specs.Timeouts.{after_timeouts}
 
 -- any chunk but RE-CONFIG (RFC 6525 section 3.1)
@@ -87,6 +88,12 @@ ReadsBeginNoReset = (a : Shown) (id : ℕ) → BeginsNoReset a (read_from_stream
 
 abbrev pub ToldEventsBeginNoReset : Type 0
 ToldEventsBeginNoReset = (a : Shown) → BeginsNoReset a (event_polled a).0
+
+abbrev pub ShutdownsBeginNoReset : Type 0
+ShutdownsBeginNoReset = (a : Shown) → BeginsNoReset a (shutdown_begun a)
+
+abbrev pub EndpointEventsBeginNoReset : Type 0
+EndpointEventsBeginNoReset = (a : Shown) → BeginsNoReset a (endpoint_event_polled a).0
 
 abbrev pub ClosesBeginNoReset : Type 0
 ClosesBeginNoReset = (a : Shown) (reason : AssociationError) → BeginsNoReset a (closed_by a reason)

@@ -22,6 +22,8 @@ use Rattle.sctp_assoc.specs.Chunks.{after_packet}
 use Rattle.sctp_sides.specs.Laws.{losses}
 use Rattle.sctp_assoc.specs.Gather.{polled}
 use Rattle.sctp_assoc.specs.Shown.{HasFailed, Shown, answers_of}
+use Rattle.sctp_assoc.specs.Shutdown.{endpoint_event_polled, nothing_due, shutdown_begun, shutdown_refusal}
+use Rattle.sctp_parts.specs.State.{is_closing}
 use Rattle.sctp_assoc.specs.Timeouts.{after_timeouts}
 
 -- a timer runs
@@ -46,12 +48,16 @@ pub data Call : Type 0 where
   AcceptStream : Call
   -- writes are to take messages of up to so many bytes
   SetMaxSendMessageSize : ℕ → Call
+  -- the association is to be ended once all that was accepted is acknowledged (RFC 4960 section 9.2)
+  Shutdown : Call
   -- the association is to be closed
   Close : Call
   -- the next message of a stream is asked for
   Read : ℕ → Call
   -- the oldest event is asked for
   Poll : Call
+  -- it is asked what the endpoint is to be told
+  PollEndpointEvent : Call
   -- the packets that are due at this moment are asked for
   PollTransmit : ℕ → Call
   -- it is this moment
@@ -77,9 +83,11 @@ carried_out (Call.Write id named bytes) a = (written a id named bytes, [])
 carried_out (Call.Set id setting) a = (adjusted a id setting, [])
 carried_out Call.AcceptStream a = ((accepted_stream a).0, [])
 carried_out (Call.SetMaxSendMessageSize size) a = (with_max_send_message_size a size, [])
+carried_out Call.Shutdown a = (shutdown_begun a, [])
 carried_out Call.Close a = (closed_by a reasons.AssociationClosed, [])
 carried_out (Call.Read id) a = ((read_from_stream a id).0, [])
 carried_out Call.Poll a = with_told (event_polled a)
+carried_out Call.PollEndpointEvent a = ((endpoint_event_polled a).0, [])
 carried_out (Call.PollTransmit now) a = ((polled a now).0, [])
 carried_out (Call.HandleTimeout now) a = (after_timeouts a now, [])
 carried_out (Call.HandleEvent packet now) a = (after_packet a packet now, [])
@@ -87,13 +95,16 @@ carried_out (Call.Stop id) a = (stopped a id, [])
 carried_out (Call.CloseStream id) a = (stopped (adjusted a id settings.WriteHalfClosed) id, [])
 
 -- why a call is refused, want of memory aside: a failed association refuses each, but for the question for a stream
--- that the peer opened, of which it has none, and a limit that is set, which it leaves
+-- that the peer opened, of which it has none, that for what its endpoint is to be told, and a limit that is set,
+-- which it leaves
 abbrev pub call_refusal : Call → Shown → Option Error
 call_refusal (Call.OpenStream id kind) a = open_refusal a id
 call_refusal (Call.Write id named bytes) a = write_refusal a id (length bytes)
 call_refusal (Call.Set id setting) a = gone_refusal a id
 call_refusal Call.AcceptStream a = None
 call_refusal (Call.SetMaxSendMessageSize size) a = None
+call_refusal Call.Shutdown a = shutdown_refusal a
+call_refusal Call.PollEndpointEvent a = None
 call_refusal (Call.Read id) a = read_refusal a id
 call_refusal (Call.Stop id) a = stop_refusal a id
 call_refusal (Call.CloseStream id) a = stop_refusal a id
@@ -152,7 +163,7 @@ IsRun (call ∷ calls) told a b = RunsOn call (λ later c. IsRun calls later c b
 
 -- An association as a constructor leaves it: it works, no loss waits to be told, no DATA was sent and T3-rtx does not
 -- run; the timer of INIT runs in CookieWait alone, that of COOKIE ECHO in CookieEchoed alone (RFC 4960 section 5.1),
--- and that of an acknowledgement where one is delayed.
+-- and that of an acknowledgement where one is delayed. No shutdown began.
 pub record IsFresh (a : Shown) : Type 0 where
   pub working : a.failed ≡ false
   pub not_lost : a.lost ≡ false
@@ -162,3 +173,6 @@ pub record IsFresh (a : Shown) : Type 0 where
   pub init : is_armed names.T1Init a.timers ≡ is_cookie_wait a.state
   pub cookie : is_armed names.T1Cookie a.timers ≡ is_cookie_echoed a.state
   pub acknowledgement : is_armed names.Ack a.timers ≡ is_delayed a.receiver.ack_state
+  pub in_use : is_closing a.state ≡ false
+  pub no_shutdown : a.shutdown_due ≡ nothing_due
+  pub answer : is_armed names.T2Shutdown a.timers ≡ false

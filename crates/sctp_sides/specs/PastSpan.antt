@@ -23,6 +23,7 @@ use Rattle.sctp_assoc.specs.Closing.{closed_by, exhausted, is_closed_state}
 use Rattle.sctp_assoc.specs.Gather.{polled}
 use Rattle.sctp_assoc.specs.Resets.{reconfig_of}
 use Rattle.sctp_assoc.specs.Shown.{Shown}
+use Rattle.sctp_assoc.specs.Shutdown.{endpoint_event_polled, shutdown_begun}
 use Rattle.sctp_assoc.specs.Timeouts.{after_timeouts}
 use Rattle.sctp_sides.specs.NoReset.{HasNoReset}
 
@@ -106,6 +107,12 @@ ReadsResetNoMore = (a : Shown) (id : ℕ) → ResetsNoMore a (read_from_stream a
 
 abbrev pub ToldEventsResetNoMore : Type 0
 ToldEventsResetNoMore = (a : Shown) → ResetsNoMore a (event_polled a).0
+
+abbrev pub ShutdownsResetNoMore : Type 0
+ShutdownsResetNoMore = (a : Shown) → ResetsNoMore a (shutdown_begun a)
+
+abbrev pub EndpointEventsResetNoMore : Type 0
+EndpointEventsResetNoMore = (a : Shown) → ResetsNoMore a (endpoint_event_polled a).0
 
 abbrev pub ClosesResetNoMore : Type 0
 ClosesResetNoMore = (a : Shown) (reason : AssociationError) → ResetsNoMore a (closed_by a reason)

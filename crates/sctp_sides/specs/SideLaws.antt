@@ -28,7 +28,9 @@ use Rattle.sctp_outbound.specs.Forward.{forward_of}
 use Rattle.sctp_directions.specs.Acts.{Act, History, IsAhead, all_data_given, reach_in}
 use Rattle.sctp_assoc.specs.Leads.{Binds, LeadsOn, parts}
 use Rattle.sctp_fit.specs.Incoming.{tsn_before}
-use Rattle.sctp_assoc.specs.Calls.{event_polled, is_established, open_refusal, opened}
+use Rattle.sctp_parts.specs.State.{is_closing}
+use Rattle.sctp_assoc.specs.Calls.{event_polled, exchanges_data, is_beginning, is_established, open_refusal, opened}
+use Rattle.sctp_assoc.specs.Calls.{sends_data}
 use Rattle.sctp_assoc.specs.Closing.{closed_by, exhausted, is_closed_state}
 use Rattle.sctp_assoc.specs.Calls.{accepted_stream, adjusted, drained_behind, read_exhausts, read_from_stream}
 use Rattle.sctp_assoc.specs.Calls.{stop_refusal, stopped, stopped_open, stream_refusal}
@@ -36,14 +38,17 @@ use Rattle.sctp_assoc.specs.Calls.{with_max_send_message_size}
 use Rattle.sctp_assoc.specs.Calls.{write_refusal, written}
 use Rattle.sctp_assoc.specs.Chunks.{after_packet, ended, on_chunk}
 use Rattle.sctp_outbound.specs.Sacks.{reports_of}
-use Rattle.sctp_assoc.specs.Happened.{IsOfControl, Polls, acts_of_chunk, acts_of_poll, acts_of_timeouts}
-use Rattle.sctp_assoc.specs.Happened.{forwards_of_poll}
+use Rattle.sctp_assoc.specs.Happened.{IsOfControl, IsOfShutdown, Polls, PollsOn, acts_of_chunk, acts_of_exchange}
+use Rattle.sctp_assoc.specs.Happened.{acts_of_poll, acts_of_timeouts, forwards_of_poll}
 use Rattle.sctp_assoc.specs.Inbound.{taken_packet}
-use Rattle.sctp_sides.specs.Meeting.{Greets, GreetsOn, HasCome, IsEstablished, IsNoEarlier, IsTruthful, Stage, stage_of}
-use Rattle.sctp_assoc.specs.Gather.{AreControlReadAgain, WaitPlainly, control_polled, is_due, polled, without_control}
+use Rattle.sctp_sides.specs.Meeting.{Greets, GreetsOn, HasCome, IsAsFarOn, IsEstablished, IsNoEarlier, IsTruthful}
+use Rattle.sctp_sides.specs.Meeting.{Stage, stage_of}
+use Rattle.sctp_assoc.specs.Gather.{AreControlReadAgain, WaitPlainly, control_polled, is_due, open_polled, polled}
+use Rattle.sctp_assoc.specs.Gather.{without_control}
 use Rattle.sctp_directions.specs.Reports.{SaysWhatWasTaken}
 use Rattle.sctp_assoc.specs.ResetActs.{acts_of_draining}
 use Rattle.sctp_assoc.specs.Shown.{Shown, uses_forward_tsn}
+use Rattle.sctp_assoc.specs.Shutdown.{completes_shutdown, endpoint_event_polled, shutdown_begun, shutdown_refusal}
 use Rattle.sctp_assoc.specs.Skipping.{skips_of}
 use Rattle.sctp_assoc.specs.Timeouts.{after_timeouts}
 use Rattle.sctp_assoc.specs.declared.control.Control.TheVariants as controls
@@ -65,14 +70,28 @@ pub record IsSameStatus (a b : Shown) : Type 0 where
   pub handshake : b.handshake ≡ a.handshake
   pub truthful : (own : ℕ) → IsTruthful own a → IsTruthful own b
 
--- A side with the same handshake is in the same stage; where its state is the same, too, the handshake has come as far.
+-- The same, but for a shutdown that goes on: a state past the handshake may be another one that is.
+pub record KeepsTheStage (a b : Shown) : Type 0 where
+  pub failed : b.failed ≡ a.failed
+  pub state : IsAsFarOn a.state b.state
+  pub lost : b.lost ≡ a.lost
+  pub size : b.sender.max_payload_size ≡ a.sender.max_payload_size
+  pub side : b.side ≡ a.side
+  pub handshake : b.handshake ≡ a.handshake
+  pub truthful : (own : ℕ) → IsTruthful own a → IsTruthful own b
+
+-- Where the status is the same, so is the stage.
+abbrev pub TheSameStatusIsTheSameStage : Type 0
+TheSameStatusIsTheSameStage = (a b : Shown) → IsSameStatus a b → KeepsTheStage a b
+
+-- A side with the same handshake is in the same stage; where its state is as far on, the handshake has come as far.
 abbrev pub TheSameHandshakeIsTheSameStage : Type 0
 TheSameHandshakeIsTheSameStage = (a b : Shown) → b.side ≡ a.side → b.handshake ≡ a.handshake
-    → (stage_of b ≡ stage_of a) × (b.state ≡ a.state → HasCome a → HasCome b)
+    → (stage_of b ≡ stage_of a) × (IsAsFarOn a.state b.state → HasCome a → HasCome b)
 
--- In Established the handshake is complete, and the peer's initial TSN is known.
+-- From Established on, until the association is closed, the handshake is complete, and the peer's initial TSN is known.
 abbrev pub EstablishedSidesTalk : Type 0
-EstablishedSidesTalk = (a : Shown) → is_established a.state ≡ true → HasCome a → IsEstablished a
+EstablishedSidesTalk = (a : Shown) → is_beginning a.state ≡ false → HasCome a → IsEstablished a
 
 -- What a side said of itself stays so in its later stages.
 abbrev pub GreetingsStayTrue : Type 0
@@ -161,8 +180,15 @@ abbrev pub TimersKeepTheStatus : Type 0
 TimersKeepTheStatus =
     (a : Shown) (now : ℕ) → IsSameStatus a (after_timeouts a now) × ((after_timeouts a now).streams ≡ a.streams)
 
-abbrev pub PollsKeepTheStatus : Type 0
-PollsKeepTheStatus = (a : Shown) (now : ℕ) → IsSameStatus a (polled a now).0
+-- What the endpoint is told leaves the status and the streams.
+abbrev pub EndpointEventsKeepTheStatus : Type 0
+EndpointEventsKeepTheStatus =
+    (a : Shown) → IsSameStatus a (endpoint_event_polled a).0 × ((endpoint_event_polled a).0.streams ≡ a.streams)
+
+-- A shutdown that begins leaves the stage and the streams.
+abbrev pub ShutdownsKeepTheStage : Type 0
+ShutdownsKeepTheStage = (a : Shown) → shutdown_refusal a ≡ None
+    → KeepsTheStage a (shutdown_begun a) × ((shutdown_begun a).streams ≡ a.streams)
 
 -- What was not refused
 
@@ -223,10 +249,11 @@ pub record KeepsWorking (a b : Shown) : Type 0 where
   pub lost : b.lost ≡ a.lost
   pub size : b.sender.max_payload_size ≡ a.sender.max_payload_size
 
--- What a chunk leaves: DATA, SACKs, FORWARD TSNs and RE-CONFIGs leave the status.
+-- What a chunk leaves: DATA, FORWARD TSNs and RE-CONFIGs leave the status, and SACKs the stage, since a shutdown may
+-- wait for one.
 abbrev pub Leaves : Chunk → Shown → Shown → Type 0
 Leaves (chunks.Data piece) a b = IsSameStatus a b
-Leaves (chunks.SelectiveAck sack) a b = IsSameStatus a b
+Leaves (chunks.SelectiveAck sack) a b = KeepsTheStage a b
 Leaves (chunks.ForwardTsn forward) a b = IsSameStatus a b
 Leaves (chunks.IForwardTsn forward) a b = IsSameStatus a b
 Leaves (chunks.Reconfig reconfig) a b = IsSameStatus a b
@@ -298,9 +325,26 @@ ExhaustionCloses = (a : Shown) → Exhausts a (exhausted a)
 abbrev pub FaultsClose : Type 0
 FaultsClose = (a : Shown) (reason : AssociationError) → Closes a (closed_by a reason)
 
+-- A poll leaves the stage up to the chunk of a shutdown that goes out last, and by that chunk, unless that is SHUTDOWN
+-- COMPLETE: that closes, as a fault does.
+pub record PollsOnward (a : Shown) (now : ℕ) : Type 0 where
+  pub front : KeepsTheStage a (open_polled a now).0
+  pub same : completes_shutdown (open_polled a now).0 ≡ false → KeepsTheStage a (polled a now).0
+  pub closes : completes_shutdown (open_polled a now).0 ≡ true → Closes (open_polled a now).0 (polled a now).0
+  pub was_open : completes_shutdown (open_polled a now).0 ≡ true → is_closed_state (open_polled a now).0.state ≡ false
+  pub no_reset : completes_shutdown (open_polled a now).0 ≡ true → HasNoReset (polled a now).0
+
+abbrev pub PollsKeepTheStage : Type 0
+PollsKeepTheStage = (a : Shown) (now : ℕ) → PollsOnward a now
+
 -- Established is a state of its own (RFC 4960 section 4).
 abbrev pub EstablishedIsNotClosed : Type 0
 EstablishedIsNotClosed = (a : Shown) → is_established a.state ≡ true → is_closed_state a.state ≡ false
+
+-- In Closed no DATA is exchanged, and no shutdown goes on.
+abbrev pub ClosedSidesExchangeNothing : Type 0
+ClosedSidesExchangeNothing = (a : Shown) → is_closed_state a.state ≡ true
+    → (exchanges_data a.state ≡ false) × (is_closing a.state ≡ false)
 
 -- An association that was lost takes nothing, and where nothing came nothing changes.
 abbrev pub LostAssociationsTakeNothing : Type 0
@@ -393,20 +437,20 @@ pub record NamesTheSent (a : Shown) (h : History) (sack : ChunkSelectiveAck) (co
   pub named : (offset : ℕ) → is_named offset sack.gap_ack_blocks ≡ true
       → (0 < count + offset) × (count + offset ≤ length a.sender.queue.in_flight)
 
--- In Established such a SACK acknowledges exactly these pieces, and those that its gap ack blocks name (RFC 4960
--- section 6.2.1).
+-- As long as DATA may be unacknowledged, in Established and in a shutdown until SHUTDOWN or SHUTDOWN ACK is due, such a
+-- SACK acknowledges exactly these pieces, and those that its gap ack blocks name (RFC 4960 section 6.2.1).
 abbrev pub TakenSacksAcknowledge : Type 0
 TakenSacksAcknowledge = (a : Shown) (h : History) (header : CommonHeader) (sack : ChunkSelectiveAck) (count : ℕ)
-    → is_established a.state ≡ true → Binds a h → NamesTheSent a h sack count
+    → sends_data a.state ≡ true → Binds a h → NamesTheSent a h sack count
     → acts_of_chunk a header (chunks.SelectiveAck sack)
     ≡ Act.Acknowledged count sack.gap_ack_blocks
     (reports_of a.sender sack.cumulative_tsn_ack sack.gap_ack_blocks) ∷ []
 
--- Outside of Established a SACK acknowledges nothing, and neither does one whose cumulative TSN ack lies behind the
+-- In any other state a SACK acknowledges nothing, and neither does one whose cumulative TSN ack lies behind the
 -- acknowledged one.
 abbrev pub OtherSacksDoNothing : Type 0
 OtherSacksDoNothing = (a : Shown) (h : History) (header : CommonHeader) (sack : ChunkSelectiveAck) → Binds a h
-    → (is_established a.state ≡ false) ⊎ (tsn_gt (tsn_before (tsn h.own h.base)) sack.cumulative_tsn_ack ≡ true)
+    → (sends_data a.state ≡ false) ⊎ (tsn_gt (tsn_before (tsn h.own h.base)) sack.cumulative_tsn_ack ≡ true)
     → acts_of_chunk a header (chunks.SelectiveAck sack) ≡ []
 
 -- The peer's initial TSN became known, or nothing did.
@@ -466,7 +510,7 @@ IsOther (chunks.IForwardTsn forward) = ⊥
 IsOther (chunks.Reconfig reconfig) = ⊥
 IsOther chunk = ⊤
 
--- Any other chunk does nothing to the directions, unless it is a fault and closes.
+-- Any other chunk does nothing to the directions, unless it is a fault or ends a shutdown, and closes.
 abbrev pub OtherChunksDoNothing : Type 0
 OtherChunksDoNothing =
     (a : Shown) (header : CommonHeader) (chunk : Chunk) → IsOther chunk → acts_of_chunk a header chunk ≡ []
@@ -502,16 +546,33 @@ pub record IsPolling (a : Shown) (forwards : Bool) (acts : List Act) : Type 0 wh
   pub are : acts ≡ old ++ new ++ (if reports a then Act.Reported ∷ [] else [])
       ++ (if forwards then Act.Forwarded ∷ [] else [])
 
--- A poll in Established gives up what is to be given up, gives DATA, reports where that is due, and says what is given
--- up where that is (RFC 4960 sections 6.1 and 6.2, RFC 3758 section 3.5).
+-- A poll in Established, or in a shutdown until SHUTDOWN ACK is due, gives up what is to be given up, gives DATA,
+-- reports where that is due, and says what is given up where that is (RFC 4960 sections 6.1, 6.2 and 9.2, RFC 3758
+-- section 3.5).
 abbrev pub PollsGiveAndReport : Type 0
-PollsGiveAndReport = (a : Shown) (now : ℕ) → is_established a.state ≡ true
-    → IsPolling a (forwards_of_poll a now) (acts_of_poll a now)
+PollsGiveAndReport = (a : Shown) (now : ℕ) → exchanges_data a.state ≡ true
+    → IsPolling a (forwards_of_poll a now) (acts_of_exchange a now)
 
--- In any other state a poll gives what waits to go out, and nothing else, where no reset is under way.
+-- In any other state the front of a poll does nothing to the directions.
+abbrev pub OtherPollsDoNothingInFront : Type 0
+OtherPollsDoNothingInFront = (a : Shown) (now : ℕ) → exchanges_data a.state ≡ false → acts_of_exchange a now ≡ []
+
+-- Behind those acts a poll closes where it gives SHUTDOWN COMPLETE, and else does nothing more.
+abbrev pub PollsEndLast : Type 0
+PollsEndLast = (a : Shown) (now : ℕ) → acts_of_poll a now ≡ acts_of_exchange a now
+    ++ (if completes_shutdown (open_polled a now).0 then Act.Ended ∷ [] else [])
+
+-- Up to the chunk of a shutdown that goes out last a poll leads on by those acts, and its packets say what they give.
+abbrev pub PollsLeadOnInFront : Type 0
+PollsLeadOnInFront = (a b : Shown) (now : ℕ) (packets : List (List ℕ)) → polled a now ≡ (b, packets)
+    → PollsOn (acts_of_poll a now) (forwards_of_poll a now) a b packets
+    → PollsOn (acts_of_exchange a now) (forwards_of_poll a now) a (open_polled a now).0 packets
+
+-- Where DATA is not exchanged and no shutdown goes on, a poll gives what waits to go out, and nothing else, if no reset
+-- is under way.
 abbrev pub PollsOutsideEstablishedGiveWhatWaits : Type 0
 PollsOutsideEstablishedGiveWhatWaits =
-    (a : Shown) (now : ℕ) → HasNoReset a → is_established a.state ≡ false
+    (a : Shown) (now : ℕ) → HasNoReset a → exchanges_data a.state ≡ false → is_closing a.state ≡ false
     → polled a now ≡ (without_control a, control_packets a.control)
 
 -- of what a datagram spells, if it spells a packet, each chunk is so
@@ -534,12 +595,13 @@ IsExchanged acts forwards a b h (chunks.SelectiveAck sack) =
 IsExchanged acts forwards a b h (chunks.ForwardTsn forward) = (forwards ≡ true) × (forward ≡ forward_of b.sender)
 IsExchanged acts forwards a b h chunk = ⊥
 
--- one that waited to go out, in Established one of these chunks, or a request of this side to reset streams past their
--- span
+-- one that waited to go out, one of these chunks while DATA is exchanged, a request of this side to reset streams past
+-- their span, or a chunk of a shutdown
 abbrev pub IsGivenBy : (ℕ → Bool) → List Act → Bool → Shown → Shown → History → Chunk → Type 0
 IsGivenBy over acts forwards a b h chunk =
     IsWaitingToGo a chunk
-    ⊎ (((is_established a.state ≡ true) × IsExchanged acts forwards a b h chunk) ⊎ AsksPast over chunk)
+    ⊎ (((exchanges_data a.state ≡ true) × IsExchanged acts forwards a b h chunk)
+    ⊎ (AsksPast over chunk ⊎ IsOfShutdown chunk))
 
 -- The packets of a poll are of such chunks alone, in whatever state, where its resets concern streams past their span
 -- alone.

@@ -1,20 +1,24 @@
--- What holds of one side after every list of calls: a loss is told once, and timers run where they should.
+-- What holds of one side after every list of calls: a loss is told once, timers run where they should, and a shutdown
+-- waits for all DATA.
 use Rattle.std.specs.Prelude.{◌≡◌, ◌⊎◌, ◌<◌, ℕ, ◌+◌, ◌≤◌, Bool, true, false, List, [], if◌then◌else◌, length, Option}
 use Rattle.std.specs.Prelude.{None, is_some}
 use Rattle.std.specs.declared.net.ip_addr.IpAddr.{IpAddr}
 use Rattle.std.specs.declared.net.socket_addr.SocketAddr.{SocketAddr}
 use Rattle.sctp_wire_types.specs.declared.chunk.ChunkInit.{ChunkInit}
 use Rattle.sctp_wire_types.specs.Config.{Settings}
+use Rattle.sctp_parts.specs.declared.state.AssociationState.{AssociationState}
+use Rattle.sctp_parts.specs.declared.state.AssociationState.TheVariants as states
 use Rattle.sctp_parts.specs.declared.timer.Timer.{Timer}
 use Rattle.sctp_parts.specs.declared.timer.Timer.TheVariants as names
 use Rattle.sctp_parts.specs.Timers.{Timers, least_moment, limit_of, passes, timer_at}
 use Rattle.sctp_streams.specs.declared.event.AssociationError.{AssociationError}
 use Rattle.sctp_streams.specs.declared.event.Event.{Event}
 use Rattle.sctp_wire_types.specs.declared.config.ServerConfig.{ServerConfig}
-use Rattle.sctp_assoc.specs.Calls.{is_cookie_echoed, is_cookie_wait, is_established}
+use Rattle.sctp_assoc.specs.Calls.{is_beginning, is_cookie_echoed, is_cookie_wait, sends_data}
 use Rattle.sctp_assoc.specs.Closing.{closed_by, is_closed_state}
 use Rattle.sctp_assoc.specs.Created.{created, joined}
 use Rattle.sctp_assoc.specs.Gather.{polled}
+use Rattle.sctp_assoc.specs.Shutdown.{all_acknowledged, awaits_answer}
 use Rattle.sctp_assoc.specs.Timeouts.{after_timeouts}
 use Rattle.sctp_sides.specs.Laws.{losses}
 use Rattle.sctp_sides.specs.OneSide.{Call, FailsFrom, IsFresh, IsRun, is_armed, is_delayed}
@@ -65,15 +69,21 @@ LossesAreToldOnce = AfterEveryRun TellsOneLoss
 abbrev pub has_given_up : Timer → Timers → Bool
 has_given_up timer t = passes (timer_at timer t).retries (limit_of timer t)
 
+-- a shutdown began that waits for DATA of this side to be acknowledged
+abbrev pub is_waiting_for_data : AssociationState → Bool
+is_waiting_for_data states.ShutdownPending = true
+is_waiting_for_data states.ShutdownReceived = true
+is_waiting_for_data state = false
+
 -- it runs, or its retries passed their limit
 abbrev pub IsTimed : Timer → Timers → Type 0
 IsTimed timer t = (is_armed timer t ≡ true) ⊎ (has_given_up timer t ≡ true)
 
--- At a side that did not fail, in Established, the retransmission timer runs as long as DATA is in flight, unless its
--- retries passed their limit (RFC 4960 section 6.3.2, rules R1 and R3). What goes out again when it expires stands in
--- the equations of timeouts and polls.
+-- At a side that did not fail, in Established and in a shutdown until SHUTDOWN or SHUTDOWN ACK is due, the
+-- retransmission timer runs as long as DATA is in flight, unless its retries passed their limit (RFC 4960 section 6.3.2, rules R1 and R3). What goes out again when
+-- it expires stands in the equations of timeouts and polls.
 abbrev pub OutstandingDataIsTimed : Type 0
-OutstandingDataIsTimed = OfEachSide (λ b. b.failed ≡ false → is_established b.state ≡ true
+OutstandingDataIsTimed = OfEachSide (λ b. b.failed ≡ false → sends_data b.state ≡ true
     → 0 < length b.sender.queue.in_flight → IsTimed names.T3RTX b.timers)
 
 -- With nothing in flight it does not run, in any state (RFC 4960 section 6.3.2, rule R2).
@@ -101,15 +111,30 @@ CookiesAreTimedInCookieEchoedAlone = OfEachSide (λ b. is_armed names.T1Cookie b
 abbrev pub IsHandshakeUntimed : Timers → Type 0
 IsHandshakeUntimed t = (is_armed names.T1Init t ≡ false) × (is_armed names.T1Cookie t ≡ false)
 
--- So in Established no timer sends anything of the handshake again.
+-- So from Established on no timer sends anything of the handshake again.
 abbrev pub NoHandshakeTimerRunsOnceEstablished : Type 0
-NoHandshakeTimerRunsOnceEstablished = OfEachSide (λ b. is_established b.state ≡ true → IsHandshakeUntimed b.timers)
+NoHandshakeTimerRunsOnceEstablished = OfEachSide (λ b. is_beginning b.state ≡ false → IsHandshakeUntimed b.timers)
 
 -- The timer of acknowledgements runs where one is delayed, and there alone (RFC 4960 section 6.2). At which moment it
 -- expires stands in the equation of a packet's end.
 abbrev pub DelayedSacksAreTimed : Type 0
 DelayedSacksAreTimed = OfEachSide (λ b. b.failed ≡ false → b.lost ≡ false
     → is_armed names.Ack b.timers ≡ is_delayed b.receiver.ack_state)
+
+-- The timer of the answer to SHUTDOWN or SHUTDOWN ACK runs where one of them waits for its answer alone (RFC 4960
+-- section 9.2).
+abbrev pub ShutdownsAreTimedInTheirStatesAlone : Type 0
+ShutdownsAreTimedInTheirStatesAlone =
+    OfEachSide (λ b. is_armed names.T2Shutdown b.timers ≡ true → awaits_answer b.state ≡ true)
+
+-- A shutdown waits for all DATA, and no longer (RFC 4960 section 9.2): SHUTDOWN and SHUTDOWN ACK go out only once
+-- nothing that was accepted waits or is in flight, and a side of which that is so no longer waits before them.
+abbrev pub ShutdownsFollowAllData : Type 0
+ShutdownsFollowAllData = OfEachSide (λ b. b.failed ≡ false → awaits_answer b.state ≡ true → all_acknowledged b ≡ true)
+
+abbrev pub ShutdownsGoOnBehindData : Type 0
+ShutdownsGoOnBehindData = OfEachSide (λ b. b.failed ≡ false → is_waiting_for_data b.state ≡ true
+    → all_acknowledged b ≡ false)
 
 -- A request to reset streams that was sent and is not answered is timed (RFC 6525 section 5.1.1): behind a poll its
 -- timer runs.

@@ -4,7 +4,8 @@
 //! empty, or names by calls the laws of crates below on which they rest.
 #![tactic(auto)]
 
-ghost use Rattle.sctp_sides.specs.SideLaws.{AcceptedWritesFit, ChunksLeadOn, DataOpensOrTakes, EstablishedIsNotClosed};
+ghost use Rattle.sctp_sides.specs.SideLaws.{AcceptedWritesFit, ChunksLeadOn, ClosedSidesExchangeNothing};
+ghost use Rattle.sctp_sides.specs.SideLaws.{DataOpensOrTakes, EstablishedIsNotClosed};
 ghost use Rattle.sctp_sides.specs.SideLaws.{EstablishedSidesTalk, FaultsClose, FoundStreamsAreLive};
 ghost use Rattle.sctp_sides.specs.SideLaws.{ForwardsPassOver, GreetingsMakeThePeerKnown, IForwardsPassOver};
 ghost use Rattle.sctp_sides.specs.SideLaws.{OnlyForwardsAheadPassOver, UnusedForwardsDoNothing};
@@ -13,19 +14,24 @@ ghost use Rattle.sctp_sides.specs.SideLaws.{LostAssociationsTakeNothing, NoPacke
 ghost use Rattle.sctp_sides.specs.SideLaws.{LimitsKeepTheStatus, SettingsKeepTheStatus};
 ghost use Rattle.sctp_sides.specs.SideLaws.{OpenedStreamsHoldNothing, OpenedStreamsKeepTheStatus};
 ghost use Rattle.sctp_sides.specs.SideLaws.{OpenedStreamsWereNotLive, OtherChunksDoNothing, OtherSacksDoNothing};
-ghost use Rattle.sctp_sides.specs.SideLaws.{PacketsEnd, PollsGiveAndReport, PollsKeepTheStatus};
+ghost use Rattle.sctp_sides.specs.SideLaws.{EndpointEventsKeepTheStatus, OtherPollsDoNothingInFront, PacketsEnd};
+ghost use Rattle.sctp_sides.specs.SideLaws.{PollsEndLast, PollsGiveAndReport, PollsKeepTheStage};
+ghost use Rattle.sctp_sides.specs.SideLaws.{PollsLeadOnInFront, ShutdownsKeepTheStage, TheSameStatusIsTheSameStage};
 ghost use Rattle.sctp_sides.specs.SideLaws.{PollsOutsideEstablishedGiveWhatWaits, PollsSayTheirActs};
 ghost use Rattle.sctp_sides.specs.SideLaws.{NoResetGoesOut, ReadsChangeStreamsAlone, ReadsKeepTheStatus};
 ghost use Rattle.sctp_sides.specs.SideLaws.{SacksAcknowledge, TakenSacksAcknowledge, TheSameHandshakeIsTheSameStage};
 ghost use Rattle.sctp_sides.specs.SideLaws.{TimeoutsMarkAtMost, TimersKeepTheStatus, ToldEventsKeepTheStatus};
 ghost use Rattle.sctp_sides.specs.SideLaws.{WhatHoldsNothingGivesNothing, WhatWaitsGoesOutAsItIs, WritesKeepTheStatus};
+ghost use Rattle.sctp_sides.specs.Ending.{PollsCompleteWhatIsDue, ShutdownsStayInOrder};
 ghost use Rattle.sctp_sides.specs.NoReset.{AcceptedStreamsBeginNoReset, ClosesBeginNoReset, CreatedSidesResetNothing};
+ghost use Rattle.sctp_sides.specs.NoReset.{EndpointEventsBeginNoReset, ShutdownsBeginNoReset};
 ghost use Rattle.sctp_sides.specs.NoReset.{ExhaustionBeginsNoReset, JoinedSidesResetNothing, LimitsBeginNoReset};
 ghost use Rattle.sctp_sides.specs.NoReset.{OpenedStreamsBeginNoReset, OtherChunksBeginNoReset, PacketEndsBeginNoReset};
 ghost use Rattle.sctp_sides.specs.NoReset.{PollsBeginNoReset, ReadsBeginNoReset, SettingsBeginNoReset};
 ghost use Rattle.sctp_sides.specs.NoReset.{TimersBeginNoReset, ToldEventsBeginNoReset, WritesBeginNoReset};
 ghost use Rattle.sctp_sides.specs.PastSpan.{AcceptedStreamsResetNoMore, ChunksResetNoMore, ClosesEndResets};
 ghost use Rattle.sctp_sides.specs.PastSpan.{ClosesResetNoMore, ExhaustionEndsResets, ExhaustionResetsNoMore};
+ghost use Rattle.sctp_sides.specs.PastSpan.{EndpointEventsResetNoMore, ShutdownsResetNoMore};
 ghost use Rattle.sctp_sides.specs.PastSpan.{LimitsResetNoMore, MoreArePast, MoreIsAskedPast, NoResetIsPastOnly};
 ghost use Rattle.sctp_sides.specs.PastSpan.{OpenedStreamsResetNoMore, PacketEndsResetNoMore, PollsResetNoMore};
 ghost use Rattle.sctp_sides.specs.PastSpan.{ReadsResetNoMore, SettingsResetNoMore, StopsResetThatStream};
@@ -40,7 +46,7 @@ ghost use Rattle.sctp_sides.specs.Intake.{NothingElseIsTakenIn};
 ghost use Rattle.sctp_sides.specs.Lifetimes.{CreatedSidesHaveNothingToSend, JoinedSidesHaveNothingToSend};
 ghost use Rattle.sctp_sides.specs.Lifetimes.{NothingLateGoesOut, RetriesAreKept};
 ghost use Rattle.sctp_sides.specs.Laws.{DueForwardsGoOut, DueSacksGoOut, FaultsAloneClose, OpenedStreamsDoNotClose};
-ghost use Rattle.sctp_sides.specs.Laws.{PollsDoNotClose};
+ghost use Rattle.sctp_sides.specs.Laws.{EndedShutdownsAloneClose, EndpointEventsDoNotClose, ShutdownsDoNotClose};
 ghost use Rattle.sctp_sides.specs.Laws.{AcceptedStreamsDoNotClose, ClosesClose, ExhaustingReadsAloneClose};
 ghost use Rattle.sctp_sides.specs.Laws.{ExhaustingStopsAloneClose, LimitsDoNotClose};
 ghost use Rattle.sctp_sides.specs.Laws.{PollsKeepWhatIsHeld, SacksAreSpelled, SacksNameTheLastTsn, SettingsDoNotClose};
@@ -57,7 +63,9 @@ ghost use Rattle.sctp_sides.specs.Witnesses.{FailuresStopTheTimers, InitsAreTime
 ghost use Rattle.sctp_sides.specs.Witnesses.{JoinedSidesAreFresh, LossesAreToldOnce, LossesStopTheTimers};
 ghost use Rattle.sctp_sides.specs.Witnesses.{LostSidesWaitForNothing, NoHandshakeTimerRunsOnceEstablished};
 ghost use Rattle.sctp_sides.specs.Witnesses.{NothingInFlightIsNotTimed, OutstandingDataIsTimed, PollsTimeRequests};
-ghost use Rattle.sctp_sides.specs.Witnesses.{SentInitsAreTimed, TimeoutsLeaveRequestsTimed};
+ghost use Rattle.sctp_sides.specs.Witnesses.{SentInitsAreTimed, ShutdownsAreTimedInTheirStatesAlone};
+ghost use Rattle.sctp_sides.specs.Witnesses.{ShutdownsFollowAllData, ShutdownsGoOnBehindData};
+ghost use Rattle.sctp_sides.specs.Witnesses.{TimeoutsLeaveRequestsTimed};
 
 use sctp_reset_requests::{completed_requests_are_known, requests_are_held_back};
 
@@ -103,10 +111,11 @@ pub fn writes_and_polls_lose_nothing()
     ensures polled { PollsKeepWhatIsHeld }
 {}
 
-/// Closing: a packet with a fault, or one that leaves the receive buffer exhausted, closes an open association, once,
-/// and no other packet does; so does a read that gives a message and leaves the buffer exhausted, and no other read; so
-/// does a stop of a stream that leaves it so, and no other; so does the application's close. No write, setting, limit,
-/// opened or accepted stream, poll for packets or timer closes.
+/// Closing: a packet with a fault, one that ends a shutdown by SHUTDOWN COMPLETE, or one that leaves the receive buffer
+/// exhausted, closes an open association, once, and no other packet does; so does a read that gives a message and
+/// leaves the buffer exhausted, and no other read; so does a stop of a stream that leaves it so, and no other; so does
+/// a poll for packets that gives SHUTDOWN COMPLETE, and no other; so does the application's close. No write, setting,
+/// limit, opened or accepted stream, shutdown that begins or timer closes.
 pub fn faults_alone_close()
     ensures packets { FaultsAloneClose }
     ensures writes { WritesDoNotClose }
@@ -117,20 +126,22 @@ pub fn faults_alone_close()
     ensures reads { ExhaustingReadsAloneClose }
     ensures stops { ExhaustingStopsAloneClose }
     ensures closes { ClosesClose }
-    ensures polls { PollsDoNotClose }
+    ensures polls { EndedShutdownsAloneClose }
+    ensures shutdowns { ShutdownsDoNotClose }
+    ensures endpoint { EndpointEventsDoNotClose }
     ensures timers { TimersDoNotClose }
 {}
 
-/// Causes: a chunk is a fault exactly where it has one of the causes that are named, and so a packet closes only by
-/// such a cause.
+/// Causes: a chunk is a fault, or ends a shutdown, exactly where it has one of the causes that are named, and so a
+/// packet closes only by such a cause.
 pub fn only_named_causes_close()
     ensures chunk { FaultsAreCauses }
     ensures packet { ClosingPacketsHaveCauses }
     ensures causes { CausesClose }
 {}
 
-/// Reporting: a SACK says what was taken in, is one datagram, and in Established goes out with the next poll where it
-/// is due (RFC 4960 sections 3.3.4 and 6.2); so does FORWARD TSN, behind it (RFC 3758 section 3.5).
+/// Reporting: a SACK says what was taken in, is one datagram, and while DATA is exchanged goes out with the next poll
+/// where it is due (RFC 4960 sections 3.3.4 and 6.2); so does FORWARD TSN, behind it (RFC 3758 section 3.5).
 pub fn sacks_name_the_last_tsn()
     ensures last_tsn { SacksNameTheLastTsn }
     ensures said { SacksSayWhatWasTaken }
@@ -150,8 +161,9 @@ pub fn data_is_taken_in()
 {}
 
 /// Status: whether it failed, its state, whether it was lost, its payload size, its side and its handshake change by no
-/// call of the application, no timer and no poll that is carried out, and what waits to go out stays truthful. (One
-/// that finds no memory in its middle fails the association.)
+/// call of the application but a shutdown, a close, and a read or a stop that closes, no timer and no poll that is
+/// carried out, and what waits to go out stays truthful; a poll may lead a shutdown on, and end it. (One that finds no memory in its middle fails the
+/// association.)
 pub fn calls_keep_the_status()
     ensures opened { OpenedStreamsKeepTheStatus }
     ensures written { WritesKeepTheStatus }
@@ -165,7 +177,10 @@ pub fn calls_keep_the_status()
     ensures stopped_where { StopsAreInEstablished }
     ensures told { ToldEventsKeepTheStatus }
     ensures timers { TimersKeepTheStatus }
-    ensures polled { PollsKeepTheStatus }
+    ensures polled { PollsKeepTheStage }
+    ensures endpoint { EndpointEventsKeepTheStatus }
+    ensures shutdowns { ShutdownsKeepTheStage }
+    ensures stage { TheSameStatusIsTheSameStage }
 {}
 
 /// Resets: an association in which no reset of a stream is under way is one after each call but that which stops a
@@ -180,6 +195,8 @@ pub fn calls_begin_no_reset()
     ensures accepted { AcceptedStreamsBeginNoReset }
     ensures read { ReadsBeginNoReset }
     ensures told { ToldEventsBeginNoReset }
+    ensures shutdowns { ShutdownsBeginNoReset }
+    ensures endpoint { EndpointEventsBeginNoReset }
     ensures closed { ClosesBeginNoReset }
     ensures exhausted { ExhaustionBeginsNoReset }
     ensures timers { TimersBeginNoReset }
@@ -189,8 +206,8 @@ pub fn calls_begin_no_reset()
 {}
 
 /// Resets of streams that are past their span: an association whose resets concern such streams alone is one after each
-/// call, where no other stream is stopped, and after each chunk, if it is no RE-CONFIG that names another stream. A close
-/// leaves no reset under way.
+/// call, where no other stream is stopped, and after each chunk, if it is no RE-CONFIG that names another stream. A
+/// close leaves no reset under way.
 pub fn resets_stay_past_the_span()
     ensures more { MoreArePast }
     ensures asked { MoreIsAskedPast }
@@ -203,6 +220,8 @@ pub fn resets_stay_past_the_span()
     ensures read { ReadsResetNoMore }
     ensures read_past { ReadsEndPast }
     ensures told { ToldEventsResetNoMore }
+    ensures shutdowns { ShutdownsResetNoMore }
+    ensures endpoint { EndpointEventsResetNoMore }
     ensures closed { ClosesResetNoMore }
     ensures exhausted { ExhaustionResetsNoMore }
     ensures stopped { StopsResetThatStream }
@@ -245,6 +264,7 @@ pub fn packets_lead_on()
     ensures faults { FaultsClose }
     ensures exhausted { ExhaustionCloses }
     ensures closed { EstablishedIsNotClosed }
+    ensures exchanges { ClosedSidesExchangeNothing }
     ensures lost { LostAssociationsTakeNothing }
     ensures none { NoPacketChangesNothing }
 {}
@@ -264,6 +284,9 @@ pub fn calls_are_made_of_acts()
     ensures ahead { OnlyForwardsAheadPassOver }
     ensures other { OtherChunksDoNothing }
     ensures poll { PollsGiveAndReport }
+    ensures other_poll { OtherPollsDoNothingInFront }
+    ensures ending { PollsEndLast }
+    ensures front { PollsLeadOnInFront }
     ensures silent { PollsOutsideEstablishedGiveWhatWaits }
     ensures packets { PollsSayTheirActs }
     ensures no_reset { NoResetGoesOut }
@@ -290,7 +313,8 @@ pub fn generations_end_once()
 {}
 
 /// Timing: over every list of calls each timer of DATA, of the handshake and of acknowledgements runs where it should,
-/// unless its retries passed their limit, and there alone (RFC 4960 sections 5.1, 6.2 and 6.3.2). A poll leaves the
+/// unless its retries passed their limit, and there alone (RFC 4960 sections 5.1, 6.2 and 6.3.2), and that of the answer to
+/// SHUTDOWN or SHUTDOWN ACK runs where one is awaited alone (section 9.2). A poll leaves the
 /// timer of a request to reset streams running that is not answered, and so does a timeout (RFC 6525 section 5.1.1). A
 /// side that failed or was lost waits for no moment.
 pub fn timers_run_where_they_should()
@@ -302,12 +326,23 @@ pub fn timers_run_where_they_should()
     ensures cookies_alone { CookiesAreTimedInCookieEchoedAlone }
     ensures established { NoHandshakeTimerRunsOnceEstablished }
     ensures acknowledgements { DelayedSacksAreTimed }
+    ensures shutdowns { ShutdownsAreTimedInTheirStatesAlone }
     ensures requests { PollsTimeRequests }
     ensures requests_again { TimeoutsLeaveRequestsTimed }
     ensures failures { FailuresStopTheTimers }
     ensures losses { LossesStopTheTimers }
     ensures failed { FailedSidesWaitForNothing }
     ensures lost { LostSidesWaitForNothing }
+{}
+
+/// Ending: over every list of calls a shutdown waits until all DATA of this side is acknowledged, and no longer (RFC
+/// 4960 section 9.2). Each call leaves a shutdown in that order, and a poll gives SHUTDOWN COMPLETE where it was due
+/// before.
+pub fn shutdowns_wait_for_data()
+    ensures follow { ShutdownsFollowAllData }
+    ensures go_on { ShutdownsGoOnBehindData }
+    ensures order { ShutdownsStayInOrder }
+    ensures complete { PollsCompleteWhatIsDue }
 {}
 
 /// Repeats: a request of the peer to reset streams whose number is at or below the last completed one, and is not in

@@ -1,5 +1,6 @@
 use Rattle.sctp_sides.proofs.Proved.{data_opens_or_takes, greetings_make_the_peer_known, other_chunks_do_nothing}
-use Rattle.sctp_sides.proofs.Proved.{other_sacks_do_nothing}
+use Rattle.sctp_sides.proofs.Proved.{other_polls_do_nothing_in_front, other_sacks_do_nothing, polls_end_last}
+use Rattle.sctp_sides.proofs.Proved.{polls_lead_on_in_front}
 use Rattle.sctp_sides.proofs.Proved.{polls_give_and_report, polls_outside_established_give_what_waits}
 use Rattle.sctp_sides.proofs.Proved.{polls_say_their_acts, sacks_acknowledge, taken_sacks_acknowledge}
 use Rattle.sctp_sides.proofs.Proved.{timeouts_mark_at_most, what_waits_goes_out_as_it_is}
@@ -28,6 +29,15 @@ returns-clause-other c = other_chunks_do_nothing
 
 pub returns-clause-poll : goal.returns-clause-poll
 returns-clause-poll c = polls_give_and_report
+
+pub returns-clause-other_poll : goal.returns-clause-other_poll
+returns-clause-other_poll c = other_polls_do_nothing_in_front
+
+pub returns-clause-ending : goal.returns-clause-ending
+returns-clause-ending c = polls_end_last
+
+pub returns-clause-front : goal.returns-clause-front
+returns-clause-front c = polls_lead_on_in_front
 
 pub returns-clause-silent : goal.returns-clause-silent
 returns-clause-silent c = polls_outside_established_give_what_waits

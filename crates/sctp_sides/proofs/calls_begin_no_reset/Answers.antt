@@ -1,3 +1,4 @@
+use Rattle.sctp_sides.proofs.ShutdownCalls.{endpoint_events_begin_no_reset, shutdowns_begin_no_reset}
 use Rattle.sctp_sides.proofs.BeginsNoReset.{accepted_streams_begin_no_reset, closes_begin_no_reset}
 use Rattle.sctp_sides.proofs.BeginsNoReset.{created_sides_reset_nothing, exhaustion_begins_no_reset}
 use Rattle.sctp_sides.proofs.BeginsNoReset.{joined_sides_reset_nothing, limits_begin_no_reset}
@@ -51,3 +52,9 @@ returns-clause-chunks c = other_chunks_begin_no_reset
 
 pub returns-clause-ends : goal.returns-clause-ends
 returns-clause-ends c = packet_ends_begin_no_reset
+
+pub returns-clause-shutdowns : goal.returns-clause-shutdowns
+returns-clause-shutdowns c = shutdowns_begin_no_reset
+
+pub returns-clause-endpoint : goal.returns-clause-endpoint
+returns-clause-endpoint c = endpoint_events_begin_no_reset

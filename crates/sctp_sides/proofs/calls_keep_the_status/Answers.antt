@@ -1,4 +1,6 @@
-use Rattle.sctp_sides.proofs.Proved.{opened_streams_keep_the_status, polls_keep_the_status, reads_keep_the_status}
+use Rattle.sctp_sides.proofs.ShutdownCalls.{endpoint_events_keep_the_status, shutdowns_keep_the_stage}
+use Rattle.sctp_sides.proofs.Proved.{opened_streams_keep_the_status, polls_keep_the_stage, reads_keep_the_status}
+use Rattle.sctp_sides.proofs.Proved.{the_same_status_is_the_same_stage}
 use Rattle.sctp_sides.proofs.Proved.{accepted_streams_keep_the_status, limits_keep_the_status, settings_keep_the_status}
 use Rattle.sctp_sides.proofs.Proved.{timers_keep_the_status, told_events_keep_the_status, writes_keep_the_status}
 use Rattle.sctp_sides.proofs.Proved.{reads_change_streams_alone}
@@ -42,4 +44,13 @@ pub returns-clause-timers : goal.returns-clause-timers
 returns-clause-timers c = timers_keep_the_status
 
 pub returns-clause-polled : goal.returns-clause-polled
-returns-clause-polled c = polls_keep_the_status
+returns-clause-polled c = polls_keep_the_stage
+
+pub returns-clause-stage : goal.returns-clause-stage
+returns-clause-stage c = the_same_status_is_the_same_stage
+
+pub returns-clause-endpoint : goal.returns-clause-endpoint
+returns-clause-endpoint c = endpoint_events_keep_the_status
+
+pub returns-clause-shutdowns : goal.returns-clause-shutdowns
+returns-clause-shutdowns c = shutdowns_keep_the_stage

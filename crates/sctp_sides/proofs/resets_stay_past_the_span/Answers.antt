@@ -1,3 +1,4 @@
+use Rattle.sctp_sides.proofs.ShutdownCalls.{endpoint_events_reset_no_more, shutdowns_reset_no_more}
 use Rattle.sctp_sides.proofs.ChunksPast.{chunks_reset_no_more}
 use Rattle.sctp_sides.proofs.PastOnly.{more_are_past, more_is_asked_past, no_reset_is_past_only}
 use Rattle.sctp_sides.proofs.ResetsNoMore.{accepted_streams_reset_no_more, closes_end_resets, closes_reset_no_more}
@@ -70,3 +71,9 @@ returns-clause-over c = closes_end_resets
 
 pub returns-clause-exhaustion : goal.returns-clause-exhaustion
 returns-clause-exhaustion c = exhaustion_ends_resets
+
+pub returns-clause-shutdowns : goal.returns-clause-shutdowns
+returns-clause-shutdowns c = shutdowns_reset_no_more
+
+pub returns-clause-endpoint : goal.returns-clause-endpoint
+returns-clause-endpoint c = endpoint_events_reset_no_more

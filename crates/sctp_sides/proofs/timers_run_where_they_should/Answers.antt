@@ -1,3 +1,4 @@
+use Rattle.sctp_sides.proofs.ShutdownsOverRuns.{shutdowns_are_timed_in_their_states_alone}
 use Rattle.sctp_sides.proofs.RequestsTimed.{polls_time_requests, timeouts_leave_requests_timed}
 use Rattle.sctp_sides.proofs.TimersOverRuns.{cookies_are_timed_in_cookie_echoed_alone, delayed_sacks_are_timed}
 use Rattle.sctp_sides.proofs.TimersOverRuns.{echoed_cookies_are_timed, failed_sides_wait_for_nothing}
@@ -48,3 +49,6 @@ returns-clause-requests c = polls_time_requests
 
 pub returns-clause-requests_again : goal.returns-clause-requests_again
 returns-clause-requests_again c = timeouts_leave_requests_timed
+
+pub returns-clause-shutdowns : goal.returns-clause-shutdowns
+returns-clause-shutdowns c = shutdowns_are_timed_in_their_states_alone
