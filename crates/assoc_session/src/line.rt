@@ -198,6 +198,8 @@ fn plain_step(name: &str, side: Side2) -> Option<Step> {
         "rtt" => Some(Step::Rtt { side }),
         "accept" => Some(Step::AcceptStream { side }),
         "ids" => Some(Step::StreamIds { side }),
+        "drained" => Some(Step::PollEndpointEvent { side }),
+        "shutdown" => Some(Step::Shutdown { side }),
         "close" => Some(Step::Close { side }),
         _ => None,
     }

@@ -17,6 +17,7 @@ fn show_word(alloc: Global, reply: &Reply) -> Result<String, AllocError> {
     match reply {
         Reply::Done => "ok".to_string(alloc),
         Reply::State(answer) => flag(*answer).to_string(alloc),
+        Reply::EndpointEvent(Some(_)) => "drained".to_string(alloc),
         Reply::NoSuchPacket => "no such packet".to_string(alloc),
         other => show_number(alloc, other),
     }

@@ -6,7 +6,7 @@ use Rattle.sctp_assoc.specs.Leads.{Binds, parts}
 use Rattle.sctp_directions.specs.Acts.{History}
 use Rattle.sctp_sides.specs.Meeting.{IsNoEarlier, Stage, stage_of}
 use Rattle.sctp_sides.specs.PastSpan.{ResetsPastOnly}
-use Rattle.sctp_sides.specs.SideLaws.{IsSameStatus}
+use Rattle.sctp_sides.specs.SideLaws.{KeepsTheStage}
 use Rattle.sctp_assoc.specs.Shown.{Shown}
 use Rattle.sctp_pair.specs.Fits.{IsSilent, StagesAgree, StandsOpen}
 use Rattle.sctp_pair.proofs.BetweenDirections.{By, Goes, Holds, None_brought, OpenAt, Surroundings, moved}
@@ -32,8 +32,8 @@ pub record Underway (x : Surroundings) (B : By → ℕ → Type 0) (a : Shown) :
 
 -- the same association, or one that differs beside its directions, stands open where its parts hold
 unfoldable pub stands_by : (x : Surroundings) {a b : Shown} (k : History) {out coming : Direction}
-    → (s : StandsOpen x.loose x.own x.peer a out coming) → IsSameStatus a b → ResetsPastOnly x.coming.over b → Binds b k
-    → (k.peer ≡ s.past.peer) → x.out.sender.plan.size ≡ out.sender.plan.size → Holds x (parts b k) → OpenAt x b
+    → (s : StandsOpen x.loose x.own x.peer a out coming) → KeepsTheStage a b → ResetsPastOnly x.coming.over b
+    → Binds b k → (k.peer ≡ s.past.peer) → x.out.sender.plan.size ≡ out.sender.plan.size → Holds x (parts b k) → OpenAt x b
 stands_by x {a} {b} k s same past binds met size h = record {
   past = k;
   own_is = h.own_is;
@@ -49,11 +49,11 @@ stands_by x {a} {b} k s same past binds met size h = record {
   resets = past;
 }
 
--- where the status stays, so does what the stage says
-pub goes_same : {here : Stage} (a b : Shown) → IsSameStatus a b → IsNoEarlier here (stage_of a)
+-- where the stage is kept, so is what it says
+pub goes_same : {here : Stage} (a b : Shown) → KeepsTheStage a b → IsNoEarlier here (stage_of a)
     → IsNoEarlier here (stage_of b)
 goes_same {here} a b same g = subst (IsNoEarlier here) (sym (same_stage a b same)) g
 
-pub meets_same : {there : Stage} (a b : Shown) → IsSameStatus a b → StagesAgree (stage_of a) there
+pub meets_same : {there : Stage} (a b : Shown) → KeepsTheStage a b → StagesAgree (stage_of a) there
     → StagesAgree (stage_of b) there
 meets_same {there} a b same m = subst (λ (s : Stage). StagesAgree s there) (sym (same_stage a b same)) m

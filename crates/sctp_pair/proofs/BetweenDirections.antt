@@ -16,7 +16,7 @@ use Rattle.sctp_fit.proofs.OtherEnd.{receivers_events_leave_what_is_sent, sender
 use Rattle.sctp_directions.specs.Acts.{Act, CanAll, IsKeptInOrder, Parts, SetsReliability, done, done_all, receiving}
 use Rattle.sctp_directions.specs.Acts.{sending}
 use Rattle.sctp_assoc.specs.Leads.{parts}
-use Rattle.sctp_assoc.specs.Calls.{is_established}
+use Rattle.sctp_assoc.specs.Calls.{is_beginning}
 use Rattle.sctp_sides.specs.Meeting.{IsNoEarlier, Stage}
 use Rattle.sctp_sides.specs.PastSpan.{ResetsPastOnly}
 use Rattle.sctp_sides.proofs.Proved.{more_are_past}
@@ -29,7 +29,8 @@ use Rattle.sctp_directions.proofs.Proved.{only_forwards_pass_over, only_reads_gi
 use Rattle.sctp_directions.proofs.Proved.{only_what_is_brought_is_taken_in}
 use Rattle.sctp_directions.proofs.Proved.{only_settings_loosen, only_writes_accept}
 use Rattle.sctp_directions.proofs.Proved.{receivers_events_are_received, senders_events_are_sent}
-use Rattle.sctp_pair.specs.Fits.{IsAt, IsSilent, StagesAgree, Stands, StandsClosed, StandsFailed, StandsOpen}
+use Rattle.sctp_pair.specs.Fits.{EndsInOrder, IsAt, IsSilent, StagesAgree, Stands, StandsClosed, StandsFailed}
+use Rattle.sctp_pair.specs.Fits.{StandsOpen}
 
 -- By what the reach of what came may go on: DATA on an offset, or a FORWARD TSN up to a reach.
 pub data By : Type 0 where
@@ -398,8 +399,9 @@ pub record SettlesEnding (Ended : ℕ → Type 0) (x : Surroundings) (b : Shown)
   pub goes : IsNoEarlier x.here here2
   pub at : IsAt b here2
   pub meets : StagesAgree here2 x.there
-  -- no offset is assigned where the association isn't established afterwards, and none of the other side's ever
-  pub no_more : ((is_established b.state ≡ true) × OpenAt (moved x out2 coming2) b)
+  -- no offset is assigned where the association is not past the handshake and open afterwards, and none of the other
+  -- side's ever
+  pub no_more : ((is_beginning b.state ≡ false) × OpenAt (moved x out2 coming2) b)
       ⊎ (out2.sender.plan.places ≡ x.out.sender.plan.places)
   pub coming_still : coming2.sender ≡ x.coming.sender
 
@@ -424,3 +426,4 @@ pub record Faces (x : Surroundings) (a : Shown) : Type 0 where
   pub at : IsAt a x.here
   pub meets : StagesAgree x.here x.there
   pub silent : IsSilent x.there x.coming
+  pub ends : EndsInOrder a

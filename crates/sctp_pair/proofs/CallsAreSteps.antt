@@ -6,15 +6,17 @@ use Rattle.std.specs.List.{AllByRecursion}
 use Rattle.std.proofs.lemmas.Bool.{cases_Bool, true≢false}
 use Rattle.sctp_receive_queues.specs.Messages as letters
 use Rattle.sctp_model.specs.Messages.{Message}
+use Rattle.sctp_parts.specs.declared.state.AssociationState.{AssociationState}
 use Rattle.sctp_model.specs.Packets.{mem}
 use Rattle.sctp_serial.specs.Serial.{tsn}
 use Rattle.sctp_model.specs.Machine.{Direction, Sender}
 use Rattle.sctp_model.proofs.Lists.{all_join}
-use Rattle.sctp_assoc.specs.Calls.{is_established}
+use Rattle.sctp_assoc.specs.Calls.{is_beginning}
+use Rattle.sctp_assoc.specs.Closing.{is_closed_state}
 use Rattle.sctp_sides.specs.Meeting.{Stage}
 use Rattle.sctp_sides.specs.SideLaws.{OfEachChunk}
 use Rattle.sctp_assoc.specs.Shown.{Shown}
-use Rattle.sctp_sides.proofs.Proved.{established_is_not_closed, established_sides_talk}
+use Rattle.sctp_sides.proofs.Proved.{established_sides_talk}
 use Rattle.sctp_reassembly.specs.Stands.{IsReadAs}
 use Rattle.sctp_directions.specs.Between.{IsSound}
 use Rattle.sctp_pair.specs.declared.step.Reply.{Reply}
@@ -36,6 +38,8 @@ use Rattle.sctp_pair.proofs.NeverTakenBack.{runs_are_onward}
 use Rattle.sctp_pair.proofs.Promised.{receives_or_stopped, safe_world}
 use Rattle.sctp_pair.proofs.SaidStaysSaid.{StageGoesOn, said_grows}
 use Rattle.sctp_pair.proofs.HandshakeStages.{stays_put, turned}
+use Rattle.sctp_pair.proofs.QuietCalls.{closed_is_beginning}
+use Rattle.sctp_pair.proofs.ShutdownSteps.{shutdowns_end_in_order}
 
 -- an association stands there still where more streams may be loose
 loosened : {loose more : ℕ → Bool} {own peer : ℕ} {a : Shown} {out coming : Direction}
@@ -96,6 +100,7 @@ faces_a step reply w f = record {
   at = f.stand.at_a;
   meets = f.stand.meets;
   silent = f.stand.silent_b;
+  ends = f.stand.ends_a;
 }
 
 -- and seen from B
@@ -112,6 +117,7 @@ faces_b step reply w f = record {
   at = f.stand.at_b;
   meets = turned f.stand.stage_a f.stand.stage_b f.stand.meets;
   silent = f.stand.silent_a;
+  ends = f.stand.ends_b;
 }
 
 -- What a step and its reply add, read and bring is at this side this alone, and at the other side nothing; the DATA
@@ -133,16 +139,23 @@ abbrev pub IsCallAt : Step → Reply → Side2 → World → ℕ → (ℕ → Li
 IsCallAt step reply side w initial Added Read Brought =
     IsCallEnding None_ended step reply side w initial Added Read Brought
 
+-- a state past the handshake is not Closed
+open_past_the_handshake : (s : AssociationState) → is_beginning s ≡ false → is_closed_state s ≡ false
+open_past_the_handshake s past = ⊎_elim
+    (λ (closed : is_closed_state s ≡ true). absurd (true≢false (sym (closed_is_beginning s closed) ∙ past)))
+    (λ (opened : is_closed_state s ≡ false). opened)
+    (cases_Bool (is_closed_state s))
+
 -- What a call that settles leaves behind.
 module _ {Ended : ℕ → Type 0} {x : Surroundings} {b : Shown} {Added : ℕ → List Message}
     {Read : ℕ → Option letters.ReceivedMessage} {Brought : By → ℕ → Type 0}
     (s : SettlesEnding Ended x b Added Read Brought) where
-  -- an association that is established is open
+  -- an association that is past the handshake is open
   is_open : IsOpen b ⊎ (s.out2.sender.plan.places ≡ x.out.sender.plan.places)
   is_open =
       ⊎_elim
-      (λ (e : (is_established b.state ≡ true) × OpenAt (moved x s.out2 s.coming2) b).
-      inl (e.1.working, established_is_not_closed b e.0))
+      (λ (e : (is_beginning b.state ≡ false) × OpenAt (moved x s.out2 s.coming2) b).
+      inl (e.1.working, open_past_the_handshake b.state e.0))
       (λ (same : s.out2.sender.plan.places ≡ x.out.sender.plan.places). inr same)
       s.no_more
 
@@ -150,7 +163,7 @@ module _ {Ended : ℕ → Type 0} {x : Surroundings} {b : Shown} {Added : ℕ �
   silent_on : IsSilent x.here x.out → IsSilent s.here2 s.out2
   silent_on silent never =
       ⊎_elim
-      (λ (e : (is_established b.state ≡ true) × OpenAt (moved x s.out2 s.coming2) b). absurd
+      (λ (e : (is_beginning b.state ≡ false) × OpenAt (moved x s.out2 s.coming2) b). absurd
       (true≢false (sym (established_sides_talk b e.0 e.1.come).completed
       ∙ ap (λ (z : Stage). z.completed) (s.at e.1.working) ∙ never)))
       (λ (same : s.out2.sender.plan.places ≡ x.out.sender.plan.places). same ∙ silent (⊎_elim
@@ -294,6 +307,8 @@ module _ (step : Step) (reply : Reply) (w : World) (q : Ends) where
             subst (λ (z : List (List ℕ)). AreSaid w.initial_b w.initial_a fits.stand.stage_b s.coming2 s.out2 z)
             (sym same_packets)
             (said_grows w.initial_b w.initial_a (other_goes_on s) w.ends.packets_b fits.stand.said_b);
+        ends_a = shutdowns_end_in_order step reply w.ends q sides.A ends fits.stand.ends_a;
+        ends_b = shutdowns_end_in_order step reply w.ends q sides.B ends fits.stand.ends_b;
       }
 
   -- The same of a call of B.
@@ -361,4 +376,6 @@ module _ (step : Step) (reply : Reply) (w : World) (q : Ends) where
             (all_join (λ (bytes : List ℕ). OfEachChunk (IsSaidBy w.initial_b w.initial_a s.here2 s.out2 s.coming2)
             (packet_in bytes)) w.ends.packets_b given
             (said_grows w.initial_b w.initial_a (own_goes_on s) w.ends.packets_b fits.stand.said_b) said);
+        ends_a = shutdowns_end_in_order step reply w.ends q sides.A ends fits.stand.ends_a;
+        ends_b = shutdowns_end_in_order step reply w.ends q sides.B ends fits.stand.ends_b;
       }

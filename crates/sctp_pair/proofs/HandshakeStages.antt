@@ -4,7 +4,7 @@ use Rattle.std.proofs.lemmas.Bool.{true≢false}
 use Rattle.sctp_wire_types.specs.declared.chunk.Chunk.{Chunk}
 use Rattle.sctp_wire_types.specs.declared.chunk.Chunk.TheVariants as chunks
 use Rattle.sctp_sides.specs.Meeting.{HasCome, IsNoEarlier, MayHear, Stage, stage_of}
-use Rattle.sctp_sides.specs.SideLaws.{IsSameStatus, KeepsWorking, Leaves}
+use Rattle.sctp_sides.specs.SideLaws.{KeepsTheStage, KeepsWorking, Leaves}
 use Rattle.sctp_assoc.specs.Shown.{Shown}
 use Rattle.sctp_sides.proofs.Proved.{the_same_handshake_is_the_same_stage}
 use Rattle.sctp_pair.specs.Fits.{IsAt, StagesAgree}
@@ -45,19 +45,19 @@ hearers_know a (inr (inl w)) (inl done) = w.known
 hearers_know a (inr (inr (inl l))) (inl done) = absurd (true≢false (sym done ∙ l.incomplete))
 hearers_know a (inr (inr (inr s))) (inl done) = s.known
 
--- Where the status stays, so does the stage.
+-- Where the stage is kept it is the same, and the handshake has come as far.
 
-pub same_stage : (a b : Shown) → IsSameStatus a b → stage_of b ≡ stage_of a
+pub same_stage : (a b : Shown) → KeepsTheStage a b → stage_of b ≡ stage_of a
 same_stage a b same = (the_same_handshake_is_the_same_stage a b same.side same.handshake).0
 
-pub come_on : (a b : Shown) → IsSameStatus a b → HasCome a → HasCome b
+pub come_on : (a b : Shown) → KeepsTheStage a b → HasCome a → HasCome b
 come_on a b same come = (the_same_handshake_is_the_same_stage a b same.side same.handshake).1 same.state come
 
-pub at_same : (a b : Shown) (s : Stage) → IsSameStatus a b → IsAt a s → IsAt b s
+pub at_same : (a b : Shown) (s : Stage) → KeepsTheStage a b → IsAt a s → IsAt b s
 at_same a b s same at working = same_stage a b same ∙ at (sym same.failed ∙ working)
 
 -- what was known is known
-pub known_before : (a b : Shown) → IsSameStatus a b → is_some b.handshake.peer_initial_tsn ≡ true
+pub known_before : (a b : Shown) → KeepsTheStage a b → is_some b.handshake.peer_initial_tsn ≡ true
     → is_some a.handshake.peer_initial_tsn ≡ true
 known_before a b same known = ap (λ (s : Stage). s.knows) (sym (same_stage a b same)) ∙ known
 

@@ -28,6 +28,7 @@ mod RefusalNumbers
 pub mod RunsJoined
 pub mod RunsOfWorlds
 pub mod SaidStaysSaid
+pub mod ShutdownSteps
 pub mod QuietCalls
 pub mod SinceBegun
 pub mod StepsLead

@@ -21,6 +21,7 @@ use Rattle.sctp_assoc.specs.Leads.{Binds, parts}
 use Rattle.sctp_assoc.specs.Created.{client, create_refusal, join_refusal, joined, server}
 use Rattle.sctp_assoc.specs.Handshake.{sends_init}
 use Rattle.sctp_assoc.specs.Shown.{Shown}
+use Rattle.sctp_sides.specs.Ending.{IsInOrder}
 use Rattle.sctp_sides.specs.Meeting.{stage_of}
 use Rattle.sctp_pair.specs.Ends.{Ends}
 use Rattle.sctp_pair.specs.World.{empty_world, none_loose}
@@ -50,6 +51,7 @@ fresh_is_sound size some = record {
 record Begins (own peer size other : ℕ) (a : Shown) : Type 0 where
   some : 0 < size
   stands : StandsOpen none_loose own peer a (fresh size) (fresh other)
+  ends : IsInOrder a
 
 -- Two associations that begin, and whose stages fit, fit the empty world.
 fits_begin : {own_a own_b size_a size_b : ℕ} {a b : Shown} → Begins own_a own_b size_a size_b a
@@ -75,6 +77,8 @@ fits_begin {own_a} {own_b} {size_a} {size_b} {a} {b} of_a of_b meets p is =
         silent_b = λ never. refl;
         said_a = tt;
         said_b = tt;
+        ends_a = λ working. inl of_a.ends;
+        ends_b = λ working. inl of_b.ends;
       };
     }
 
@@ -104,8 +108,19 @@ joined_begins {size} {own} {peer} other j = record {
   stands =
       subst (λ (z : Shown). StandsOpen none_loose own.initial_tsn peer.initial_tsn z (fresh size) (fresh other))
       (sym j.is) stands;
+  ends = subst IsInOrder (sym j.is) ends;
 }
   where
+    ends : IsInOrder (joined j.config size j.remote None own peer)
+    ends = record {
+      order = record {
+        behind_data = λ e. absurd (false≢true e);
+        before_data = λ e. absurd (false≢true e);
+        asked = λ e. absurd (false≢true e);
+        answered = λ e. absurd (false≢true e);
+      };
+    }
+
     stands : StandsOpen none_loose own.initial_tsn peer.initial_tsn (joined j.config size j.remote None own peer)
         (fresh size) (fresh other)
     stands = record {
@@ -169,8 +184,19 @@ unfolding sends_init
 client_begins {size} {own} other peer c = record {
   some = some_size size _ _ _ c.unrefused;
   stands = subst (λ (z : Shown). StandsOpen none_loose own peer z (fresh size) (fresh other)) (sym c.is) stands;
+  ends = subst IsInOrder (sym c.is) ends;
 }
   where
+    ends : IsInOrder (client c.config size c.tag own c.cookie c.remote None c.now)
+    ends = record {
+      order = record {
+        behind_data = λ e. absurd (false≢true e);
+        before_data = λ e. absurd (false≢true e);
+        asked = λ e. absurd (false≢true e);
+        answered = λ e. absurd (false≢true e);
+      };
+    }
+
     stands : StandsOpen none_loose own peer (client c.config size c.tag own c.cookie c.remote None c.now) (fresh size)
         (fresh other)
     stands = record {
@@ -215,8 +241,19 @@ server_begins : {size own : ℕ} {a : Shown} (other peer : ℕ) → IsServer siz
 server_begins {size} {own} other peer c = record {
   some = some_size size _ _ _ c.unrefused;
   stands = subst (λ (z : Shown). StandsOpen none_loose own peer z (fresh size) (fresh other)) (sym c.is) stands;
+  ends = subst IsInOrder (sym c.is) ends;
 }
   where
+    ends : IsInOrder (server c.config size c.tag own c.cookie c.remote None)
+    ends = record {
+      order = record {
+        behind_data = λ e. absurd (false≢true e);
+        before_data = λ e. absurd (false≢true e);
+        asked = λ e. absurd (false≢true e);
+        answered = λ e. absurd (false≢true e);
+      };
+    }
+
     stands : StandsOpen none_loose own peer (server c.config size c.tag own c.cookie c.remote None) (fresh size)
         (fresh other)
     stands = record {

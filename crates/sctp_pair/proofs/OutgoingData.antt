@@ -1,12 +1,16 @@
 -- What one association gives up and gives out, while what comes to it stands still: DATA of its direction, sent for the
 -- first time or again, and FORWARD TSN.
-use Rattle.std.proofs.Common.{◌≡◌, ◌∙◌, refl, subst, List, [], ◌∷◌, ◌++◌, ℕ, ◌+◌, ◌≤◌, arith, Bool, true, false, Some}
+use Rattle.std.proofs.Common.{◌≡◌, ◌∙◌, refl, sym, ap, subst, List, [], ◌∷◌, ◌++◌, map, ℕ, ◌+◌, ◌≤◌, arith, Bool}
+use Rattle.std.proofs.Common.{true, false, Option, Some, None, is_some}
 use Rattle.std.specs.Prelude.{slice_get}
 use Rattle.std.specs.List.{AllByRecursion}
 use Rattle.std.proofs.lemmas.Bool.{false≢true}
 use Rattle.sctp_wire_types.specs.declared.chunk.ChunkPayloadData.{ChunkPayloadData}
 use Rattle.sctp_wire_types.specs.declared.chunk.ChunkSelectiveAck.{ChunkSelectiveAck}
 use Rattle.sctp_serial.specs.Serial.{tsn}
+use Rattle.sctp_outbound_queue.specs.declared.message.InFlight.{InFlight}
+use Rattle.sctp_outbound_queue.specs.Message.{sent_started, waiting_started}
+use Rattle.sctp_outbound_queue.specs.Waiting.{Waiting}
 use Rattle.sctp_outbound.specs.declared.sender.Sender.{Sender}
 use Rattle.sctp_outbound.specs.Forward.{forward_of}
 use Rattle.sctp_model.specs.Packets.{Sack}
@@ -16,8 +20,8 @@ use Rattle.sctp_model.proofs.Lists.{all_join, all_weaker}
 use Rattle.sctp_fit.specs.Outgoing.{FitsOutgoing}
 use Rattle.sctp_fit.specs.Sendings.{IsGiven, SendsNext}
 use Rattle.sctp_fit.proofs.NextPiece.{sent_pieces_are_events}
-use Rattle.sctp_directions.specs.Acts.{Act, Can, CanAll, IsOfItsOwn, IsNotPeerKnown, Parts, all_data_given, data_given}
-use Rattle.sctp_directions.specs.Acts.{done, done_all, sending}
+use Rattle.sctp_directions.specs.Acts.{Act, Can, CanAll, IsOfItsOwn, IsNotPeerKnown, Parts, all_data_given, can_abandon}
+use Rattle.sctp_directions.specs.Acts.{can_abandon_tail, can_drop, can_go_again, data_given, done, done_all, sending}
 use Rattle.sctp_directions.specs.Between.{IsSound}
 use Rattle.sctp_directions.specs.Events.{AcceptsAMessage, IsForwardWithin, IsOfSending}
 use Rattle.sctp_directions.specs.Said.{IsForwardMade}
@@ -41,10 +45,17 @@ pub record AfterOut (x : Surroundings) (p : Parts) (given : List ChunkPayloadDat
   pub holds : Holds (record x { out = out2 }) p
   pub said : AllByRecursion (IsGiven x.own out2) given
 
--- What is given up besides, takes at most the one offset of a rest that waits.
-pub record AfterOld (x : Surroundings) (p : Parts) (given : List ChunkPayloadData) : Type 0 where
+-- All that was accepted was sent, and is acknowledged.
+pub record IsAllSent (p : Parts) : Type 0 where
+  pub nothing_waits : p.queue.pending ≡ []
+  pub nothing_in_flight : p.queue.in_flight ≡ []
+
+-- What is given up besides, takes at most the one offset of a rest that waits. Where all was sent before, the direction
+-- stays as it was.
+pub record AfterOld (x : Surroundings) (before p : Parts) (given : List ChunkPayloadData) : Type 0 where
   pub after : AfterOut x p given
   pub room_is : room after.out2 ≤ room x.out
+  pub still : IsAllSent before → after.out2 ≡ x.out
 
 -- FORWARD TSN went out, and is what this sender says.
 record AfterForward (x : Surroundings) (p : Parts) (s : Sender) : Type 0 where
@@ -59,6 +70,7 @@ pub record AfterForwardIf (forwards : Bool) (x : Surroundings) (p : Parts) (s : 
   pub goes : Goes None_brought x.out out2
   pub holds : Holds (record x { out = out2 }) p
   pub said : forwards ≡ true → IsForwardMade x.own out2 (forward_of s)
+  pub still : forwards ≡ false → out2 ≡ x.out
 
 -- To this direction the own one went by events of its sender that are no writes, and the other association still stands
 -- between both.
@@ -101,6 +113,19 @@ after_sendings (e ∷ es) x (t, ts) sound other =
       other = more.other;
     }
 
+-- Where all was sent, no piece is in flight, and no message waits.
+
+no_piece : (test : Option InFlight → Bool) → test None ≡ false → (p : Parts) (index : ℕ) → IsAllSent p
+    → test (slice_get p.queue.in_flight index) ≡ true → ⊥
+no_piece test none p index d can =
+    false≢true
+    (sym none ∙ sym (ap (λ (ps : List InFlight). test (slice_get ps index)) d.nothing_in_flight) ∙ can)
+
+no_message : (test : Option Waiting → Bool) → test None ≡ false → (p : Parts) (index : ℕ) → IsAllSent p
+    → test (slice_get p.queue.pending index) ≡ true → ⊥
+no_message test none p index d can =
+    false≢true (sym none ∙ sym (ap (λ (ms : List Waiting). test (slice_get ms index)) d.nothing_waits) ∙ can)
+
 -- The directions hold the association.
 module _ (x : Surroundings) (p : Parts) (h : Holds x p) where
   -- the act is what these events are at the sender of its own direction
@@ -136,13 +161,14 @@ module _ (x : Surroundings) (p : Parts) (h : Holds x p) where
       (after_sendings sent.0 x sent.1.sends h.sound_out h.other) sent.1.fits sent.1.given
 
   -- an act by which a message is given up, or a piece goes out again
-  one_old : (act : Act) → GivesUpOrAgain act → Can act p → AfterOld x (done act p) (data_given act p)
+  one_old : (act : Act) → GivesUpOrAgain act → Can act p → AfterOld x p (done act p) (data_given act p)
   unfolding act_at_sender
   one_old (Act.Started now) g can = record {
     after =
         act_at_sender (Act.Started now) x.out [] tt tt (λ s n. n) (after_nothing x h.sound_out h.other)
         (its_starts_are_no_events p now x.out h.between.outgoing) tt;
     room_is = omega arith;
+    still = λ d. refl;
   }
   one_old (Act.Abandoned index) g can =
       let gone =
@@ -152,6 +178,7 @@ module _ (x : Surroundings) (p : Parts) (h : Holds x p) where
             act_at_sender (Act.Abandoned index) (happens x.out e) [] tt tt (λ s n. n)
             (after_event x e tt (λ n. n) tt h.sound_out h.other) gone.2 tt;
         room_is = abandonments_take_no_room x.out gone.0 gone.1;
+        still = λ d. absurd (no_piece can_abandon refl p index d can);
       }
   one_old Act.TailAbandoned g can =
       let gone =
@@ -161,6 +188,8 @@ module _ (x : Surroundings) (p : Parts) (h : Holds x p) where
             act_at_sender Act.TailAbandoned (happens x.out e) [] tt tt (λ s n. n)
             (after_event x e tt (λ n. n) tt h.sound_out h.other) gone.2 tt;
         room_is = abandonments_take_no_room x.out gone.0 gone.1;
+        still = λ d. absurd
+            (no_message (λ (m : Option Waiting). can_abandon_tail m p.queue.in_flight) refl p 0 d can);
       }
   one_old (Act.Dropped k) g can =
       let gone = its_drops_are_alike p k x.out can h.sound_out.invariant h.sound_out.counts h.between.outgoing in
@@ -169,6 +198,7 @@ module _ (x : Surroundings) (p : Parts) (h : Holds x p) where
             act_at_sender (Act.Dropped k) (happens x.out e) [] tt tt (λ s n. n)
             (after_event x e tt (λ n. n) tt h.sound_out h.other) gone.2 tt;
         room_is = drops_take_no_room x.out gone.0 gone.1;
+        still = λ d. absurd (no_message can_drop refl p k d can);
       }
   one_old (Act.SentAgain by index) g can =
       let resent = its_pieces_are_given p by index x.out can h.sound_out.invariant h.between.outgoing in
@@ -179,6 +209,7 @@ module _ (x : Surroundings) (p : Parts) (h : Holds x p) where
             (λ s n. n)
             (after_event x e tt (λ n. n) tt h.sound_out h.other) resent.0 resent.1;
         room_is = resends_take_no_room x.out o;
+        still = λ d. absurd (no_piece can_go_again refl p index d can);
       }
   one_old act g can = absurd g
 
@@ -238,13 +269,33 @@ after_both x p mid first second goes said more = record {
       (given_grows x.own mid more.out2 first more.goes said) more.said;
 }
 
+-- where all was sent before such an act, it is sent behind it
+old_leaves_all_sent : (act : Act) (p : Parts) → GivesUpOrAgain act → Can act p → IsAllSent p → IsAllSent (done act p)
+old_leaves_all_sent (Act.Started now) p g can d = record {
+  nothing_waits = ap (λ (ms : List Waiting). map (waiting_started now) ms) d.nothing_waits;
+  nothing_in_flight = ap (λ (ps : List InFlight). map (sent_started now) ps) d.nothing_in_flight;
+}
+old_leaves_all_sent (Act.Abandoned index) p g can d = absurd (no_piece can_abandon refl p index d can)
+old_leaves_all_sent Act.TailAbandoned p g can d =
+    absurd (no_message (λ (m : Option Waiting). can_abandon_tail m p.queue.in_flight) refl p 0 d can)
+old_leaves_all_sent (Act.Dropped k) p g can d = absurd (no_message can_drop refl p k d can)
+old_leaves_all_sent (Act.SentAgain by index) p g can d = absurd (no_piece can_go_again refl p index d can)
+old_leaves_all_sent act p g can d = absurd g
+
+pub all_old_leaves_all_sent : (xs : List Act) (p : Parts) → AllByRecursion GivesUpOrAgain xs → CanAll xs p
+    → IsAllSent p → IsAllSent (done_all xs p)
+all_old_leaves_all_sent [] p g can d = d
+all_old_leaves_all_sent (act ∷ acts) p (g, gs) (can, cans) d =
+    all_old_leaves_all_sent acts (done act p) gs cans (old_leaves_all_sent act p g can d)
+
 -- such acts, one after another
 pub all_old : (xs : List Act) (x : Surroundings) (p : Parts) → AllByRecursion GivesUpOrAgain xs → CanAll xs p
-    → Holds x p → AfterOld x (done_all xs p) (all_data_given xs p)
+    → Holds x p → AfterOld x p (done_all xs p) (all_data_given xs p)
 unfolding after_both
 all_old [] x p g can h = record {
   after = record { out2 = x.out; goes = goes_nowhere None_brought x.out; holds = h; said = tt };
   room_is = omega arith;
+  still = λ d. refl;
 }
 all_old (act ∷ acts) x p (g, gs) (can, cans) h =
     let one = one_old x p h act g can in
@@ -256,6 +307,7 @@ all_old (act ∷ acts) x p (g, gs) (can, cans) h =
       after = after_both x (done_all (act ∷ acts) p) one.after.out2 (data_given act p)
           (all_data_given acts (done act p)) one.after.goes one.after.said more.after;
       room_is = omega (arith, a, b);
+      still = λ d. more.still (old_leaves_all_sent act p g can d) ∙ one.still d;
     }
 
 -- acts that give out new DATA, one after another
@@ -269,6 +321,15 @@ all_new (Act.Sent now ∷ acts) x p (g, gs) (can, cans) h =
     (all_new acts (record x { out = one.out2 }) q gs cans one.holds)
 all_new (act ∷ acts) x p (g, gs) (can, cans) h = absurd g
 
+-- where all was sent before, none of them is there
+pub all_new_stays : (xs : List Act) (x : Surroundings) (p : Parts) (g : AllByRecursion GivesNew xs) (can : CanAll xs p)
+    (h : Holds x p) → IsAllSent p → (all_new xs x p g can h).out2 ≡ x.out
+unfolding all_new
+all_new_stays [] x p g can h d = refl
+all_new_stays (Act.Sent now ∷ acts) x p (g, gs) (can, cans) h d =
+    absurd (no_message (λ (m : Option Waiting). is_some m) refl p 0 d can)
+all_new_stays (act ∷ acts) x p (g, gs) can h d = absurd g
+
 -- FORWARD TSN, where it goes out
 pub forward_if : (forwards : Bool) (x : Surroundings) (p : Parts) (s : Sender) → (forwards ≡ true → Can Act.Forwarded p)
     → s.queue ≡ p.queue → p.queue.first_tsn ≡ tsn p.history.own p.history.base
@@ -278,7 +339,14 @@ forward_if false x p s can same first few h = record {
   goes = goes_nowhere None_brought x.out;
   holds = h;
   said = λ e. absurd (false≢true e);
+  still = λ e. refl;
 }
 forward_if true x p s can same first few h =
     let made = act_forwarded x p h s (can refl) same first few in
-    record { out2 = made.out2; goes = made.goes; holds = made.holds; said = λ e. made.said }
+    record {
+      out2 = made.out2;
+      goes = made.goes;
+      holds = made.holds;
+      said = λ e. made.said;
+      still = λ e. absurd (false≢true (sym e));
+    }

@@ -15,6 +15,7 @@ use Rattle.sctp_sides.specs.SideLaws.{Closes, EndsPacket, OfEachChunk}
 use Rattle.sctp_assoc.specs.Shown.{Shown}
 use Rattle.sctp_sides.proofs.Proved.{lost_associations_take_nothing, no_packet_changes_nothing, packets_carry}
 use Rattle.sctp_sides.proofs.Proved.{past_packets_carry, the_same_handshake_is_the_same_stage}
+use Rattle.sctp_sides.proofs.Proved.{the_same_status_is_the_same_stage}
 use Rattle.sctp_directions.proofs.Proved.{closed_receivers_are_not_open, receivers_events_are_received}
 use Rattle.sctp_pair.specs.Fits.{StagesAgree, StandsFailed}
 use Rattle.sctp_pair.specs.declared.step.Reply.{Reply}
@@ -60,7 +61,8 @@ end_step : {x : Surroundings} {B : By → ℕ → Type 0} (a b : Shown) → Ends
     → (ResetsPastOnly x.coming.over a → ResetsPastOnly x.coming.over b) → Underway x B a
     → Settles x b nothing_added nothing_read B
 end_step {x} {B} a b ends keeps u =
-    settled_open (came_on u [] (ends.leads u.stands.past u.stands.binds) ends.same (still_past u keeps) tt
+    settled_open (came_on u [] (ends.leads u.stands.past u.stands.binds)
+    (the_same_status_is_the_same_stage a b ends.same) (still_past u keeps) tt
     (coming_nowhere B u.within_coming u.holds))
 
 -- Closing

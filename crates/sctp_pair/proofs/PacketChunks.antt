@@ -32,10 +32,11 @@ use Rattle.sctp_assoc.specs.Happened.{acts_of_chunk}
 use Rattle.sctp_assoc.specs.Shown.{Shown}
 use Rattle.sctp_sides.specs.Meeting.{Greets, Stage}
 use Rattle.sctp_sides.specs.PastSpan.{EndsPast, ResetsPast, ResetsPastIfAny, ResetsPastOnly}
-use Rattle.sctp_sides.specs.SideLaws.{DefersOnly, IsAcknowledging, IsPassingOver, IsSameStatus, IsTaking, OpensAndTakes}
-use Rattle.sctp_sides.specs.SideLaws.{OpensOnly, TakesChunk, TakesOnly, WithEndsBehind}
+use Rattle.sctp_sides.specs.SideLaws.{DefersOnly, IsAcknowledging, IsPassingOver, IsTaking, OpensAndTakes}
+use Rattle.sctp_sides.specs.SideLaws.{KeepsTheStage, OpensOnly, TakesChunk, TakesOnly, WithEndsBehind}
 use Rattle.sctp_sides.proofs.Proved.{data_opens_or_takes, done_append, forwards_pass_over, more_are_past}
 use Rattle.sctp_sides.proofs.Proved.{more_is_asked_past, reconfigs_end_past, reconfigs_keep_the_status, sacks_acknowledge}
+use Rattle.sctp_sides.proofs.Proved.{the_same_status_is_the_same_stage}
 use Rattle.sctp_pair.specs.Fits.{IsSaidBy}
 use Rattle.sctp_pair.specs.World.{HasData, HasForward}
 use Rattle.sctp_pair.proofs.BetweenDirections.{By, Holds, None_brought, Surroundings, can_back, can_front, goes_nowhere}
@@ -193,10 +194,10 @@ ends_not_peer_known over Are acts w each =
     (all_join IsNotPeerKnown w.front w.behind (each w.front w.front_are)
     (ends_are_not_peer_known over w.behind w.behind_are))
 
--- Acts of a chunk, which leave the status, have resets concern streams past their span alone and do not make the peer
+-- Acts of a chunk, which keep the stage, have resets concern streams past their span alone and do not make the peer
 -- known, led the direction that comes on.
 pub came_on : {x : Surroundings} {B : By → ℕ → Type 0} {a b : Shown} (u : Underway x B a) (acts : List Act)
-    (leads : (k : History) × Leads acts a u.stands.past b k) → IsSameStatus a b → ResetsPastOnly u.coming2.over b
+    (leads : (k : History) × Leads acts a u.stands.past b k) → KeepsTheStage a b → ResetsPastOnly u.coming2.over b
     → AllByRecursion IsNotPeerKnown acts → Comes (moved x u.out2 u.coming2) B (parts a u.stands.past) acts → Underway x B b
 unfolding stands_by
 came_on {x} {B} {a} {b} u acts leads same past nobody after =
@@ -235,7 +236,7 @@ data_step {x} {B} header piece {a} {b} takes (k, d, e, said) brings u past =
     let leads = takes.leads h u.stands.binds in
     let there = u.goes_coming.datas k d e in
     let still = data_stays_said x.peer piece d (spans_of u.goes_coming) said in
-    came_on u acts leads takes.leaves past
+    came_on u acts leads (the_same_status_is_the_same_stage a b takes.leaves) past
     (ends_not_peer_known u.coming2.over (IsTaking u.coming2.over a piece) acts taking
     (λ front is. taking_is_not_peer_known u.coming2.over a piece front is))
     (with_ends now B (parts a h) u.both (IsTaking u.coming2.over a piece) acts taking leads.1.can
@@ -253,7 +254,7 @@ reset_step {x} {B} header c {a} {b} takes u named past =
     let acts : List Act = acts_of_chunk a header (chunks.Reconfig c) in
     let ends = reconfigs_end_past u.coming2.over a header c u.stands.resets.resets named in
     let leads = takes.leads h u.stands.binds in
-    came_on u acts leads (reconfigs_keep_the_status a b header c takes) past
+    came_on u acts leads (the_same_status_is_the_same_stage a b (reconfigs_keep_the_status a b header c takes)) past
     (ends_are_not_peer_known u.coming2.over acts ends)
     (ends_behind (moved x u.out2 u.coming2) B (parts a h) u.both [] acts ends leads.1.can
     (coming_nowhere B u.within_coming u.holds))
@@ -314,7 +315,7 @@ forward_step {x} {B} header c {a} {b} takes (k, f, e, said) brings u past =
     let leads = takes.leads h u.stands.binds in
     let there = u.goes_coming.forwards k f e in
     let still = forward_stays_said x.peer c f (spans_of u.goes_coming) said in
-    came_on u acts leads takes.leaves past
+    came_on u acts leads (the_same_status_is_the_same_stage a b takes.leaves) past
     (ends_not_peer_known u.coming2.over Passing acts passing
     (λ front is. passing_is_not_peer_known c.new_cumulative_tsn c.streams front is))
     (with_ends now B (parts a h) u.both Passing acts passing leads.1.can

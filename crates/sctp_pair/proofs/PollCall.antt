@@ -1,51 +1,66 @@
 -- A poll of one association for packets.
-use Rattle.std.proofs.Common.{◌≡◌, ◌<◌, refl, sym, ap, ◌∙◌, subst, ◌⊎◌, ⊎_elim, inl, inr, ℕ, Bool, true, false}
-use Rattle.std.proofs.Common.{if◌then◌else◌, List, [], ◌∷◌, ◌++◌, take, drop, Option, Some, None}
+use Rattle.std.proofs.Common.{◌≡◌, ◌<◌, refl, sym, ap, ◌∙◌, subst, ◌⊎◌, ⊎_elim, inl, inr, ℕ, arith, Bool, true, false}
+use Rattle.std.proofs.Common.{not, if◌then◌else◌, ◌&&◌, List, [], ◌∷◌, ◌++◌, length, take, drop, Option, Some, None}
 use Rattle.std.specs.List.{AllByRecursion}
-use Rattle.std.proofs.lemmas.Bool.{cases_Bool, false≢true}
-use Rattle.std.proofs.lemmas.List.{append-nil, take-append-drop}
+use Rattle.std.specs.Prelude.{◌==◌, ◌||◌}
+use Rattle.std.proofs.lemmas.Bool.{and_parts, cases_Bool, eqb-true, false≢true, true≢false}
+use Rattle.std.proofs.lemmas.List.{append-nil, nil_from_length, take-append-drop}
 use Rattle.sctp_wire_types.specs.declared.chunk.Chunk.{Chunk}
 use Rattle.sctp_wire_types.specs.declared.chunk.Chunk.TheVariants as chunks
 use Rattle.sctp_wire.specs.declared.packet.Packet.{Packet}
+use Rattle.sctp_parts.specs.declared.state.AssociationState.{AssociationState}
+use Rattle.sctp_parts.specs.declared.state.AssociationState.TheVariants as states
+use Rattle.sctp_parts.specs.State.{is_closing}
+use Rattle.sctp_model.specs.Machine.{Direction, Event, happens}
 use Rattle.sctp_model.specs.Safe.{IsWithin}
 use Rattle.sctp_model.proofs.Lists.{all_front, all_get, all_join, all_weaker}
+use Rattle.sctp_model.proofs.Proved.{each_event_keeps_the_invariant}
 use Rattle.sctp_directions.specs.Acts.{Act, CanAll, History, Parts, all_data_given, done_all}
-use Rattle.sctp_assoc.specs.Leads.{Leads, parts}
-use Rattle.sctp_assoc.specs.Calls.{is_established}
-use Rattle.sctp_assoc.specs.Happened.{IsOfControl, Polls, PollsOn, acts_of_ack, acts_of_data_poll, acts_of_forwarding}
-use Rattle.sctp_assoc.specs.Happened.{acts_of_poll, forwards_of_poll}
+use Rattle.sctp_assoc.specs.Leads.{Binds, Leads, parts}
+use Rattle.sctp_assoc.specs.Calls.{exchanges_data, is_beginning}
+use Rattle.sctp_assoc.specs.Happened.{IsOfControl, IsOfShutdown, Polls, PollsOn, acts_of_exchange, acts_of_poll}
+use Rattle.sctp_assoc.specs.Happened.{forwards_of_poll}
 use Rattle.sctp_assoc.specs.declared.control.Control.TheVariants as controls
-use Rattle.sctp_sides.specs.Meeting.{Greets, IsTruthful, SaysWhatIsSo, Stage, WaitsTruthfully, stage_of}
-use Rattle.sctp_assoc.specs.Gather.{AreControlReadAgain, control_polled, has_something_to_give, polled}
+use Rattle.sctp_sides.specs.Meeting.{Greets, IsAsFarOn, IsTruthful, SaysWhatIsSo, Stage, WaitsTruthfully, stage_of}
+use Rattle.sctp_assoc.specs.Gather.{AreControlReadAgain, control_polled, has_something_to_give, open_polled, polled}
 use Rattle.sctp_assoc.specs.Gather.{without_control}
 use Rattle.sctp_sides.specs.NoReset.{HasNoReset, control_packets}
 use Rattle.sctp_sides.specs.PastSpan.{AsksPast, ResetsNoMore, ResetsPast, ResetsPastIfAny, ResetsPastOnly, WaitsPast}
-use Rattle.sctp_sides.specs.SideLaws.{IsExchanged, IsGivenBy, IsPolling, IsSameStatus, IsWaitingToGo, OfEachChunk}
-use Rattle.sctp_sides.specs.SideLaws.{reports}
+use Rattle.sctp_sides.specs.SideLaws.{Closes, IsEnded, IsExchanged, IsGivenBy, IsPolling, IsWaitingToGo, KeepsTheStage}
+use Rattle.sctp_sides.specs.SideLaws.{OfEachChunk, reports}
 use Rattle.sctp_assoc.specs.Shown.{Shown}
-use Rattle.sctp_sides.proofs.Proved.{acts_tied, done_append, established_sides_talk, forwardings_are_silent}
+use Rattle.sctp_assoc.specs.Shutdown.{all_acknowledged, awaits_answer, completes_shutdown}
+use Rattle.sctp_assoc.specs.declared.shutdown.ShutdownDue.{ShutdownDue}
+use Rattle.sctp_sides.specs.Ending.{IsInOrder, is_any_due}
+use Rattle.sctp_sides.proofs.Proved.{acts_tied, closed_sides_exchange_nothing, done_append, established_sides_talk}
+use Rattle.sctp_sides.proofs.Proved.{forwardings_are_silent, other_polls_do_nothing_in_front}
+use Rattle.sctp_sides.proofs.Proved.{polls_complete_what_is_due, polls_end_last, polls_keep_the_stage, polls_lead_on_in_front}
 use Rattle.sctp_sides.proofs.Proved.{given_append, more_are_past, more_is_asked_past, no_reset_is_past_only}
 use Rattle.sctp_sides.proofs.Proved.{polls_give_and_report, polls_reset_no_more}
-use Rattle.sctp_sides.proofs.Proved.{polls_keep_the_status, polls_outside_established_give_what_waits}
+use Rattle.sctp_sides.proofs.Proved.{polls_outside_established_give_what_waits, the_same_handshake_is_the_same_stage}
 use Rattle.sctp_sides.proofs.Proved.{polls_say_their_acts, reports_are_silent, what_waits_goes_out_as_it_is}
 use Rattle.sctp_fit.specs.Sendings.{IsGiven}
 use Rattle.sctp_serial.specs.Serial.{tsn}
 use Rattle.sctp_outbound_queue.specs.Outbound.{Outbound, abandoned_in_front_of}
 use Rattle.sctp_outbound.specs.declared.sender.Sender.{Sender}
 use Rattle.sctp_outbound.specs.Forward.{forward_of}
+use Rattle.sctp_outbound_queue.specs.declared.message.InFlight.{InFlight}
 use Rattle.sctp_directions.specs.Said.{IsForwardMade, Says}
+use Rattle.sctp_directions.proofs.Proved.{closed_receivers_are_not_open, receivers_events_are_received}
 use Rattle.sctp_pair.specs.declared.step.Reply.{Reply}
 use Rattle.sctp_pair.specs.declared.step.Reply.TheVariants as replies
 use Rattle.sctp_pair.specs.Fits.{AreSaid, IsSaidBy}
 use Rattle.sctp_pair.specs.Steps.{Fails, GivesOut, HadFailed, LosesSome, packet_in}
-use Rattle.sctp_pair.proofs.SaidStaysSaid.{forward_stays_said}
+use Rattle.sctp_pair.proofs.SaidStaysSaid.{StageGoesOn, forward_stays_said, said_grows}
 use Rattle.sctp_pair.proofs.BetweenDirections.{ClosedAt, Faces, Goes, Holds, None_brought, OpenAt, SettlesQuietly}
 use Rattle.sctp_pair.proofs.BetweenDirections.{StandsAt, Surroundings, can_back, can_front, does_by_goes, goes_on, moved}
-use Rattle.sctp_pair.proofs.BetweenDirections.{spans_of}
+use Rattle.sctp_pair.proofs.BetweenDirections.{goes_by_receiver, goes_nowhere, other_by_receiver, sound_after, spans_of}
+use Rattle.sctp_pair.proofs.BetweenDirections.{spans_stay_put}
 use Rattle.sctp_pair.proofs.ForwardsMade.{few_for_a_forward, new_data_says_the_same, with_queue}
-use Rattle.sctp_pair.proofs.OutgoingData.{all_new, all_old, forward_if, given_grows}
-use Rattle.sctp_pair.proofs.QuietCalls.{by_working, closed_on, fails_settle, open_on, same_settles, still}
-use Rattle.sctp_pair.proofs.HandshakeStages.{at_same, come_on, stays_put}
+use Rattle.sctp_pair.proofs.OutgoingData.{IsAllSent, all_new, all_new_stays, all_old, all_old_leaves_all_sent}
+use Rattle.sctp_pair.proofs.OutgoingData.{forward_if, given_grows}
+use Rattle.sctp_pair.proofs.QuietCalls.{by_working, closed_on, closed_stays, fails_settle, same_settles, still}
+use Rattle.sctp_pair.proofs.HandshakeStages.{at_same, come_on, known_before, stays_put}
 use Rattle.sctp_pair.proofs.NoReset.{without_control_none_begins}
 use Rattle.sctp_pair.proofs.ComingData.{AfterComing, ReportsSaid, act_reported, coming_nowhere}
 
@@ -141,23 +156,88 @@ pub record Polled (x : Surroundings) (b : Shown) (packets : List (List ℕ)) : T
   pub settles : SettlesQuietly x b
   pub said : AreSaid x.own x.peer settles.here2 settles.out2 settles.coming2 packets
 
--- A poll of an association gave these packets and left b.
-module _ {x : Surroundings} {a b : Shown} {packets : List (List ℕ)} (f : Faces x a) (same_status : IsSameStatus a b)
-    (keeps : ResetsNoMore a b) (again : AreControlReadAgain a.control)
-    (control : AllByRecursion (IsOfControl a) (control_polled a).1) where
-  -- In Established DATA goes out, a report where it is due, FORWARD TSN where it is given, and what waits. The
+-- What a poll made of the directions in front of the chunk of a shutdown that goes out last, and what its packets say
+-- of them. An offset is assigned past the handshake alone, and none where all was sent before.
+record Gave (x : Surroundings) (a b : Shown) (h : History) (packets : List (List ℕ)) : Type 0 where
+  out2 : Direction
+  coming2 : Direction
+  goes_out : Goes None_brought x.out out2
+  goes_coming : Goes None_brought x.coming coming2
+  within_coming : IsWithin coming2
+  still : coming2.sender ≡ x.coming.sender
+  holds : Holds (moved x out2 coming2) (parts b h)
+  said : AreSaid x.own x.peer x.here out2 coming2 packets
+  no_more : (is_beginning a.state ≡ false) ⊎ (out2.sender.plan.places ≡ x.out.sender.plan.places)
+  all_sent : IsAllSent (parts a h) → out2 ≡ x.out
+
+-- DATA is exchanged past the handshake alone
+exchanging_is_past : (s : AssociationState) → exchanges_data s ≡ true → is_beginning s ≡ false
+exchanging_is_past states.Closed e = absurd (false≢true e)
+exchanging_is_past states.CookieWait e = absurd (false≢true e)
+exchanging_is_past states.CookieEchoed e = absurd (false≢true e)
+exchanging_is_past states.Established e = refl
+exchanging_is_past states.ShutdownAckSent e = absurd (false≢true e)
+exchanging_is_past states.ShutdownPending e = refl
+exchanging_is_past states.ShutdownReceived e = refl
+exchanging_is_past states.ShutdownSent e = refl
+
+-- a state as far on as one past the handshake is past it, too
+past_as_well : (s t : AssociationState) → IsAsFarOn s t → is_beginning s ≡ false → is_beginning t ≡ false
+past_as_well s t (inl same) past = ap is_beginning same ∙ past
+past_as_well s t (inr (before, later)) past = later
+
+-- the chunks of a shutdown say nothing of the handshake
+shutdowns_greet : (own : ℕ) (s : Stage) (c : Chunk) → IsOfShutdown c → Greets own s c
+shutdowns_greet own s (chunks.Shutdown tsn) is = tt
+shutdowns_greet own s chunks.ShutdownAck is = tt
+shutdowns_greet own s chunks.ShutdownComplete is = tt
+shutdowns_greet own s c is = absurd is
+
+none_in_front : (n : ℕ) → n ≡ 0 → 0 < n → ⊥
+none_in_front n e l = omega (arith, e, l)
+
+-- where nothing is in flight no FORWARD TSN goes out
+no_forward : (forwards : Bool) (p : Parts) → IsAllSent p
+    → (forwards ≡ true → 0 < abandoned_in_front_of p.queue.in_flight) → forwards ≡ false
+no_forward forwards p d could = ⊎_elim
+    (λ (e : forwards ≡ true).
+    absurd (none_in_front (abandoned_in_front_of p.queue.in_flight)
+    (ap (λ (ps : List InFlight). abandoned_in_front_of ps) d.nothing_in_flight) (could e)))
+    (λ (e : forwards ≡ false). e)
+    (cases_Bool forwards)
+
+-- What is said of a poll where what it exchanges is said: what waited, requests to reset streams, and the chunks of a
+-- shutdown say what is so.
+given_said : {x : Surroundings} {a : Shown} (f : Faces x a) (b : Shown) (out coming : Direction) (h : History)
+    (acts : List Act) (forwards : Bool) → ((t : ℕ) → x.coming.over t ≡ true → out.over t ≡ true) → (s : OpenAt x a)
+    → ((exchanges_data a.state ≡ true) → (c : Chunk) → IsExchanged acts forwards a b h c
+    → Says x.own x.peer out coming c)
+    → (c : Chunk) → IsGivenBy x.coming.over acts forwards a b h c → SaysAt (moved x out coming) c
+given_said {x} {a} f b out coming h acts forwards gone s exchanged c (inl w) =
+    waiting_said (moved x out coming) a x.coming.over gone (f.at s.working) s.truthful s.resets.control c w
+given_said f b out coming h acts forwards gone s exchanged c (inr (inl (e, is))) = inl (exchanged e c is)
+given_said {x} {a} f b out coming h acts forwards gone s exchanged c (inr (inr (inl asked))) =
+    asked_said (moved x out coming) a x.coming.over gone c asked
+given_said {x} f b out coming h acts forwards gone s exchanged c (inr (inr (inr is))) =
+    inr (inl (shutdowns_greet x.own x.here c is))
+
+-- A poll of an association gave these packets, and in front of the chunk of a shutdown that went out last left b.
+module _ {x : Surroundings} {a b : Shown} {packets : List (List ℕ)} (f : Faces x a)
+    (again : AreControlReadAgain a.control) (control : AllByRecursion (IsOfControl a) (control_polled a).1) where
+  -- While DATA is exchanged it goes out, a report where it is due, FORWARD TSN where it is given, and what waits. The
   -- direction makes the FORWARD TSN before new DATA goes out, which says the same: only then few offsets are sure to be
   -- assigned.
-  open_polls : (acts : List Act) (forwards : Bool) (s : OpenAt x a) → is_established a.state ≡ true
-      → IsPolling a forwards acts → Polls acts forwards a s.past b packets → Polled x b packets
-  open_polls acts forwards s established polling poll =
+  open_polls : (acts : List Act) (forwards : Bool) (s : OpenAt x a) → exchanges_data a.state ≡ true
+      → IsPolling a forwards acts → Polls acts forwards a s.past b packets → Gave x a b s.past packets
+  open_polls acts forwards s exchanging polling poll =
       let h : History = s.past in
       let p : Parts = parts a h in
       let os : List Act = polling.old in
       let ns : List Act = polling.new in
       let ks : List Act = if reports a then Act.Reported ∷ [] else [] in
       let fs : List Act = if forwards then Act.Forwarded ∷ [] else [] in
-      let known : h.peer ≡ x.peer = s.peer_is (established_sides_talk a established s.come).known in
+      let past : is_beginning a.state ≡ false = exchanging_is_past a.state exchanging in
+      let known : h.peer ≡ x.peer = s.peer_is (established_sides_talk a past s.come).known in
       let before : Holds x p = record {
         own_is = s.own_is;
         sound_out = f.sound_out;
@@ -191,7 +271,8 @@ module _ {x : Surroundings} {a b : Shown} {packets : List (List ℕ)} (f : Faces
       few_for_a_forward x.out old.after.out2 f.within_out old.room_is old.after.goes.reach_on in
       let made = forward_if forwards mid p1 sender could refl tied few old.after.holds in
       let mid2 : Surroundings = record x { out = made.out2 } in
-      let new = all_new ns mid2 p1 polling.new_are (can_back os ns p can_two) made.holds in
+      let can_new : CanAll ns p1 = can_back os ns p can_two in
+      let new = all_new ns mid2 p1 polling.new_are can_new made.holds in
       let to_new : Goes None_brought old.after.out2 new.out2 =
       goes_on None_brought old.after.out2 made.out2 new.out2 made.goes new.goes in
       let goes : Goes None_brought x.out new.out2 =
@@ -222,152 +303,277 @@ module _ {x : Surroundings} {a b : Shown} {packets : List (List ℕ)} (f : Faces
         new.goes.forwards m.0 m.1 m.2,
         forward_stays_said x.own (forward_of sender) m.1 (spans_of new.goes) m.3,
       )) in
-      let stands : OpenAt now b = record {
-        past = h;
-        own_is = s.own_is;
-        peer_is = λ k. known;
-        binds = poll.leads.binds;
-        working = same_status.failed ∙ s.working;
-        come = come_on a b same_status s.come;
-        present = same_status.lost ∙ s.present;
-        truthful = same_status.truthful x.own s.truthful;
-        size = goes.size ∙ s.size ∙ sym same_status.size;
-        between = holds.between;
-        in_order = holds.in_order;
-        resets =
-            more_are_past x.coming.over report.0.coming2.over b (λ t o. report.0.goes.same_spans t ∙ o)
-            (keeps x.coming.over s.resets);
-      } in
       let gone : (t : ℕ) → x.coming.over t ≡ true → new.out2.over t ≡ true =
       λ t o. goes.same_spans t ∙ f.both t ∙ o in
       let exchanged = exchanged_said now a b h acts forwards
       (subst (λ z. AllByRecursion (IsGiven x.own new.out2) z) (sym data_is) given)
       (λ due. subst (λ (z : History). ReportsSaid x.peer z report.0.coming2) (sym past_is) (report.1 due)) forwarded in
-      let said : (c : Chunk) → IsGivenBy x.coming.over acts forwards a b h c → SaysAt now c =
-      λ c. ⊎_elim
-      (λ (w : IsWaitingToGo a c).
-      waiting_said now a x.coming.over gone (f.at s.working) s.truthful s.resets.control c w)
-      (λ (r : ((is_established a.state ≡ true) × IsExchanged acts forwards a b h c) ⊎ AsksPast x.coming.over c).
-      ⊎_elim
-      (λ (e : (is_established a.state ≡ true) × IsExchanged acts forwards a b h c). inl (exchanged c e.1))
-      (λ (asked : AsksPast x.coming.over c). asked_said now a x.coming.over gone c asked)
-      r) in
       record {
-        settles = record {
-          out2 = new.out2;
-          coming2 = report.0.coming2;
-          here2 = x.here;
-          does_out = does_by_goes None_brought x.out new.out2 goes;
-          does_coming = does_by_goes None_brought x.coming report.0.coming2 report.0.goes;
-          sound_out = holds.sound_out;
-          sound_coming = holds.sound_coming;
-          both = λ t. goes.same_spans t ∙ f.both t ∙ sym (report.0.goes.same_spans t);
-          stands = inl stands;
-          other = holds.other;
-          goes = stays_put x.here;
-          at = at_same a b x.here same_status f.at;
-          meets = f.meets;
-          no_more = inl (ap is_established same_status.state ∙ established, stands);
-          coming_still = report.0.still;
-        };
-        said = each_packet (IsGivenBy x.coming.over acts forwards a b h) (SaysAt now) packets said
+        out2 = new.out2;
+        coming2 = report.0.coming2;
+        goes_out = goes;
+        goes_coming = report.0.goes;
+        within_coming = report.0.within;
+        still = report.0.still;
+        holds = holds;
+        said = each_packet (IsGivenBy x.coming.over acts forwards a b h) (SaysAt now) packets
+            (given_said f b new.out2 report.0.coming2 h acts forwards gone s (λ e c is. exchanged c is))
             (polls_say_their_acts x.coming.over acts forwards a b h packets s.resets.resets s.truthful.plain again control
             s.binds poll);
+        no_more = inl past;
+        all_sent =
+            λ d. (let left = all_old_leaves_all_sent os p polling.old_are can_old d in
+            all_new_stays ns mid2 p1 polling.new_are can_new made.holds left
+            ∙ made.still (no_forward forwards p1 left could) ∙ old.still d);
       }
 
-  -- Outside Established what waits goes out, requests to reset streams among it, and nothing else happens.
-  quiet_polls : (acts : List Act) (forwards : Bool) (s : OpenAt x a) → acts ≡ [] → is_established a.state ≡ false
-      → Polls acts forwards a s.past b packets → Polled x b packets
-  unfolding still
+  -- In any other state what waits goes out, requests to reset streams among it, and nothing else happens.
+  quiet_polls : (acts : List Act) (forwards : Bool) (s : OpenAt x a) → acts ≡ [] → exchanges_data a.state ≡ false
+      → Polls acts forwards a s.past b packets → Gave x a b s.past packets
   quiet_polls acts forwards s none outside poll =
       let h : History = s.past in
       let leads : Leads [] a h b h = subst (λ (zs : List Act). Leads zs a h b h) none poll.leads in
-      let gone : (t : ℕ) → x.coming.over t ≡ true → x.out.over t ≡ true = λ t o. f.both t ∙ o in
-      let there : OpenAt x b = open_on x [] s record {
-        past2 = h;
-        leads = leads;
-        nobody = tt;
+      let before : Holds x (parts a h) = record {
+        own_is = s.own_is;
+        sound_out = f.sound_out;
+        sound_coming = f.sound_coming;
+        between = s.between;
         in_order = s.in_order;
-        same = same_status;
-        resets = keeps x.coming.over s.resets;
-        size = refl;
-        outgoing = s.between.outgoing;
-        incoming = s.between.incoming;
+        other = f.other;
       } in
-      let said : (c : Chunk) → IsGivenBy x.coming.over acts forwards a b h c → SaysAt x c =
-      λ c. ⊎_elim
-      (λ (w : IsWaitingToGo a c).
-      waiting_said x a x.coming.over gone (f.at s.working) s.truthful s.resets.control c w)
-      (λ (r : ((is_established a.state ≡ true) × IsExchanged acts forwards a b h c) ⊎ AsksPast x.coming.over c).
-      ⊎_elim
-      (λ (e : (is_established a.state ≡ true) × IsExchanged acts forwards a b h c).
-      absurd (false≢true (sym outside ∙ e.0)))
-      (λ (asked : AsksPast x.coming.over c). asked_said x a x.coming.over gone c asked)
-      r) in
       record {
-        settles = still f (at_same a b x.here same_status f.at) (inl there);
-        said = each_packet (IsGivenBy x.coming.over acts forwards a b h) (SaysAt x) packets said
+        out2 = x.out;
+        coming2 = x.coming;
+        goes_out = goes_nowhere None_brought x.out;
+        goes_coming = goes_nowhere None_brought x.coming;
+        within_coming = f.within_coming;
+        still = refl;
+        holds = subst (Holds x) (sym leads.there) before;
+        said = each_packet (IsGivenBy x.coming.over acts forwards a b h) (SaysAt x) packets
+            (given_said f b x.out x.coming h acts forwards (λ t o. f.both t ∙ o) s
+            (λ e c is. absurd (false≢true (sym outside ∙ e))))
             (polls_say_their_acts x.coming.over acts forwards a b h packets s.resets.resets s.truthful.plain again control
             s.binds poll);
+        no_more = inr refl;
+        all_sent = λ d. refl;
       }
 
-  -- A closed association, in which no reset is under way, gives what waits, too.
-  silent_polls : (now : ℕ) → a.failed ≡ false → polled a now ≡ (b, packets) → is_established a.state ≡ false
-      → IsTruthful x.own a → HasNoReset a → StandsAt x (without_control a) → Polled x b packets
-  unfolding still
-  silent_polls now working e outside truthful quiet stands =
-      let gives : (without_control a, control_packets a.control) ≡ (b, packets) =
-      sym (polls_outside_established_give_what_waits a now quiet outside) ∙ e in
-      let there : StandsAt x b = subst (StandsAt x) (ap (λ (z : Shown × List (List ℕ)). z.0) gives) stands in
-      let past = (no_reset_is_past_only x.out.over a quiet).control in
-      let waited : SaidAt x (control_packets a.control) =
-      each_packet (IsWaitingToGo a) (SaysAt x) (control_packets a.control)
-      (waiting_said x a x.out.over (λ t o. o) (f.at working) truthful past)
-      (what_waits_goes_out_as_it_is a truthful.plain again) in
-      record {
-        settles = still f (at_same a b x.here same_status f.at) there;
-        said = subst (SaidAt x) (ap (λ (z : Shown × List (List ℕ)). z.1) gives) waited;
-      }
+  -- either way
+  polls_give : (now : ℕ) (s : OpenAt x a)
+      → Polls (acts_of_exchange a now) (forwards_of_poll a now) a s.past b packets → Gave x a b s.past packets
+  polls_give now s poll = ⊎_elim
+      (λ (exchanging : exchanges_data a.state ≡ true).
+      open_polls (acts_of_exchange a now) (forwards_of_poll a now) s exchanging (polls_give_and_report a now exchanging)
+      poll)
+      (λ (outside : exchanges_data a.state ≡ false).
+      quiet_polls (acts_of_exchange a now) (forwards_of_poll a now) s (other_polls_do_nothing_in_front a now outside)
+      outside poll)
+      (cases_Bool (exchanges_data a.state))
 
-without_same : (a : Shown) (now : ℕ) → is_established a.state ≡ false → HasNoReset a
-    → IsSameStatus a (without_control a)
-without_same a now outside quiet =
-    subst (IsSameStatus a) (ap (λ (z : Shown × List (List ℕ)). z.0)
-    (polls_outside_established_give_what_waits a now quiet outside)) (polls_keep_the_status a now)
+-- A poll that closes nothing: the association stands open still.
+stays_open : {x : Surroundings} {a b : Shown} {packets : List (List ℕ)} → Faces x a → KeepsTheStage a b
+    → ResetsNoMore a b → (s : OpenAt x a) → Binds b s.past → Gave x a b s.past packets → Polled x b packets
+stays_open {x} {a} {b} f same keeps s binds gave =
+    let now : Surroundings = moved x gave.out2 gave.coming2 in
+    let stands : OpenAt now b = record {
+      past = s.past;
+      own_is = s.own_is;
+      peer_is = λ k. s.peer_is (known_before a b same k);
+      binds = binds;
+      working = same.failed ∙ s.working;
+      come = come_on a b same s.come;
+      present = same.lost ∙ s.present;
+      truthful = same.truthful x.own s.truthful;
+      size = gave.goes_out.size ∙ s.size ∙ sym same.size;
+      between = gave.holds.between;
+      in_order = gave.holds.in_order;
+      resets =
+          more_are_past x.coming.over gave.coming2.over b (λ t o. gave.goes_coming.same_spans t ∙ o)
+          (keeps x.coming.over s.resets);
+    } in
+    record {
+      settles = record {
+        out2 = gave.out2;
+        coming2 = gave.coming2;
+        here2 = x.here;
+        does_out = does_by_goes None_brought x.out gave.out2 gave.goes_out;
+        does_coming = does_by_goes None_brought x.coming gave.coming2 gave.goes_coming;
+        sound_out = gave.holds.sound_out;
+        sound_coming = gave.holds.sound_coming;
+        both = λ t. gave.goes_out.same_spans t ∙ f.both t ∙ sym (gave.goes_coming.same_spans t);
+        stands = inl stands;
+        other = gave.holds.other;
+        goes = stays_put x.here;
+        at = at_same a b x.here same f.at;
+        meets = f.meets;
+        no_more = ⊎_elim
+            (λ (past : is_beginning a.state ≡ false). inl (past_as_well a.state b.state same.state past, stands))
+            (λ (places : gave.out2.sender.plan.places ≡ x.out.sender.plan.places). inr places)
+            gave.no_more;
+        coming_still = gave.still;
+      };
+      said = gave.said;
+    }
 
--- a closed association without what waited stands as before
-closed_without : (x : Surroundings) (a : Shown) → IsSameStatus a (without_control a) → ClosedAt x a
-    → ClosedAt x (without_control a)
-closed_without x a same s = closed_on same (without_control_none_begins a s.no_reset) s.nothing_left s
-
--- outside Established a poll does nothing to the directions
-no_acts_outside : (a : Shown) (now : ℕ) → is_established a.state ≡ false → acts_of_poll a now ≡ []
-no_acts_outside a now e =
-    ap (λ (c : Bool). if c then acts_of_data_poll a now ++ acts_of_ack a ++ acts_of_forwarding (forwards_of_poll a now)
-    else []) e
-
--- any association that didn't fail before
-any_polls : {x : Surroundings} {a b : Shown} (now : ℕ) (packets : List (List ℕ)) → a.failed ≡ false
-    → polled a now ≡ (b, packets) → PollsOn (acts_of_poll a now) (forwards_of_poll a now) a b packets → Faces x a
+-- A poll that gives SHUTDOWN COMPLETE, behind what left m, closes as a fault does: its receiver closes. All was sent
+-- before it.
+closes_last : {x : Surroundings} {a m b : Shown} {packets : List (List ℕ)} → Faces x a → KeepsTheStage a m → Closes m b
+    → IsEnded b → HasNoReset b → (s : OpenAt x a) → IsAllSent (parts a s.past) → Gave x a m s.past packets
     → Polled x b packets
-any_polls {x} {a} {b} now packets working e polls f =
-    let same : IsSameStatus a b =
-    subst (IsSameStatus a) (ap (λ (z : Shown × List (List ℕ)). z.0) e) (polls_keep_the_status a now) in
-    let keeps : ResetsNoMore a b =
-    λ over h. subst (ResetsPastOnly over) (ap (λ (z : Shown × List (List ℕ)). z.0) e)
-    (polls_reset_no_more a now over h) in
-    by_working (Polled x b packets) working f
-    (λ s. ⊎_elim
-    (λ (established : is_established a.state ≡ true).
-    open_polls f same keeps polls.control_again polls.control_said (acts_of_poll a now) (forwards_of_poll a now) s
-    established (polls_give_and_report a now established) (polls.from s.past s.binds))
-    (λ (outside : is_established a.state ≡ false).
-    quiet_polls f same keeps polls.control_again polls.control_said (acts_of_poll a now) (forwards_of_poll a now) s
-    (no_acts_outside a now outside) outside (polls.from s.past s.binds))
-    (cases_Bool (is_established a.state)))
-    (λ s.
-    silent_polls f same keeps polls.control_again polls.control_said now working e s.unestablished s.truthful s.no_reset
-    (inr (inl (closed_without x a (without_same a now s.unestablished s.no_reset) s))))
+closes_last {x} {a} {m} {b} {packets} f front closes ended none s all gave =
+    let coming3 : Direction = happens gave.coming2 Event.Close in
+    let received = receivers_events_are_received gave.coming2 Event.Close tt in
+    let closing : Goes None_brought gave.coming2 coming3 =
+    goes_by_receiver None_brought gave.coming2 Event.Close tt (λ n. n) (λ o n. n) (λ o n. n) in
+    let goes : Goes None_brought x.coming coming3 =
+    goes_on None_brought x.coming gave.coming2 coming3 gave.goes_coming closing in
+    let on : StageGoesOn x.here x.here gave.out2 gave.coming2 gave.out2 coming3 = record {
+      goes = stays_put x.here;
+      datas = λ k d e. e;
+      forwards = λ k g e. e;
+      sacks = received.sacks;
+      spans = spans_stay_put gave.out2;
+    } in
+    record {
+      settles = record {
+        out2 = gave.out2;
+        coming2 = coming3;
+        here2 = x.here;
+        does_out = does_by_goes None_brought x.out gave.out2 gave.goes_out;
+        does_coming = does_by_goes None_brought x.coming coming3 goes;
+        sound_out = gave.holds.sound_out;
+        sound_coming =
+            sound_after Event.Close
+            (each_event_keeps_the_invariant gave.coming2 Event.Close gave.within_coming
+            gave.holds.sound_coming.invariant)
+            gave.holds.sound_coming;
+        both = λ t. gave.goes_out.same_spans t ∙ f.both t ∙ sym (goes.same_spans t);
+        stands = inr (inl record {
+          closed = ended.closed;
+          unestablished = ended.unestablished;
+          lost = ended.lost;
+          stopped = closed_receivers_are_not_open gave.coming2;
+          nothing_left = ended.holds_nothing;
+          truthful = closes.truthful x.own (front.truthful x.own s.truthful);
+          no_reset = none;
+        });
+        other = other_by_receiver (moved x gave.out2 gave.coming2) Event.Close tt gave.holds.other;
+        goes = stays_put x.here;
+        at = λ working. (the_same_handshake_is_the_same_stage m b closes.side closes.handshake).0
+            ∙ at_same a m x.here front f.at (sym closes.failed ∙ working);
+        meets = f.meets;
+        no_more = inr (ap (λ (w : Direction). w.sender.plan.places) (gave.all_sent all));
+        coming_still = received.sender ∙ gave.still;
+      };
+      said = said_grows x.own x.peer on packets gave.said;
+    }
+
+-- A closed association, in which no reset is under way, gives what waits, too.
+silent_polls : {x : Surroundings} {a b : Shown} {packets : List (List ℕ)} (now : ℕ) → Faces x a → KeepsTheStage a b
+    → AreControlReadAgain a.control → a.failed ≡ false → polled a now ≡ (b, packets) → ClosedAt x a → Polled x b packets
+unfolding still
+silent_polls {x} {a} {b} {packets} now f same again working e s =
+    let nothing = closed_sides_exchange_nothing a s.closed in
+    let plainly = polls_outside_established_give_what_waits a now s.no_reset nothing.0 nothing.1 in
+    let gives : (without_control a, control_packets a.control) ≡ (b, packets) = sym plainly ∙ e in
+    let left : without_control a ≡ b = ap (λ (z : Shown × List (List ℕ)). z.0) gives in
+    let stays : KeepsTheStage a (without_control a) = subst (KeepsTheStage a) (sym left) same in
+    let there : StandsAt x b =
+    subst (StandsAt x) left
+    (inr (inl (closed_on stays (without_control_none_begins a s.no_reset) s.nothing_left s))) in
+    let waits = (no_reset_is_past_only x.out.over a s.no_reset).control in
+    let waited : SaidAt x (control_packets a.control) =
+    each_packet (IsWaitingToGo a) (SaysAt x) (control_packets a.control)
+    (waiting_said x a x.out.over (λ t o. o) (f.at working) s.truthful waits)
+    (what_waits_goes_out_as_it_is a s.truthful.plain again) in
+    record {
+      settles = still f (at_same a b x.here same f.at) there;
+      said = subst (SaidAt x) (ap (λ (z : Shown × List (List ℕ)). z.1) gives) waited;
+    }
+
+-- in a state that is none of a shutdown's SHUTDOWN COMPLETE does not go out
+completes_none : (a : Shown) → is_closing a.state ≡ false → completes_shutdown a ≡ false
+completes_none a e =
+    ap (λ (c : Bool). c && not a.shutdown_due.shutdown && not a.shutdown_due.shutdown_ack
+    && a.shutdown_due.shutdown_complete) e
+
+-- both tests of a pair of them
+all_sent_is : (a : Shown) (h : History) → all_acknowledged a ≡ true → IsAllSent (parts a h)
+all_sent_is a h e =
+    let both = and_parts (length a.sender.queue.pending == 0) (length a.sender.queue.in_flight == 0) e in
+    record {
+      nothing_waits = nil_from_length a.sender.queue.pending (eqb-true (length a.sender.queue.pending) 0 both.0);
+      nothing_in_flight =
+          nil_from_length a.sender.queue.in_flight (eqb-true (length a.sender.queue.in_flight) 0 both.1);
+    }
+
+third_of : (x y z : Bool) → z ≡ true → (x || y || z) ≡ true
+third_of true y z e = refl
+third_of false true z e = refl
+third_of false false z e = e
+
+complete_is_due : (due : ShutdownDue) → due.shutdown_complete ≡ true → is_any_due due ≡ true
+complete_is_due due e = third_of due.shutdown due.shutdown_ack due.shutdown_complete e
+
+-- what a poll does where it gives no SHUTDOWN COMPLETE
+without_an_end : (a : Shown) (now : ℕ) → completes_shutdown (open_polled a now).0 ≡ false
+    → acts_of_poll a now ≡ acts_of_exchange a now
+without_an_end a now e =
+    polls_end_last a now ∙ ap (λ (c : Bool). acts_of_exchange a now ++ (if c then Act.Ended ∷ [] else [])) e
+    ∙ append-nil (acts_of_exchange a now)
+
+-- Any association that didn't fail before polls, and is b then.
+module _ {x : Surroundings} {a : Shown} (b : Shown) (now : ℕ) (packets : List (List ℕ)) (working : a.failed ≡ false)
+    (e : polled a now ≡ (b, packets)) (polls : PollsOn (acts_of_poll a now) (forwards_of_poll a now) a b packets)
+    (f : Faces x a) where
+  abbrev front : Shown
+  front = (open_polled a now).0
+
+  left : (polled a now).0 ≡ b
+  left = ap (λ (z : Shown × List (List ℕ)). z.0) e
+
+  -- no SHUTDOWN COMPLETE goes out
+  goes_without : completes_shutdown front ≡ false → KeepsTheStage a b
+  goes_without goes = subst (KeepsTheStage a) left ((polls_keep_the_stage a now).same goes)
+
+  open_stays : OpenAt x a → completes_shutdown front ≡ false → Polled x b packets
+  open_stays s goes =
+      let poll = polls.from s.past s.binds in
+      let exchange : Polls (acts_of_exchange a now) (forwards_of_poll a now) a s.past b packets =
+      subst (λ (zs : List Act). Polls zs (forwards_of_poll a now) a s.past b packets) (without_an_end a now goes)
+      poll in
+      stays_open f (goes_without goes)
+      (λ over h. subst (ResetsPastOnly over) left (polls_reset_no_more a now over h)) s poll.leads.binds
+      (polls_give f polls.control_again polls.control_said now s exchange)
+
+  -- it goes out, and closes
+  open_ends : OpenAt x a → completes_shutdown front ≡ true → Polled x b packets
+  open_ends s ends =
+      let on = polls_keep_the_stage a now in
+      let before : IsInOrder a = ⊎_elim
+      (λ (o : IsInOrder a). o)
+      (λ (l : a.lost ≡ true). absurd (true≢false (sym l ∙ s.present)))
+      (f.ends s.working) in
+      let awaits : awaits_answer a.state ≡ true =
+      before.order.asked (complete_is_due a.shutdown_due (polls_complete_what_is_due a now ends)) in
+      let closes : Closes front b = subst (Closes front) left (on.closes ends) in
+      let in_front = polls_lead_on_in_front a b now packets e polls in
+      closes_last f on.front closes (closes.ends (on.was_open ends)) (subst HasNoReset left (on.no_reset ends)) s
+      (all_sent_is a s.past (before.order.behind_data awaits))
+      (polls_give f in_front.control_again in_front.control_said now s (in_front.from s.past s.binds))
+
+  -- a closed association gives none
+  closed_polls : ClosedAt x a → Polled x b packets
+  closed_polls s =
+      let state = closed_stays a.state front.state (polls_keep_the_stage a now).front.state s.closed in
+      let goes = completes_none front (ap is_closing state ∙ (closed_sides_exchange_nothing a s.closed).1) in
+      silent_polls now f (goes_without goes) polls.control_again working e s
+
+  any_polls : Polled x b packets
+  any_polls =
+      by_working (Polled x b packets) working f
+      (λ s. ⊎_elim (open_ends s) (open_stays s) (cases_Bool (completes_shutdown front)))
+      closed_polls
 
 -- of packets that are said the first ones are
 first_said : (Says : Chunk → Type 0) (n : ℕ) (packets : List (List ℕ))
@@ -401,15 +607,15 @@ module _ {x : Surroundings} {a : Shown} (b : Shown) (now : ℕ) (packets more : 
   refused_polls n (inr (inl (gives, fails, e))) = gives_nothing packets more (fails_settle fails.2.marked f) e
   refused_polls n (inr (inr (working, number, is, polls, (kept, fewer, e)))) =
       let all : List (List ℕ) = (polled a now).1 in
-      let poll = any_polls now all working (pair_is (polled a now) b is) polls f in
+      let poll = any_polls b now all working (pair_is (polled a now) b is) polls f in
       let s = poll.settles in
       (s, take kept all, e, first_said (IsSaidBy x.own x.peer s.here2 s.out2 s.coming2) kept all poll.said)
 
   pub poll_settles : (r : Reply) → GivesOut a packets now r b more → PollSettles x b packets more
   poll_settles replies.NothingSent (working, is, polls, e) =
-      let poll = any_polls now [] working is polls f in gives_nothing packets more poll.settles e
+      let poll = any_polls b now [] working is polls f in gives_nothing packets more poll.settles e
   poll_settles (replies.Sent first count) (working, some, first_is, count_is, is, polls, e) =
-      let poll = any_polls now (polled a now).1 working (pair_is (polled a now) b is) polls f in
+      let poll = any_polls b now (polled a now).1 working (pair_is (polled a now) b is) polls f in
       (poll.settles, (polled a now).1, e, poll.said)
   poll_settles (replies.Refused n) h = refused_polls n h
   poll_settles r h = absurd h

@@ -2,9 +2,11 @@
 use Rattle.std.proofs.Common.{◌≡◌, refl, sym, ap, ◌∙◌, subst, ◌⊎◌, ⊎_elim, inl, inr, ℕ, Bool, true, false, List, []}
 use Rattle.std.proofs.Common.{◌∷◌}
 use Rattle.std.proofs.Common.{None}
-use Rattle.std.proofs.lemmas.Bool.{true≢false}
+use Rattle.std.proofs.lemmas.Bool.{false≢true, true≢false}
 use Rattle.std.specs.List.{AllByRecursion}
 use Rattle.sctp_wire_types.specs.declared.ids.PayloadProtocolIdentifier.{PayloadProtocolIdentifier}
+use Rattle.sctp_parts.specs.declared.state.AssociationState.{AssociationState}
+use Rattle.sctp_parts.specs.declared.state.AssociationState.TheVariants as states
 use Rattle.sctp_model.specs.Machine.{Direction, Event, happens}
 use Rattle.sctp_model.proofs.Proved.{each_event_keeps_the_invariant}
 use Rattle.sctp_fit.specs.Incoming.{FitsIncoming}
@@ -17,15 +19,16 @@ use Rattle.sctp_directions.proofs.Proved.{acts_keep_the_initial_tsns, closed_rec
 use Rattle.sctp_directions.proofs.Proved.{receivers_events_are_received}
 use Rattle.sctp_assoc.specs.Leads as assoc
 use Rattle.sctp_assoc.specs.Leads.{Leads, parts}
-use Rattle.sctp_assoc.specs.Calls.{is_established, open_refusal, opened}
+use Rattle.sctp_assoc.specs.Calls.{is_beginning, is_established, open_refusal, opened}
 use Rattle.sctp_assoc.specs.Closing.{is_closed_state}
 use Rattle.sctp_assoc.specs.Shown.{Shown}
 use Rattle.sctp_sides.specs.NoReset.{HasNoReset}
 use Rattle.sctp_sides.specs.PastSpan.{ResetsNoMore, ResetsPastOnly}
-use Rattle.sctp_sides.specs.SideLaws.{HoldsNothing, IsNotLive, IsSameStatus}
+use Rattle.sctp_sides.specs.Meeting.{IsAsFarOn}
+use Rattle.sctp_sides.specs.SideLaws.{HoldsNothing, IsNotLive, IsSameStatus, KeepsTheStage}
 use Rattle.sctp_sides.proofs.Proved.{open_leads_on, opened_streams_hold_nothing, opened_streams_keep_the_status}
 use Rattle.sctp_sides.proofs.Proved.{opened_streams_begin_no_reset, opened_streams_reset_no_more}
-use Rattle.sctp_sides.proofs.Proved.{opened_streams_were_not_live}
+use Rattle.sctp_sides.proofs.Proved.{opened_streams_were_not_live, the_same_status_is_the_same_stage}
 use Rattle.sctp_pair.specs.declared.step.Reply.{Reply}
 use Rattle.sctp_pair.specs.declared.step.Reply.TheVariants as replies
 use Rattle.sctp_pair.specs.Fits.{IsAt, StandsClosed, StandsFailed}
@@ -132,9 +135,9 @@ refused_call_settles (inr (due, fails)) f = fails_settle fails.2.marked f
 
 -- An open association goes on
 
--- Acts that are not `PeerKnown` and leave the streams in order that are within their span and not loose lead from a with
--- this past to b, whose status is the same and whose resets concern streams past their span alone, and to directions that
--- fit what the acts did.
+-- Acts that are not `PeerKnown` and leave the streams in order that are within their span and not loose lead from a
+-- with this past to b, whose stage is kept and whose resets concern streams past their span alone, and to directions
+-- that fit what the acts did.
 pub record LeadsOn (x : Surroundings) (a : Shown) (past : History) (acts : List Act) (b : Shown)
     (out2 coming2 : Direction) : Type 0 where
   pub past2 : History
@@ -142,7 +145,7 @@ pub record LeadsOn (x : Surroundings) (a : Shown) (past : History) (acts : List 
   pub nobody : AllByRecursion IsNotPeerKnown acts
   pub in_order : (t : ℕ) → out2.over t ≡ false → x.loose t ≡ false
       → IsKeptInOrder (done_all acts (parts a past)).streams t
-  pub same : IsSameStatus a b
+  pub same : KeepsTheStage a b
   pub resets : ResetsPastOnly coming2.over b
   pub size : out2.sender.plan.size ≡ x.out.sender.plan.size
   pub outgoing : FitsOutgoing (sending (done_all acts (parts a past))) out2
@@ -162,11 +165,11 @@ pub still_in_order : (x : Surroundings) (acts : List Act) {a : Shown} (s : OpenA
 still_in_order x acts {a} s orderly t within tight =
     order_stays x.loose acts (parts a s.past) t tight orderly (s.in_order t within tight)
 
--- An open association whose status stays stands open where acts lead, between directions that fit what they did.
+-- An open association whose stage is kept stands open where acts lead, between directions that fit what they did.
 pub open_on : (x : Surroundings) (acts : List Act) {a b : Shown} {out2 coming2 : Direction} (s : OpenAt x a)
     → LeadsOn x a s.past acts b out2 coming2 → OpenAt (moved x out2 coming2) b
 open_on x acts {a} {b} {out2} {coming2} s m =
-    let status : IsSameStatus a b = m.same in
+    let status : KeepsTheStage a b = m.same in
     let there : parts b m.past2 ≡ done_all acts (parts a s.past) = m.leads.there in
     let kept = acts_keep_the_initial_tsns acts (parts a s.past) m.nobody in
     record {
@@ -191,13 +194,28 @@ open_on x acts {a} {b} {out2} {coming2} s m =
 
 -- A closed association stays closed
 
--- A closed association whose status stays, whose streams hold nothing, and in which no reset is under way, stands
+-- Closed is a state in front of Established, and so no state of a shutdown is as far on as it.
+pub closed_is_beginning : (s : AssociationState) → is_closed_state s ≡ true → is_beginning s ≡ true
+closed_is_beginning states.Closed e = refl
+closed_is_beginning states.CookieWait e = refl
+closed_is_beginning states.CookieEchoed e = refl
+closed_is_beginning states.Established e = absurd (false≢true e)
+closed_is_beginning states.ShutdownAckSent e = absurd (false≢true e)
+closed_is_beginning states.ShutdownPending e = absurd (false≢true e)
+closed_is_beginning states.ShutdownReceived e = absurd (false≢true e)
+closed_is_beginning states.ShutdownSent e = absurd (false≢true e)
+
+pub closed_stays : (s t : AssociationState) → IsAsFarOn s t → is_closed_state s ≡ true → t ≡ s
+closed_stays s t (inl same) e = same
+closed_stays s t (inr (past, later)) e = absurd (false≢true (sym past ∙ closed_is_beginning s e))
+
+-- A closed association whose stage is kept, whose streams hold nothing, and in which no reset is under way, stands
 -- closed.
-pub closed_on : {own : ℕ} {a b : Shown} {coming : Direction} → IsSameStatus a b → HasNoReset b → HoldsNothing b
+pub closed_on : {own : ℕ} {a b : Shown} {coming : Direction} → KeepsTheStage a b → HasNoReset b → HoldsNothing b
     → StandsClosed own a coming → StandsClosed own b coming
-closed_on {own} status none empty s = record {
-  closed = ap is_closed_state status.state ∙ s.closed;
-  unestablished = ap is_established status.state ∙ s.unestablished;
+closed_on {own} {a} {b} status none empty s = record {
+  closed = ap is_closed_state (closed_stays a.state b.state status.state s.closed) ∙ s.closed;
+  unestablished = ap is_established (closed_stays a.state b.state status.state s.closed) ∙ s.unestablished;
   lost = status.lost ∙ s.lost;
   stopped = s.stopped;
   nothing_left = empty;
@@ -222,9 +240,9 @@ by_working {x} {a} T working f opens closes = ⊎_elim
 pub empty_still : (a b : Shown) → b.streams ≡ a.streams → HoldsNothing a → HoldsNothing b
 empty_still a b e empty = subst (λ z. HoldsNothing (record b { streams = z })) (sym e) empty
 
--- Acts lead from a to b, whose status is the same, and the directions fit what they did as they are.
+-- Acts lead from a to b, whose stage is kept, and the directions fit what they did as they are.
 pub record IsUnseen (x : Surroundings) (a : Shown) (acts : List Act) (b : Shown) : Type 0 where
-  pub same : IsSameStatus a b
+  pub same : KeepsTheStage a b
   pub none : HasNoReset a → HasNoReset b
   pub past : ResetsNoMore a b
   pub empty : HoldsNothing a → HoldsNothing b
@@ -255,10 +273,10 @@ unseen_settles {x} {a} {b} acts u working f =
     (λ s. still f (at_same a b x.here u.same f.at) (inr (inl (closed_on u.same (u.none s.no_reset) (u.empty s.nothing_left) s))))
 
 -- the same of a call without acts that leaves the streams as they are
-pub idle_settles : {x : Surroundings} {a b : Shown} → IsSameStatus a b × (b.streams ≡ a.streams)
+pub stage_settles : {x : Surroundings} {a b : Shown} → KeepsTheStage a b × (b.streams ≡ a.streams)
     → (HasNoReset a → HasNoReset b) → ResetsNoMore a b → assoc.LeadsOn [] a b → a.failed ≡ false → Faces x a
     → SettlesQuietly x b
-idle_settles {x} {a} {b} stays none past leads working f = unseen_settles [] record {
+stage_settles {x} {a} {b} stays none past leads working f = unseen_settles [] record {
   same = stays.0;
   none = none;
   past = past;
@@ -270,14 +288,25 @@ idle_settles {x} {a} {b} stays none past leads working f = unseen_settles [] rec
   incoming = λ h fits. fits;
 } working f
 
+-- and of one that leaves the status, too
+pub idle_settles : {x : Surroundings} {a b : Shown} → IsSameStatus a b × (b.streams ≡ a.streams)
+    → (HasNoReset a → HasNoReset b) → ResetsNoMore a b → assoc.LeadsOn [] a b → a.failed ≡ false → Faces x a
+    → SettlesQuietly x b
+idle_settles {x} {a} {b} stays none past leads working f =
+    stage_settles (the_same_status_is_the_same_stage a b stays.0, stays.1) none past leads working f
+
 -- A stream is opened
 
 module _ (x : Surroundings) (a : Shown) (id : ℕ) (kind : PayloadProtocolIdentifier) (f : Faces x a) where
+  keeps_the_stage : KeepsTheStage a (opened a id kind)
+  keeps_the_stage =
+      the_same_status_is_the_same_stage a (opened a id kind) (opened_streams_keep_the_status a id kind)
+
   opened_open : IsNotLive a id → OpenAt x a → SettlesQuietly x (opened a id kind)
   opened_open none s =
       let first : ℕ = a.sender.queue.next_message_id in
       let m = open_leads_on a (opened a id kind) id kind refl s.past s.binds in
-      let same = opened_streams_keep_the_status a id kind in
+      let same = keeps_the_stage in
       let p : Parts = parts a s.past in
       let stands : OpenAt (record x { coming = happens x.coming (Event.Open id) }) (opened a id kind) =
       open_on x (Act.Opened id first kind ∷ []) s record {
@@ -302,7 +331,7 @@ module _ (x : Surroundings) (a : Shown) (id : ℕ) (kind : PayloadProtocolIdenti
   opened_settles : open_refusal a id ≡ None → SettlesQuietly x (opened a id kind)
   opened_settles e =
       let free = opened_streams_were_not_live a id e in
-      let same = opened_streams_keep_the_status a id kind in
+      let same = keeps_the_stage in
       by_working (SettlesQuietly x (opened a id kind)) free.0 f
       (λ s. opened_open free.1 s)
       (λ s. still f (at_same a (opened a id kind) x.here same f.at)

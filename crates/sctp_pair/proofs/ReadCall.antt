@@ -28,11 +28,11 @@ use Rattle.sctp_assoc.specs.Closing.{exhausted, is_closed_state, is_exhausted}
 use Rattle.sctp_assoc.specs.Shown.{Shown}
 use Rattle.sctp_sides.specs.Meeting.{IsTruthful, Stage}
 use Rattle.sctp_sides.specs.NoReset.{HasNoReset}
-use Rattle.sctp_sides.specs.SideLaws.{Exhausts, HoldsNothing, IsLive, IsOver, IsSameStatus, with_read}
+use Rattle.sctp_sides.specs.SideLaws.{Exhausts, HoldsNothing, IsLive, IsOver, IsSameStatus, KeepsTheStage, with_read}
 use Rattle.sctp_sides.proofs.Proved.{exhaustion_closes, exhaustion_ends_resets, exhaustion_resets_no_more}
 use Rattle.sctp_sides.proofs.Proved.{found_streams_are_live, more_are_past, reads_end_past, reads_keep_the_status}
 use Rattle.sctp_sides.proofs.Proved.{reads_lead_on}
-use Rattle.sctp_sides.proofs.Proved.{the_same_handshake_is_the_same_stage}
+use Rattle.sctp_sides.proofs.Proved.{the_same_handshake_is_the_same_stage, the_same_status_is_the_same_stage}
 use Rattle.sctp_sides.proofs.Proved.{what_holds_nothing_gives_nothing}
 use Rattle.sctp_pair.specs.declared.step.Reply.{Reply}
 use Rattle.sctp_pair.specs.declared.step.Reply.TheVariants as replies
@@ -199,7 +199,7 @@ module _ {x : Surroundings} {a b : Shown} (id : ℕ) (message : Option ReceivedM
             λ t within tight. past_in_order out t within
             (orderly_acts_keep_order x.loose (Act.WasRead id) (λ z n. n) (parts a s.past) t tight
             (s.in_order t within tight));
-        same = (reads_keep_the_status a id).same;
+        same = the_same_status_is_the_same_stage a (with_read a id) (reads_keep_the_status a id).same;
         resets =
             more_are_past x.coming.over coming2.over (with_read a id) (λ t o. same t ∙ o)
             (reads_end_past x.coming.over a id s.resets).1;
@@ -332,7 +332,7 @@ module _ {x : Surroundings} {a : Shown} (id : ℕ) (message : Option ReceivedMes
         leads = on.1;
         nobody = tt;
         in_order = h.stands.in_order;
-        same = stays.1;
+        same = the_same_status_is_the_same_stage c (exhausted c) stays.1;
         resets = exhaustion_resets_no_more c h.coming2.over h.stands.resets;
         size = refl;
         outgoing = h.stands.between.outgoing;
@@ -345,7 +345,8 @@ read_open : {x : Surroundings} {a b : Shown} (id : ℕ) (message : Option Receiv
 read_open {x} {a} {b} id message live e f s =
     let h = has_read id message live e f s in
     let reads = reads_keep_the_status a id in
-    let at : IsAt (with_read a id) x.here = at_same a (with_read a id) x.here reads.same f.at in
+    let at : IsAt (with_read a id) x.here =
+    at_same a (with_read a id) x.here (the_same_status_is_the_same_stage a (with_read a id) reads.same) f.at in
     let left : (read_from_stream a id).0 ≡ b = ap (λ (z : Shown × Option ReceivedMessage). z.0) e in
     subst (λ (z : Shown). Settles x z nothing_added (read_by (replies.Read message) id) None_brought) left
     (⊎_elim
@@ -367,13 +368,14 @@ none_exhausts a id none =
 
 read_closed : {own : ℕ} {coming : Direction} (a b : Shown) (id : ℕ) (message : Option ReceivedMessage) → IsLive a id
     → read_from_stream a id ≡ (b, message) → StandsClosed own a coming
-    → (message ≡ None) × IsSameStatus a b × StandsClosed own b coming
+    → (message ≡ None) × KeepsTheStage a b × StandsClosed own b coming
 read_closed a b id message live e s =
     let nothing = what_holds_nothing_gives_nothing a id s.no_reset live s.nothing_left in
     let reads = reads_plainly a id s.no_reset in
     let left : (read_from_stream a id).0 ≡ b = ap (λ (x : Shown × Option ReceivedMessage). x.0) e in
     let plain = reads.plainly (none_exhausts a id (sym reads.given ∙ nothing.0)) in
-    let same : IsSameStatus a b = subst (IsSameStatus a) (sym plain ∙ left) reads.same in (
+    let same : KeepsTheStage a b =
+    the_same_status_is_the_same_stage a b (subst (IsSameStatus a) (sym plain ∙ left) reads.same) in (
       sym (ap (λ (x : Shown × Option ReceivedMessage). x.1) e) ∙ nothing.0,
       same,
       closed_on same (subst HasNoReset (sym plain ∙ left) reads.no_reset)

@@ -21,7 +21,7 @@ use Rattle.sctp_pair.specs.declared.step.Step.TheVariants as steps
 use Rattle.sctp_pair.specs.Ends.{Ends, end_of, packets_of}
 use Rattle.sctp_pair.specs.Steps.{AtSide, Buffers, ComesTo, Delivers, Expires, Finds, Measures, Opens, Reads, SendsAt}
 use Rattle.sctp_pair.specs.Steps.{AcceptsStream, ClosesOne, Limits, Lists, Sets, ShowsOrRefuses, Steps, PollsEvent}
-use Rattle.sctp_pair.specs.Steps.{Stops, Writes}
+use Rattle.sctp_pair.specs.Steps.{PollsEndpointEvent, ShutsDown, Stops, Writes}
 use Rattle.sctp_pair.specs.Steps.{WritesFirst}
 use Rattle.sctp_pair.specs.Steps.{packet_in}
 use Rattle.sctp_streams.specs.declared.setting.Setting.TheVariants as settings
@@ -44,7 +44,7 @@ use Rattle.sctp_pair.proofs.StreamCalls.{accepts_settle, closes_settle, limits_s
 use Rattle.sctp_pair.proofs.StreamCalls.{shows_same}
 use Rattle.sctp_pair.proofs.StopCall.{Ended_by, stops_settle}
 use Rattle.sctp_pair.proofs.StreamCalls.{IsCovered, reliability_settles}
-use Rattle.sctp_pair.proofs.TimedCalls.{expires_settle, tells_settle}
+use Rattle.sctp_pair.proofs.TimedCalls.{drains_settle, expires_settle, shuts_down_settle, tells_settle}
 use Rattle.sctp_pair.proofs.WriteCall.{first_writes_settle, writes_settle, written_by}
 
 -- the initial TSN of the DATA that comes to a side
@@ -331,11 +331,17 @@ module _ (q : Ends) (r : Reply) (w : World) (fits : Fits w.ends w) where
   step_at (steps.Close side) h =
       quiet_leads side (steps.Close side) (λ a b. ClosesOne a r b) (λ x a b c. closes_settle r c)
       (λ y s. (refl, refl)) h h
+  step_at (steps.Shutdown side) h =
+      quiet_leads side (steps.Shutdown side) (λ a b. ShutsDown a r b) (λ x a b c. shuts_down_settle r c)
+      (λ y s. (refl, refl)) h h
   step_at (steps.BufferedAmount side id) h =
       same_leads side (steps.BufferedAmount side id) (λ a b. Buffers a id r b) (λ a b c. buffers_same a id r b c)
       (λ y s. (refl, refl)) h h
   step_at (steps.Poll side) h =
       quiet_leads side (steps.Poll side) (λ a b. PollsEvent a r b) (λ x a b c. tells_settle r c)
+      (λ y s. (refl, refl)) h h
+  step_at (steps.PollEndpointEvent side) h =
+      quiet_leads side (steps.PollEndpointEvent side) (λ a b. PollsEndpointEvent a r b) (λ x a b c. drains_settle r c)
       (λ y s. (refl, refl)) h h
   step_at (steps.PollTimeout side) h =
       same_leads side (steps.PollTimeout side) _ (λ a b c. c.1) (λ y s. (refl, refl)) h h

@@ -23,6 +23,7 @@ use Rattle.sctp_sides.specs.NoReset.{HasNoReset}
 use Rattle.sctp_sides.specs.SideLaws.{IsOver}
 use Rattle.sctp_sides.proofs.Proved.{exhaustion_closes, exhaustion_ends_resets, exhaustion_resets_no_more, more_are_past}
 use Rattle.sctp_sides.proofs.Proved.{open_stops_reset_that_stream, stops_are_in_established, stops_keep_the_status}
+use Rattle.sctp_sides.proofs.Proved.{the_same_status_is_the_same_stage}
 use Rattle.sctp_pair.specs.declared.step.Reply.{Reply}
 use Rattle.sctp_pair.specs.declared.step.Reply.TheVariants as replies
 use Rattle.sctp_pair.specs.Fits.{IsAt, StandsClosed, StandsFailed, StandsOpen}
@@ -204,7 +205,7 @@ module _ {x : Surroundings} {a : Shown} (id : ℕ) (f : Faces x a) where
         in_order = λ t within tight.
             λ v there. s.in_order t ((spans_then x.out id).within t within) tight v
             (sym (stops.others t (another_then x.out id t within)) ∙ there);
-        same = stops.same;
+        same = the_same_status_is_the_same_stage a (stopped_open a id) stops.same;
         resets =
             open_stops_reset_that_stream coming_end.over a id (over_itself x.coming id)
             (more_are_past x.coming.over coming_end.over a (spans_then x.coming id).over s.resets);
@@ -293,7 +294,7 @@ module _ {x : Surroundings} {a : Shown} (id : ℕ) (f : Faces x a) where
         leads = on.1;
         nobody = tt;
         in_order = stands.in_order;
-        same = stays.1;
+        same = the_same_status_is_the_same_stage c (exhausted c) stays.1;
         resets = exhaustion_resets_no_more c coming_end.over stands.resets;
         size = refl;
         outgoing = stands.between.outgoing;
@@ -304,7 +305,7 @@ module _ {x : Surroundings} {a : Shown} (id : ℕ) (f : Faces x a) where
   stop_open s =
       let c = stopped_open a id in
       let stops = stops_keep_the_status a id in
-      let at : IsAt c x.here = at_same a c x.here stops.same f.at in
+      let at : IsAt c x.here = at_same a c x.here (the_same_status_is_the_same_stage a c stops.same) f.at in
       let Settled : Shown → Type 0 = λ (z : Shown). SettlesEnding (That id) x z nothing_added nothing_read None_brought in
       ⊎_elim
       (λ (same : stopped a id ≡ a). quietly (same_settles same f))

@@ -30,6 +30,7 @@ use Rattle.sctp_sides.proofs.Proved.{settings_reset_no_more}
 use Rattle.sctp_sides.proofs.Proved.{limit_leads_on, limits_keep_the_status, settings_begin_no_reset}
 use Rattle.sctp_sides.proofs.Proved.{found_streams_are_live, setting_leads_on, settings_hold_nothing}
 use Rattle.sctp_sides.proofs.Proved.{settings_keep_the_status, the_same_handshake_is_the_same_stage}
+use Rattle.sctp_sides.proofs.Proved.{the_same_status_is_the_same_stage}
 use Rattle.sctp_pair.specs.declared.step.Reply.{Reply}
 use Rattle.sctp_pair.specs.declared.step.Reply.TheVariants as replies
 use Rattle.sctp_pair.specs.Steps.{AcceptsStream, ClosesOne, Limits, Lists, Sets, ShowsOrRefuses}
@@ -57,7 +58,7 @@ module _ (x : Surroundings) (a : Shown) (id : ℕ) (setting : Setting) (f : Face
   adjusted_settles : KeepsOrder x.loose (Act.Adjusted id setting) → stream_refusal a id ≡ None
       → SettlesQuietly x (adjusted a id setting)
   adjusted_settles orderly e = unseen_settles (Act.Adjusted id setting ∷ []) record {
-    same = settings_keep_the_status a id setting;
+    same = the_same_status_is_the_same_stage a (adjusted a id setting) (settings_keep_the_status a id setting);
     none = settings_begin_no_reset a id setting;
     past = settings_reset_no_more a id setting;
     empty = settings_hold_nothing a id setting;

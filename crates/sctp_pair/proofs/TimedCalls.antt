@@ -1,6 +1,11 @@
--- An association tells its events and meets its timeouts: either leaves it between the same directions.
-use Rattle.std.proofs.Common.{◌≡◌, refl, sym, ap, subst, ◌⊎◌, inl, inr, ℕ, Bool, false, List, [], ◌∷◌, Option}
+-- An association tells its events, begins a shutdown and meets its timeouts: each leaves it between the same
+-- directions.
+use Rattle.std.proofs.Common.{◌≡◌, refl, sym, ap, ◌∙◌, subst, ◌⊎◌, ⊎_elim, inl, inr, ℕ, Bool, true, false, List, []}
+use Rattle.std.proofs.Common.{◌∷◌, Option, Some, None, if◌then◌else◌, is_some}
 use Rattle.std.specs.List.{AllByRecursion}
+use Rattle.std.proofs.lemmas.Bool.{cases_Bool, true≢false}
+use Rattle.sctp_wire_types.specs.declared.error.Error.{Error}
+use Rattle.sctp_parts.specs.declared.shared.EndpointEvent.{EndpointEvent}
 use Rattle.sctp_streams.specs.declared.event.Event.{Event}
 use Rattle.sctp_model.specs.Machine.{Direction}
 use Rattle.sctp_fit.specs.Incoming.{FitsIncoming}
@@ -11,19 +16,25 @@ use Rattle.sctp_assoc.specs.Leads.{parts}
 use Rattle.sctp_assoc.specs.Calls.{event_polled}
 use Rattle.sctp_assoc.specs.Happened.{acts_of_timeouts}
 use Rattle.sctp_assoc.specs.Shown.{Shown}
+use Rattle.sctp_assoc.specs.Shutdown.{endpoint_event_polled}
 use Rattle.sctp_assoc.specs.Timeouts.{after_timeouts}
 use Rattle.sctp_sides.specs.NoReset.{HasNoReset}
 use Rattle.sctp_sides.specs.PastSpan.{ResetsPastOnly}
+use Rattle.sctp_sides.proofs.Proved.{endpoint_event_leads_on, endpoint_events_begin_no_reset}
+use Rattle.sctp_sides.proofs.Proved.{endpoint_events_keep_the_status, endpoint_events_reset_no_more}
+use Rattle.sctp_sides.proofs.Proved.{shutdown_leads_on, shutdowns_begin_no_reset, shutdowns_keep_the_stage}
+use Rattle.sctp_sides.proofs.Proved.{shutdowns_reset_no_more}
 use Rattle.sctp_sides.proofs.Proved.{poll_leads_on, timeouts_lead_on, timeouts_mark_at_most, timers_keep_the_status}
 use Rattle.sctp_sides.proofs.Proved.{timers_begin_no_reset, timers_reset_no_more, told_events_begin_no_reset}
-use Rattle.sctp_sides.proofs.Proved.{told_events_keep_the_status, told_events_reset_no_more}
+use Rattle.sctp_sides.proofs.Proved.{the_same_status_is_the_same_stage, told_events_keep_the_status}
+use Rattle.sctp_sides.proofs.Proved.{told_events_reset_no_more}
 use Rattle.sctp_pair.specs.declared.step.Reply.{Reply}
 use Rattle.sctp_pair.specs.declared.step.Reply.TheVariants as replies
-use Rattle.sctp_pair.specs.Steps.{Expires, PollsEvent}
+use Rattle.sctp_pair.specs.Steps.{Expires, PollsEndpointEvent, PollsEvent, ShutsDown}
 use Rattle.sctp_pair.proofs.BetweenDirections.{orderly_acts_keep_order}
 use Rattle.sctp_pair.proofs.BetweenDirections.{Faces, KeepsOrder, SettlesQuietly, Surroundings}
-use Rattle.sctp_pair.proofs.QuietCalls.{empty_still, idle_settles, refused_call_settles, same_settles}
-use Rattle.sctp_pair.proofs.QuietCalls.{unseen_settles}
+use Rattle.sctp_pair.proofs.QuietCalls.{empty_still, fails_settle, idle_settles, refused_call_settles, same_settles}
+use Rattle.sctp_pair.proofs.QuietCalls.{stage_settles, unseen_settles}
 
 -- Events
 
@@ -41,6 +52,41 @@ pub tells_settle : {x : Surroundings} {a b : Shown} (r : Reply) → PollsEvent a
 tells_settle (replies.Event event) h f = told_settles event h.0 h.1 f
 tells_settle (replies.Refused n) h f = same_settles h.2 f
 tells_settle r h f = absurd h
+
+-- What its endpoint is to be told
+
+drained_settles : {x : Surroundings} {a : Shown} → a.failed ≡ false → Faces x a
+    → SettlesQuietly x (endpoint_event_polled a).0
+drained_settles {x} {a} working f =
+    idle_settles (endpoint_events_keep_the_status a) (endpoint_events_begin_no_reset a)
+    (endpoint_events_reset_no_more a) (endpoint_event_leads_on a) working f
+
+-- What the endpoint is to be told is taken out, which one that failed does, too: the directions see nothing of it.
+pub drains_settle : {x : Surroundings} {a b : Shown} (r : Reply) → PollsEndpointEvent a r b → Faces x a
+    → SettlesQuietly x b
+drains_settle {x} {a} {b} (replies.EndpointEvent event) h f =
+    let is : (endpoint_event_polled a).0 ≡ b = ap (λ (z : Shown × Option EndpointEvent). z.0) h in
+    subst (SettlesQuietly x) is (⊎_elim
+    (λ (failed : a.failed ≡ true). fails_settle ((endpoint_events_keep_the_status a).0.failed ∙ failed) f)
+    (λ (working : a.failed ≡ false). drained_settles working f)
+    (cases_Bool a.failed))
+drains_settle r h f = absurd h
+
+-- A shutdown
+
+unrefused_works : (failed : Bool) (fault : Error) (more : Option Error) → (if failed then Some fault else more) ≡ None
+    → failed ≡ false
+unrefused_works true fault more e = absurd (true≢false (ap is_some e))
+unrefused_works false fault more e = refl
+
+-- A shutdown begins: no DATA is given up, and the directions see nothing of it.
+pub shuts_down_settle : {x : Surroundings} {a b : Shown} (r : Reply) → ShutsDown a r b → Faces x a → SettlesQuietly x b
+shuts_down_settle {x} {a} replies.Done h f =
+    subst (SettlesQuietly x) (sym h.1)
+    (stage_settles (shutdowns_keep_the_stage a h.0) (shutdowns_begin_no_reset a) (shutdowns_reset_no_more a)
+    (shutdown_leads_on a) (unrefused_works a.failed _ _ h.0) f)
+shuts_down_settle (replies.Refused n) h f = same_settles h.1 f
+shuts_down_settle r h f = absurd h
 
 -- Timeouts
 
@@ -76,7 +122,7 @@ expired_settles {x} {a} now working f =
     let stays = timers_keep_the_status a now in
     let shape = timeouts_mark_at_most a now in
     unseen_settles acts record {
-      same = stays.0;
+      same = the_same_status_is_the_same_stage a (after_timeouts a now) stays.0;
       none = timers_begin_no_reset a now;
       past = timers_reset_no_more a now;
       empty = empty_still a (after_timeouts a now) stays.1;

@@ -23,7 +23,7 @@ use Rattle.sctp_assoc.specs.Calls.{first_filled, first_refusal, written}
 use Rattle.sctp_assoc.specs.Shown.{Shown}
 use Rattle.sctp_sides.specs.SideLaws.{WasWritable}
 use Rattle.sctp_sides.proofs.Proved.{accepted_writes_fit, write_leads_on, writes_keep_the_status}
-use Rattle.sctp_sides.proofs.Proved.{writes_reset_no_more}
+use Rattle.sctp_sides.proofs.Proved.{the_same_status_is_the_same_stage, writes_reset_no_more}
 use Rattle.sctp_pair.specs.declared.step.Reply.{Reply}
 use Rattle.sctp_pair.specs.declared.step.Reply.TheVariants as replies
 use Rattle.sctp_pair.specs.Steps.{Writes, WritesFirst}
@@ -108,7 +108,7 @@ written_settles {x} {a} id n named bytes can f s =
           λ u within tight. still_in_order x (Act.Wrote id named bytes ∷ []) s
           (orderly_acts_keep_order x.loose (Act.Wrote id named bytes) (λ z n. n), tt) u
           (spans.within u within) tight;
-      same = writes_keep_the_status a id named bytes;
+      same = the_same_status_is_the_same_stage a (written a id named bytes) (writes_keep_the_status a id named bytes);
       resets = writes_reset_no_more a id named bytes x.coming.over s.resets;
       size = sent.0.size;
       outgoing =
@@ -130,7 +130,9 @@ written_settles {x} {a} id n named bytes can f s =
       stands = inl stands;
       other = other_by_sender x e tt f.sound_out.invariant f.other;
       goes = stays_put x.here;
-      at = at_same a (written a id named bytes) x.here (writes_keep_the_status a id named bytes) f.at;
+      at = at_same a (written a id named bytes) x.here
+          (the_same_status_is_the_same_stage a (written a id named bytes) (writes_keep_the_status a id named bytes))
+          f.at;
       meets = f.meets;
       no_more = inr (only_beginnings_assign x.out e tt (λ n. n));
       coming_still = refl;

@@ -7,6 +7,7 @@ use Rattle.sctp_assoc.specs.Leads.{Binds, parts}
 use Rattle.sctp_directions.specs.Acts.{History, IsKeptInOrder}
 use Rattle.sctp_assoc.specs.Calls.{is_established}
 use Rattle.sctp_assoc.specs.Closing.{is_closed_state}
+use Rattle.sctp_sides.specs.Ending.{IsInOrderOrLost}
 use Rattle.sctp_sides.specs.Meeting.{Greets, HasCome, IsDoneAmongClients, IsTruthful, MayHear, Stage, stage_of}
 use Rattle.sctp_sides.specs.NoReset.{HasNoReset}
 use Rattle.sctp_sides.specs.PastSpan.{ResetsPast, ResetsPastOnly}
@@ -77,7 +78,8 @@ abbrev pub IsSilent : Stage → Direction → Type 0
 IsSilent s w = s.completed ≡ false → w.sender.plan.places ≡ []
 
 -- a chunk that a side in this stage gives out: DATA or FORWARD TSN of its own direction, a SACK for the one that comes
--- to it, its handshake's, an ERROR, or a RE-CONFIG that resets streams past their span or responds to one
+-- to it, its handshake's, an ABORT, an ERROR, a shutdown's, or a RE-CONFIG that resets streams past their span or
+-- responds to one
 abbrev pub IsSaidBy : ℕ → ℕ → Stage → Direction → Direction → Chunk → Type 0
 IsSaidBy own peer s out coming chunk = Says own peer out coming chunk ⊎ (Greets own s chunk ⊎ ResetsPast out.over chunk)
 
@@ -85,6 +87,11 @@ IsSaidBy own peer s out coming chunk = Says own peer out coming chunk ⊎ (Greet
 abbrev pub AreSaid : ℕ → ℕ → Stage → Direction → Direction → List (List ℕ) → Type 0
 AreSaid own peer s out coming packets =
     AllByRecursion (λ (bytes : List ℕ). OfEachChunk (IsSaidBy own peer s out coming) (packet_in bytes)) packets
+
+-- the shutdown of an association that did not fail goes on in order, as that there is nothing left to send while it waits
+-- for an answer, or it was lost (RFC 4960 section 9.2)
+abbrev pub EndsInOrder : Shown → Type 0
+EndsInOrder a = a.failed ≡ false → IsInOrderOrLost a
 
 -- A pair stands in a world: both directions are sound, the same streams are past their span in both, and both sides
 -- stand between them.
@@ -104,6 +111,8 @@ pub record StandsIn (p : Ends) (w : World) : Type 0 where
   pub silent_b : IsSilent stage_b w.ba
   pub said_a : AreSaid w.initial_a w.initial_b stage_a w.ab w.ba w.ends.packets_a
   pub said_b : AreSaid w.initial_b w.initial_a stage_b w.ba w.ab w.ends.packets_b
+  pub ends_a : EndsInOrder w.ends.a
+  pub ends_b : EndsInOrder w.ends.b
 
 -- It fits the world where that is within the limits, too.
 pub record Fits (p : Ends) (w : World) : Type 0 where

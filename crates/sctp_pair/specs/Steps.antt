@@ -23,6 +23,7 @@ use Rattle.sctp_assoc.specs.Happened.{PollsOn, acts_of_poll, forwards_of_poll}
 use Rattle.sctp_assoc.specs.Inbound.{taken_packet}
 use Rattle.sctp_assoc.specs.Gather.{has_something_to_give, polled}
 use Rattle.sctp_assoc.specs.Shown.{HasFailed, Shown, answers_of}
+use Rattle.sctp_assoc.specs.Shutdown.{endpoint_event_polled, shutdown_begun, shutdown_refusal}
 use Rattle.sctp_assoc.specs.Timeouts.{after_timeouts, timeouts_take_memory}
 use Rattle.sctp_pair.specs.declared.step.Reply.{Reply}
 use Rattle.sctp_pair.specs.declared.step.Reply.TheVariants as replies
@@ -148,6 +149,17 @@ ClosesOne a replies.Done b = (a.failed ≡ false) × (b ≡ closed_by a reasons.
 ClosesOne a (replies.Refused n) b = HadFailed a n b ⊎ ((is_closed_state a.state ≡ false) × Fails a n b)
 ClosesOne a _ b = ⊥
 
+-- a shutdown begins, or is refused with nothing changed
+abbrev pub ShutsDown : Shown → Reply → Shown → Type 0
+ShutsDown a replies.Done b = (shutdown_refusal a ≡ None) × (b ≡ shutdown_begun a)
+ShutsDown a (replies.Refused n) b = IsNumberOf (shutdown_refusal a) n × (b ≡ a)
+ShutsDown a _ b = ⊥
+
+-- what the endpoint of a side is to be told is taken out
+abbrev pub PollsEndpointEvent : Shown → Reply → Shown → Type 0
+PollsEndpointEvent a (replies.EndpointEvent event) b = endpoint_event_polled a ≡ (b, event)
+PollsEndpointEvent a _ b = ⊥
+
 -- the oldest event is taken out, or with none left it is told that the handshake failed
 abbrev pub PollsEvent : Shown → Reply → Shown → Type 0
 PollsEvent a (replies.Event event) b =
@@ -250,6 +262,7 @@ Steps (steps.Stream side id) p r q = AtSide side p (λ a b. Finds a id r b) q
 Steps (steps.AcceptStream side) p r q = AtSide side p (λ a b. AcceptsStream a r b) q
 Steps (steps.SetMaxSendMessageSize side size) p r q = AtSide side p (λ a b. Limits a size r b) q
 Steps (steps.StreamIds side) p r q = AtSide side p (λ a b. Lists a r b) q
+Steps (steps.Shutdown side) p r q = AtSide side p (λ a b. ShutsDown a r b) q
 Steps (steps.Close side) p r q = AtSide side p (λ a b. ClosesOne a r b) q
 Steps (steps.Write side id bytes) p r q = AtSide side p (λ a b. Writes a id None bytes r b) q
 Steps (steps.WriteWithPpi side id bytes kind) p r q = AtSide side p (λ a b. Writes a id (Some kind) bytes r b) q
@@ -284,6 +297,7 @@ Steps (steps.BufferedAmountHighThreshold side id) p r q =
     AtSide side p (λ a b. ShowsOrRefuses a id (λ s. replies.Threshold s.high_mark) r b) q
 Steps (steps.BufferedAmount side id) p r q = AtSide side p (λ a b. Buffers a id r b) q
 Steps (steps.Poll side) p r q = AtSide side p (λ a b. PollsEvent a r b) q
+Steps (steps.PollEndpointEvent side) p r q = AtSide side p (λ a b. PollsEndpointEvent a r b) q
 Steps (steps.PollTimeout side) p r q = AtSide side p (λ a b. OnlyAnswers a (replies.Timeout (deadline_of a)) r b) q
 Steps (steps.PollTransmit side now) p r q = SendsAt side p now r q
 Steps (steps.HandleTimeout side now) p r q = AtSide side p (λ a b. Expires a now r b) q

@@ -7,7 +7,7 @@ ghost use Rattle.sctp_assoc.specs.Gather.{bytes_within};
 ghost use Rattle.sctp_pair.specs.Steps.{Buffers, Delivers, Expires, Fails, Finds, GivesOut, HadFailed, Opens, Reads};
 ghost use Rattle.sctp_pair.specs.Steps.{AcceptsStream, ClosesOne, Keeps, Limits, Lists, Sets, ShowsOrRefuses, TakesIn};
 ghost use Rattle.sctp_pair.specs.Steps.{TakesPacket};
-ghost use Rattle.sctp_pair.specs.Steps.{PollsEvent, Stops, Writes, WritesFirst};
+ghost use Rattle.sctp_pair.specs.Steps.{PollsEndpointEvent, PollsEvent, ShutsDown, Stops, Writes, WritesFirst};
 ghost use Rattle.sctp_assoc.specs.Calls.{RefusesOrLacksMemory, first_filled, is_writable, open_refusal, opened};
 ghost use Rattle.sctp_assoc.specs.Calls.{refusal_to_write, written};
 ghost use Rattle.sctp_pair.specs.declared.step.Reply.TheVariants as replies;
@@ -83,6 +83,15 @@ pub(crate) fn stream_ids(association: &mut Association) -> Reply
 {
     match association.stream_ids() {
         Ok(ids) => Reply::StreamIds(ids),
+        Err(error) => Reply::Refused(error.number()),
+    }
+}
+
+pub(crate) fn shutdown(association: &mut Association) -> Reply
+    ensures { ShutsDown association.old result association.new }
+{
+    match association.shutdown() {
+        Ok(()) => Reply::Done,
         Err(error) => Reply::Refused(error.number()),
     }
 }
@@ -401,6 +410,12 @@ pub(crate) fn poll(association: &mut Association) -> Reply
         Ok(event) => Reply::Event(event),
         Err(error) => Reply::Refused(error.number()),
     }
+}
+
+pub(crate) fn poll_endpoint_event(association: &mut Association) -> Reply
+    ensures { PollsEndpointEvent association.old result association.new }
+{
+    Reply::EndpointEvent(association.poll_endpoint_event())
 }
 
 pub(crate) fn handle_timeout(association: &mut Association, now: Instant) -> Reply

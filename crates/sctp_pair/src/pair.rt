@@ -327,6 +327,7 @@ impl Pair {
                 max_send_message_size,
             } => calls::set_max_send_message_size(self.end(*side), *max_send_message_size),
             Step::StreamIds { side } => calls::stream_ids(self.end(*side)),
+            Step::Shutdown { side } => calls::shutdown(self.end(*side)),
             Step::Close { side } => calls::close(self.end(*side)),
             Step::Write { side, id, bytes } => calls::write(self.end(*side), *id, bytes),
             Step::WriteWithPpi {
@@ -391,6 +392,7 @@ impl Pair {
             Step::HandleTimeout { side, now } => calls::handle_timeout(self.end(*side), *now),
             Step::Deliver { side, number, now } => self.deliver(*side, *number, *now),
             Step::Poll { side } => calls::poll(self.end(*side)),
+            Step::PollEndpointEvent { side } => calls::poll_endpoint_event(self.end(*side)),
             Step::PollTimeout { side } => Reply::Timeout(self.association(*side).poll_timeout()),
             Step::Rtt { side } => Reply::Rtt(self.association(*side).rtt()),
             Step::IsHandshaking { side } => Reply::State(self.association(*side).is_handshaking()),

@@ -1,7 +1,8 @@
 // What may happen to a pair, and what it replies.
 use bytes::Bytes;
 use sctp_assoc::{
-    Chunks, DataChannelStats, Event, Instant, PayloadProtocolIdentifier, ReliabilityType, StreamId,
+    Chunks, DataChannelStats, EndpointEvent, Event, Instant, PayloadProtocolIdentifier,
+    ReliabilityType, StreamId,
 };
 use std::time::Duration;
 
@@ -157,6 +158,10 @@ pub enum Step {
         side: Side2,
         id: StreamId,
     },
+    /// `Association::shutdown`. Its reply is `Done`.
+    Shutdown {
+        side: Side2,
+    },
     /// `Association::close`. Its reply is `Done`.
     Close {
         side: Side2,
@@ -168,6 +173,10 @@ pub enum Step {
     },
     /// `Association::poll`. Its reply is `Event`.
     Poll {
+        side: Side2,
+    },
+    /// `Association::poll_endpoint_event`. Its reply is `EndpointEvent`.
+    PollEndpointEvent {
         side: Side2,
     },
     /// `Association::poll_timeout`. Its reply is `Timeout`.
@@ -219,7 +228,7 @@ pub enum Step {
 }
 
 /// What a step was answered. Each step may be answered `Refused`, but for `AcceptStream`, `SetMaxSendMessageSize`,
-/// `PollTimeout`, `Rtt` and the questions about the state.
+/// `PollEndpointEvent`, `PollTimeout`, `Rtt` and the questions about the state.
 #[derive(Debug, Drop)]
 pub enum Reply {
     /// The call was carried out and answers nothing else.
@@ -245,6 +254,8 @@ pub enum Reply {
     Threshold(usize),
     /// The oldest event; None where none waited.
     Event(Option<Event>),
+    /// What the endpoint of the side is to be told; None where nothing waited.
+    EndpointEvent(Option<EndpointEvent>),
     /// The moment at which the next timer expires; None where no timer runs.
     Timeout(Option<Instant>),
     /// Packets that a poll gave out: the number of the first one, and how many.

@@ -12,6 +12,8 @@ mod run;
 #[cfg(test)]
 mod sessions;
 #[cfg(test)]
+mod shutdown;
+#[cfg(test)]
 mod stopped;
 #[cfg(test)]
 mod stream_counts;

@@ -1,5 +1,6 @@
 // Whole sessions over memory: output, errors and status are compared. The stored run of the program is one more: one
 // message and its acknowledgement.
+use crate::shutdown::{BOTH_SHUT_DOWN, SHUTDOWN, SHUTDOWN_LOST};
 use crate::stopped::{RESET, UNREAD};
 use assoc_session::session;
 use std::alloc::{AllocError, Global};
@@ -335,6 +336,9 @@ fn sessions_give_their_replies(rt: HostRuntime) -> Result<(), Fail> {
         READ_LATE,
         UNREAD,
         RESET,
+        SHUTDOWN,
+        BOTH_SHUT_DOWN,
+        SHUTDOWN_LOST,
     ] {
         check_replies(&rt, text)?;
     }
