@@ -1,7 +1,7 @@
 /*
  * Messages that come back, over UDP (RFC 6951): a server that echoes, and a client that sends COUNT messages of 1 to
- * 8,192 bytes, looks at what comes back, and then closes the stream, which ends at both sides. It is the guide to
- * sctp_assoc.h.
+ * 8,192 bytes and looks at what comes back. Then the client closes the stream, which ends at both sides, and shuts the
+ * association down, which ends at both sides, too. It is the guide to sctp_assoc.h.
  *
  *   cc -O2 -Iinclude -o echo examples/echo.c "$(./library)"
  *   ./echo server 9899                    serves one client at a time: the one whose INIT came last
@@ -21,12 +21,14 @@
 #define MAX_PAYLOAD_SIZE 1172 /* fits links of 1280 bytes, below UDP and IPv6 */
 #define STREAM 1
 #define ON_THE_WAY 10 /* messages that the client has out at a time; the sockets have room for so many */
+#define END_WITHIN 20 /* seconds that a shutdown may take; a peer that is gone never answers it */
 
 static sctp_assoc slot = SCTP_ASSOC_EMPTY;
 static sctp_assoc_config config;
 static struct sockaddr_in peer;
 static int udp;
-static bool is_client, is_reset;
+static bool is_client, is_ending;
+static uint64_t end_until; /* where it is ending */
 static unsigned long count, sent, echoed;
 
 static void stop(const char *why, unsigned number) {
@@ -57,6 +59,13 @@ static void begin(void) {
     done((is_client ? sctp_assoc_client : sctp_assoc_server)(&slot, &config, MAX_PAYLOAD_SIZE, &identity, now()));
 }
 
+/* A server goes on when its association has ended. */
+static void wait_for_next(void) {
+    puts("an association ended");
+    fflush(stdout);
+    begin();
+}
+
 /* The client's message with this number, in both of its ways. Answers its length. */
 static size_t message(unsigned long number, uint8_t *bytes) {
     size_t length = 1 + number * 977 % 8192;
@@ -71,10 +80,10 @@ static void send_more(void) {
         done(sctp_assoc_write(&slot, STREAM, SCTP_ASSOC_PPID_OF_STREAM, bytes, message(sent, bytes)));
 }
 
-/* A server sends a message back, unless the stream has ended meanwhile. */
+/* A server sends a message back, unless the stream has ended meanwhile, or the client shuts down. */
 static void send_back(uint16_t stream, uint32_t type, const uint8_t *bytes, size_t length) {
     sctp_assoc_code code = sctp_assoc_write(&slot, stream, type, bytes, length);
-    if (code != SCTP_ASSOC_RESET_PENDING && code != SCTP_ASSOC_NO_STREAM)
+    if (code != SCTP_ASSOC_RESET_PENDING && code != SCTP_ASSOC_NO_STREAM && code != SCTP_ASSOC_NOT_ESTABLISHED)
         done(code);
 }
 
@@ -110,14 +119,16 @@ static void take_events(void) {
         } else if (event.kind == SCTP_ASSOC_EVENT_READABLE) {
             if (!is_client || echoed < count)
                 read_all(event.stream);
-        } else if (event.kind == SCTP_ASSOC_EVENT_RESET_COMPLETE) {
-            is_reset = true;
+        } else if (event.kind == SCTP_ASSOC_EVENT_RESET_COMPLETE && is_client) {
+            is_ending = done(sctp_assoc_shutdown(&slot));
+            end_until = now() + END_WITHIN * UINT64_C(1000000000);
         } else if (event.kind == SCTP_ASSOC_EVENT_RESET_FAILED && is_client) {
             stop("the stream was not reset for the reason", event.reason);
         } else if (event.kind == SCTP_ASSOC_EVENT_LOST || event.kind == SCTP_ASSOC_EVENT_HANDSHAKE_FAILED) {
-            if (is_client)
+            if (is_client && !is_ending)
                 stop("the association ended for the reason", event.reason);
-            begin(); /* a server waits for the next client */
+            if (!is_client)
+                wait_for_next();
         }
     }
 }
@@ -163,6 +174,15 @@ static void wait_for_either(void) {
         done(sctp_assoc_handle_timeout(&slot, now()));
 }
 
+/* A server goes on; a client does so until the association has ended, but not for ever. */
+static bool goes_on(void) {
+    bool is_over = false;
+    done(sctp_assoc_is_drained(&slot, &is_over));
+    if (is_ending && !is_over && now() > end_until)
+        stop("the shutdown was not answered within seconds:", END_WITHIN);
+    return !is_client || (count > 0 && !is_over);
+}
+
 int main(int argc, char **argv) {
     is_client = argc == 5 && strcmp(argv[1], "client") == 0;
     if (!is_client && (argc != 3 || strcmp(argv[1], "server") != 0)) {
@@ -180,12 +200,12 @@ int main(int argc, char **argv) {
         if (inet_pton(AF_INET, argv[2], &peer.sin_addr) != 1)
             stop("no IPv4 address in word", 2);
     }
-    for (begin(); !is_client || (count > 0 && !is_reset);) {
+    for (begin(); goes_on();) {
         send_all();
         wait_for_either();
         receive_all();
         take_events();
     }
-    printf("%lu messages came back, and the stream ended at both sides\n", echoed);
+    printf("%lu messages came back, the stream ended at both sides, and so did the association\n", echoed);
     return done(sctp_assoc_free(&slot)) ? 0 : 1;
 }

@@ -15,14 +15,18 @@ static sctp_assoc_event event;
 static void empty_slot(void) {
     sctp_assoc none = SCTP_ASSOC_EMPTY;
     CHECK(sctp_assoc_free(&none) == SCTP_ASSOC_EMPTY_SLOT);
+    CHECK(sctp_assoc_shutdown(&none) == SCTP_ASSOC_EMPTY_SLOT);
     CHECK(sctp_assoc_close(&none) == SCTP_ASSOC_EMPTY_SLOT);
     CHECK(sctp_assoc_handle_datagram(&none, 0, bytes, 20, &number) == SCTP_ASSOC_EMPTY_SLOT);
     CHECK(sctp_assoc_poll_transmit(&none, 0, bytes, sizeof bytes, &length) == SCTP_ASSOC_EMPTY_SLOT);
     CHECK(sctp_assoc_poll_timeout(&none, &moment) == SCTP_ASSOC_EMPTY_SLOT);
     CHECK(sctp_assoc_handle_timeout(&none, 0) == SCTP_ASSOC_EMPTY_SLOT);
     CHECK(sctp_assoc_poll_event(&none, &event) == SCTP_ASSOC_EMPTY_SLOT);
+    CHECK(sctp_assoc_poll_endpoint_event(&none) == SCTP_ASSOC_EMPTY_SLOT);
     CHECK(sctp_assoc_is_established(&none, &answer) == SCTP_ASSOC_EMPTY_SLOT);
+    CHECK(sctp_assoc_is_closing(&none, &answer) == SCTP_ASSOC_EMPTY_SLOT);
     CHECK(sctp_assoc_is_closed(&none, &answer) == SCTP_ASSOC_EMPTY_SLOT);
+    CHECK(sctp_assoc_is_drained(&none, &answer) == SCTP_ASSOC_EMPTY_SLOT);
     CHECK(sctp_assoc_is_failed(&none, &answer) == SCTP_ASSOC_EMPTY_SLOT);
     CHECK(sctp_assoc_open_stream(&none, 1, 53) == SCTP_ASSOC_EMPTY_SLOT);
     CHECK(sctp_assoc_accept_stream(&none, &stream) == SCTP_ASSOC_EMPTY_SLOT);
@@ -112,8 +116,11 @@ static void repeated_init(void) {
     CHECK(sctp_assoc_write(&ends[0], 1, 53, bytes, 1) == SCTP_ASSOC_NOT_ESTABLISHED);
     CHECK(sctp_assoc_stop(&ends[0], 1) == SCTP_ASSOC_CANNOT_RESET);
     CHECK(sctp_assoc_close_stream(&ends[0], 1) == SCTP_ASSOC_CANNOT_RESET);
+    CHECK(sctp_assoc_shutdown(&ends[0]) == SCTP_ASSOC_SHUTDOWN_NOT_ESTABLISHED);
+    CHECK(sctp_assoc_poll_endpoint_event(&ends[0]) == SCTP_ASSOC_NOTHING);
     CHECK(done(sctp_assoc_is_closed(&ends[0], &answer)) && !answer);
     CHECK(done(sctp_assoc_is_closed(&ends[1], &answer)) && answer);
+    CHECK(done(sctp_assoc_is_drained(&ends[1], &answer)) && !answer);
     CHECK(done(sctp_assoc_poll_transmit(&ends[0], 0, init, sizeof init, &init_length)));
     CHECK(done(sctp_assoc_poll_timeout(&ends[0], &moment)) && moment == 3000 * MS);
     CHECK(done(sctp_assoc_handle_datagram(&ends[1], 0, init, init_length, &number)) && number == SCTP_ASSOC_TAKEN);
@@ -173,6 +180,7 @@ static void out_of_memory(void) {
     CHECK(sctp_assoc_close_stream(&ends[0], 2) == SCTP_ASSOC_FAILED);
     CHECK(sctp_assoc_set_reliability(&ends[0], 2, true, 0, 0) == SCTP_ASSOC_FAILED);
     CHECK(sctp_assoc_buffered_amount(&ends[0], 2, &length) == SCTP_ASSOC_FAILED);
+    CHECK(sctp_assoc_shutdown(&ends[0]) == SCTP_ASSOC_FAILED);
     CHECK(sctp_assoc_close(&ends[0]) == SCTP_ASSOC_FAILED);
     CHECK(sctp_assoc_poll_timeout(&ends[0], &moment) == SCTP_ASSOC_NOTHING);
 }

@@ -120,6 +120,11 @@ static void make_corpus(void) {
         for (int end = 0; end < 2; end++)
             CHECK(done(sctp_assoc_handle_timeout(&ends[end], now)));
     }
+    for (int end = 0; end < 2; end++) /* so that each gets SHUTDOWN and SHUTDOWN ACK */
+        CHECK(done(sctp_assoc_shutdown(&ends[end])));
+    for (int i = 0; i < 2; i++)
+        for (int end = 0; end < 2; end++)
+            record(end, 0);
     static const uint8_t kinds[] = {4, 5, 6, 7, 8, 9, 12, 13, 14, 15, 64, 128, 130, 192, 193, 194};
     for (int end = 0; end < 2; end++)
         for (size_t i = 0; i < sizeof kinds; i++)
@@ -205,21 +210,20 @@ static void note_sent(const uint8_t *packet, size_t length) {
             unsent_tsn = get(packet + at + 4, 4) + 1;
 }
 
-/* Whether a chunk is there that README.md names among what closes an association. Of SACKs without gap ack blocks
- * those alone do that acknowledge what was not sent. */
+/* Whether a chunk is there that README.md names among what closes an association, or one that ends a shutdown. Of SACKs
+ * without gap ack blocks those alone do that acknowledge what was not sent. */
 static bool has_cause(const struct datagram *packet, uint32_t first_tsn) {
     for (size_t at = 12; at + 4 <= packet->length; at = next_chunk(packet->bytes, at)) {
         const uint8_t *chunk = packet->bytes + at;
         bool is_plain_sack = chunk[0] == 3 && at + 16 <= packet->length && get(chunk + 12, 2) == 0 &&
                              get(chunk + 4, 4) - (first_tsn - 1) <= unsent_tsn - first_tsn;
-        if (!is_plain_sack && chunk[0] != 4 && chunk[0] != 10 && chunk[0] != 11)
+        if (!is_plain_sack && chunk[0] != 4 && chunk[0] != 7 && chunk[0] != 10 && chunk[0] != 11)
             return true;
     }
     return false;
 }
 
-/* Takes events and messages and lets an end send. Answers how much of each there was. */
-static uint64_t drain(int end, uint32_t *lost_reason) {
+static uint64_t take_events(int end, uint32_t *lost_reason) {
     sctp_assoc_event event;
     size_t length;
     uint32_t type;
@@ -231,9 +235,16 @@ static uint64_t drain(int end, uint32_t *lost_reason) {
                sctp_assoc_read(&ends[end], event.stream, bytes, sizeof bytes, &length, &type) == SCTP_ASSOC_DONE)
             count++;
     }
+    return count;
+}
+
+/* Takes events and messages and lets an end send, which may end a shutdown. Answers how much of each there was. */
+static uint64_t drain(int end, uint32_t *lost_reason) {
+    size_t length;
+    uint64_t count = take_events(end, lost_reason);
     for (; done(sctp_assoc_poll_transmit(&ends[end], now, bytes, sizeof bytes, &length)); count++)
         note_sent(bytes, length);
-    return count;
+    return count + take_events(end, lost_reason);
 }
 
 /* Hands in mutants until the end closes, or there were enough. Answers how many. */

@@ -1,6 +1,7 @@
 /* One session again and again, with another of its growths refused each time, and then with all growths from there on.
  * Whatever is refused, nothing is read that was not written, nothing twice, on an ordered stream nothing out of order,
- * and all blocks are given back. Where no association failed of it, all that was written is read.
+ * and all blocks are given back. Where no association failed of it, all that was written is read, and a shutdown behind
+ * it closes both sides.
  *
  *   refused_memory [EVERY]     tries each EVERY-th growth; 1 where nothing is said */
 #include "support.h"
@@ -22,6 +23,12 @@ static uint8_t bytes[65536], wanted[65536];
 static bool is_failed(int end) {
     bool answer = false;
     sctp_assoc_is_failed(&ends[end], &answer);
+    return answer;
+}
+
+static bool is_drained(int end) {
+    bool answer = false;
+    sctp_assoc_is_drained(&ends[end], &answer);
     return answer;
 }
 
@@ -144,6 +151,8 @@ static void session(void) {
     write_messages(0, IN_ANY_ORDER);
     write_messages(1, BACK);
     turns(200);
+    TRY(0, sctp_assoc_shutdown(&ends[0]));
+    turns(20);
 }
 
 /* Runs the session with these growths refused. Answers how many there were. */
@@ -155,9 +164,11 @@ static uint64_t refuse(uint64_t from, uint64_t to) {
     uint64_t count = growths;
     refused_from = refused_to = 0;
     bool any_failed = is_failed(0) || is_failed(1);
-    if (to <= from + 1 && !any_failed)
+    if (to <= from + 1 && !any_failed) {
         for (size_t k = 0; k < sizeof streams / sizeof *streams; k++)
             CHECK(accepted[streams[k]] == MESSAGES && read_count[streams[k]] == MESSAGES);
+        CHECK(is_drained(0) && is_drained(1));
+    }
     sctp_assoc_close(&ends[0]);
     sctp_assoc_free(&ends[0]);
     sctp_assoc_free(&ends[1]);

@@ -1,6 +1,7 @@
 /* usrsctp over UDP (RFC 6951), beside examples/echo.c: a server that echoes, or a client that sends COUNT messages of 1
  * to 8,192 bytes, looks at what comes back, resets the stream and shuts the association down. The server resets its half
- * of a stream once the peer reset the other one (RFC 8831 section 6.7). LOSS of 1,000 datagrams are lost, each way.
+ * of a stream once the peer reset the other one (RFC 8831 section 6.7), and ends with its association. LOSS of 1,000
+ * datagrams are lost, each way.
  *
  *   usrsctp_echo server PORT LOSS
  *   usrsctp_echo client PORT LOSS COUNT     to PORT at 127.0.0.1
@@ -203,11 +204,11 @@ static void go_on(void) {
     last = now;
 }
 
-static void serve(void) {
+static int serve(void) {
     struct socket *listener = new_socket(), *accepted = NULL;
     if (usrsctp_listen(listener, 1) < 0)
         stop("usrsctp_listen");
-    for (;;) {
+    while (!is_over) {
         go_on();
         if (!accepted && (accepted = usrsctp_accept(listener, NULL, NULL)))
             usrsctp_set_non_blocking(accepted, 1);
@@ -216,6 +217,8 @@ static void serve(void) {
         if (accepted && reset_is_due && !waiting)
             reset_stream(accepted);
     }
+    puts("usrsctp: an association ended");
+    return 0;
 }
 
 static int be_client(void) {
@@ -233,11 +236,11 @@ static int be_client(void) {
             reset_stream(socket);
     bool is_reset = peer_half_is_reset && own_half_is_reset;
     usrsctp_shutdown(socket, SHUT_WR);
-    for (int i = 0; i < 100 && !is_over; i++)
+    for (uint64_t until = now_ms() + 60000; !is_over && now_ms() < until;)
         go_on();
     printf("usrsctp: %lu messages came back%s%s\n", echoed, is_reset ? ", the stream ended at both sides" : "",
-           is_over ? ", and the association is over" : "");
-    return echoed == count && is_reset ? 0 : 1;
+           is_over ? ", and so did the association" : "");
+    return echoed == count && is_reset && is_over ? 0 : 1;
 }
 
 int main(int argc, char **argv) {
@@ -259,5 +262,5 @@ int main(int argc, char **argv) {
     usrsctp_register_address(&link_name);
     if (is_client)
         return be_client();
-    serve();
+    return serve();
 }

@@ -12,8 +12,11 @@
  *      does so too, or the stream is gone;
  *   4. sctp_assoc_poll_transmit until it answers SCTP_ASSOC_NOTHING, and send each datagram; do so also after each
  *      datagram that was handed in and after each write, since no timer runs for what waits to go out; where it may
- *      give messages up (sctp_assoc_set_reliability), poll for events behind it, too;
+ *      give messages up (sctp_assoc_set_reliability) or end the association (sctp_assoc_shutdown), poll for events
+ *      behind it, too;
  *   5. sleep until the moment of sctp_assoc_poll_timeout, or until a datagram comes.
+ *
+ * To end: sctp_assoc_shutdown, and the loop goes on until sctp_assoc_is_drained; or at once, sctp_assoc_close.
  *
  * Each call may be made in any state, in any order and at any moment; what it can't do it refuses by a code. Beyond
  * that C owes this:
@@ -80,6 +83,7 @@ typedef uint32_t sctp_assoc_code;
 #define SCTP_ASSOC_RESET_PENDING 12         /* a reset of the stream is open or failed, or its rest is to be read */
 #define SCTP_ASSOC_NO_STREAM_LEFT 13        /* 2^64 streams were opened; none can be any more */
 #define SCTP_ASSOC_NO_STREAM 14             /* there is no such stream */
+#define SCTP_ASSOC_SHUTDOWN_NOT_ESTABLISHED 15 /* a shutdown begins in Established alone (RFC 4960 section 9.2) */
 #define SCTP_ASSOC_NOT_ESTABLISHED 16       /* messages are written in Established alone (RFC 4960 section 4) */
 #define SCTP_ASSOC_CANNOT_RESET 17          /* the reset of a stream is asked for in Established alone */
 #define SCTP_ASSOC_STREAM_CLOSED 26         /* this half of the stream is closed */
@@ -157,6 +161,19 @@ sctp_assoc_code sctp_assoc_joined(sctp_assoc *slot, const sctp_assoc_config *con
  * EMPTY_SLOT. */
 sctp_assoc_code sctp_assoc_free(sctp_assoc *slot);
 
+/* Begins to end the association gracefully (RFC 4960 section 9.2), and returns at once. From now on nothing is accepted
+ * from the application: writes and resets of streams are refused by NOT_ESTABLISHED and CANNOT_RESET. What was accepted
+ * is still sent, and messages of the peer still come. Go on with the loop: once all messages of both sides are
+ * acknowledged the association closes as by sctp_assoc_close, here and at the peer, and SCTP_ASSOC_EVENT_LOST tells it
+ * with the reason SCTP_ASSOC_REASON_CLOSED. Read what comes at once, since unread messages are gone then. The loop is
+ * over where sctp_assoc_is_drained says so and sctp_assoc_poll_transmit answers NOTHING.
+ *
+ * A peer that is gone is waited for without a limit of time, and a side that closed answers nothing any more, even if
+ * the last datagram that it sent is lost. So wait for a bounded time, and end it by sctp_assoc_close then.
+ *
+ * Codes: DONE, EMPTY_SLOT, FAILED, SHUTDOWN_NOT_ESTABLISHED (also where either side has begun a shutdown). */
+sctp_assoc_code sctp_assoc_shutdown(sctp_assoc *slot);
+
 /* Closes the association at once; nothing is told to the peer, and each stream ends. Datagrams and messages that wait
  * at the slot can still be taken; SCTP_ASSOC_EVENT_LOST comes behind the events that wait. Codes: DONE, EMPTY_SLOT,
  * FAILED, NO_MEMORY (the association has failed). */
@@ -207,7 +224,8 @@ sctp_assoc_code sctp_assoc_handle_timeout(sctp_assoc *slot, uint64_t now);
 #define SCTP_ASSOC_REASON_NONE 0
 #define SCTP_ASSOC_REASON_NO_INIT_ACK 1         /* of HANDSHAKE_FAILED: INIT wasn't answered */
 #define SCTP_ASSOC_REASON_NO_COOKIE_ACK 2       /* of HANDSHAKE_FAILED: COOKIE ECHO wasn't answered */
-#define SCTP_ASSOC_REASON_CLOSED 3              /* of LOST: sctp_assoc_close, an ABORT or another fault of the peer */
+#define SCTP_ASSOC_REASON_CLOSED 3              /* of LOST: the end of a shutdown of either side, sctp_assoc_close, an
+                                                 * ABORT or another fault of the peer */
 #define SCTP_ASSOC_REASON_BUFFER_EXHAUSTED 4    /* of LOST: the receive buffer is full of what can never be read */
 #define SCTP_ASSOC_REASON_OTHER 5               /* not told so far */
 #define SCTP_ASSOC_REASON_RESET_DENIED 6        /* of RESET_FAILED: the peer denied it (RFC 6525 section 4.4) */
@@ -232,6 +250,11 @@ typedef struct sctp_assoc_event {
 /* Takes out the oldest event. Codes: DONE, EMPTY_SLOT, NOTHING, FAILED. */
 sctp_assoc_code sctp_assoc_poll_event(sctp_assoc *slot, sctp_assoc_event *event);
 
+/* For whoever keeps the slots of several associations: DONE tells, once and as soon as it is so, that the application
+ * began a shutdown here (sctp_assoc_shutdown): nothing is written any more. Reads, and the calls of the loop, go on until
+ * sctp_assoc_is_drained. Nobody has to ask. Codes: DONE, EMPTY_SLOT, NOTHING. */
+sctp_assoc_code sctp_assoc_poll_endpoint_event(sctp_assoc *slot);
+
 /* ---- Questions ----
  *
  * Each writes its answer and changes nothing. Codes: DONE, EMPTY_SLOT.
@@ -240,8 +263,15 @@ sctp_assoc_code sctp_assoc_poll_event(sctp_assoc *slot, sctp_assoc_event *event)
 /* Whether the state is Established (RFC 4960 section 4): messages can be written. */
 sctp_assoc_code sctp_assoc_is_established(sctp_assoc *slot, bool *answer);
 
+/* Whether a shutdown has begun, at either side, and the association isn't closed yet (RFC 4960 section 9.2). */
+sctp_assoc_code sctp_assoc_is_closing(sctp_assoc *slot, bool *answer);
+
 /* Whether the state is Closed: that of a server before its handshake, and of any side after a loss. */
 sctp_assoc_code sctp_assoc_is_closed(sctp_assoc *slot, bool *answer);
+
+/* Whether the association was lost: by a fault, by sctp_assoc_close, or at the end of a shutdown. Nothing is left then
+ * but the datagrams, events and messages that wait at the slot. */
+sctp_assoc_code sctp_assoc_is_drained(sctp_assoc *slot, bool *answer);
 
 /* Whether an earlier call found no memory in its middle. Then the association is over. */
 sctp_assoc_code sctp_assoc_is_failed(sctp_assoc *slot, bool *answer);

@@ -1,5 +1,6 @@
 //! Messages that come back, over UDP (RFC 6951): a server that echoes, and a client that sends COUNT messages of 1 to
-//! 8,192 bytes, looks at what comes back, and then closes the stream, which ends at both sides.
+//! 8,192 bytes and looks at what comes back. Then the client closes the stream, which ends at both sides, and shuts the
+//! association down, which ends at both sides, too.
 //!
 //!     cargo run --example echo -- server 9899              serves one client at a time: the one whose INIT came last
 //!     cargo run --example echo -- client 127.0.0.1:9899 100
@@ -13,6 +14,8 @@ use std::time::{Duration, Instant};
 const STREAM: u16 = 1;
 /// Messages that the client has out at a time, so few that the sockets have room for them.
 const ON_THE_WAY: usize = 10;
+/// So long a shutdown may take. A peer that is gone answers it never.
+const END_WITHIN: Duration = Duration::from_secs(20);
 
 type Result<T> = std::result::Result<T, Box<dyn Error>>;
 
@@ -29,7 +32,7 @@ struct Client {
     count: usize,
     sent: usize,
     echoed: usize,
-    is_reset: bool,
+    ends_until: Option<Instant>,
 }
 
 fn identity() -> Result<Identity> {
@@ -56,10 +59,12 @@ fn read(stream: &mut Stream<'_>) -> Result<Option<(PayloadType, Vec<u8>)>> {
     }
 }
 
-/// A message goes back, unless the stream has ended meanwhile.
+/// A message goes back, unless the stream has ended meanwhile, or the client shuts down.
 fn send_back(stream: &mut Stream<'_>, payload_type: PayloadType, bytes: &[u8]) -> Result<()> {
     match stream.write_as(payload_type, bytes) {
-        Err(sctp_assoc::Error::ResetPending | sctp_assoc::Error::NoStream) => Ok(()),
+        Err(sctp_assoc::Error::ResetPending | sctp_assoc::Error::NoStream | sctp_assoc::Error::NotEstablished) => {
+            Ok(())
+        }
         answer => Ok(answer?),
     }
 }
@@ -80,12 +85,22 @@ impl Client {
 
 impl End {
     fn run(&mut self) -> Result<()> {
-        while self.client.as_ref().map_or(true, |client| client.count > 0 && !client.is_reset) {
+        while self.goes_on()? {
             self.send_all()?;
             self.wait()?;
             self.take_events()?;
         }
         Ok(())
+    }
+
+    /// A server goes on; a client does so until the association has ended, but not for ever.
+    fn goes_on(&self) -> Result<bool> {
+        let Some(client) = &self.client else { return Ok(true) };
+        let is_over = self.association.is_drained();
+        if !is_over && client.ends_until.is_some_and(|until| until < Instant::now()) {
+            return Err("the shutdown was not answered".into());
+        }
+        Ok(client.count > 0 && !is_over)
     }
 
     fn send_all(&mut self) -> Result<()> {
@@ -136,12 +151,18 @@ impl End {
                 }
                 (Event::Readable { .. }, Some(client)) if client.has_all() => {}
                 (Event::Readable { stream }, _) => self.read_all(stream)?,
-                (Event::ResetComplete { .. }, Some(client)) => client.is_reset = true,
+                (Event::ResetComplete { .. }, Some(client)) => {
+                    self.association.shutdown()?;
+                    client.ends_until = Some(Instant::now() + END_WITHIN);
+                }
                 (Event::ResetFailed { .. }, Some(_)) => return Err(format!("no end came: {event:?}").into()),
-                (Event::Lost { .. } | Event::HandshakeFailed { .. }, Some(_)) => {
+                (Event::Lost { .. } | Event::HandshakeFailed { .. }, Some(client)) if client.ends_until.is_none() => {
                     return Err(format!("the association ended: {event:?}").into());
                 }
-                (Event::Lost { .. }, None) => self.association = server()?,
+                (Event::Lost { .. }, None) => {
+                    println!("an association ended");
+                    self.association = server()?; // for the next client
+                }
                 _ => {}
             }
         }
@@ -178,13 +199,13 @@ fn main() -> Result<()> {
             udp: UdpSocket::bind("0.0.0.0:0")?,
             peer: Some(peer.parse()?),
             association: Association::client(&Config::default(), &identity()?, Instant::now())?,
-            client: Some(Client { count: count.parse()?, sent: 0, echoed: 0, is_reset: false }),
+            client: Some(Client { count: count.parse()?, sent: 0, echoed: 0, ends_until: None }),
         },
         _ => return Err("usage: echo server PORT | echo client ADDRESS:PORT COUNT".into()),
     };
     end.run()?;
     if let Some(client) = end.client {
-        println!("{} messages came back, and the stream ended at both sides", client.echoed);
+        println!("{} messages came back, the stream ended at both sides, and so did the association", client.echoed);
     }
     Ok(())
 }

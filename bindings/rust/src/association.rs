@@ -1,6 +1,6 @@
 use crate::error::{done, done_or_nothing};
 use crate::sys;
-use crate::{Config, Error, Event, Identity, PayloadType, Stream, Token};
+use crate::{Config, EndpointEvent, Error, Event, Identity, PayloadType, Stream, Token};
 use std::cell::UnsafeCell;
 use std::fmt;
 use std::time::{Duration, Instant};
@@ -113,7 +113,7 @@ impl Association {
 
     /// Copies the next datagram that is due at `now` to the front of the buffer. None where none is due: call it until
     /// then. It gives up the messages that are past their [`Reliability`](crate::Reliability), and may leave
-    /// [`Event::BufferedAmountLow`] for that.
+    /// [`Event::BufferedAmountLow`] for that; and with the last datagram of a shutdown it leaves [`Event::Lost`].
     ///
     /// Errors: `NoRoom` where the buffer is shorter than the datagram, which stays; `Failed`; `NoMemory`, where the
     /// association failed and what was due is lost.
@@ -156,6 +156,29 @@ impl Association {
         Ok(done_or_nothing(code, 0)?.then(|| Event::of(&told)))
     }
 
+    /// What whoever keeps this association is to be told, once. None where nothing is. Nobody has to ask.
+    pub fn poll_endpoint_event(&mut self) -> Option<EndpointEvent> {
+        // SAFETY: the slot holds an association that nobody else uses now.
+        let code = unsafe { sys::sctp_assoc_poll_endpoint_event(self.slot.get()) };
+        (code == sys::DONE).then_some(EndpointEvent::Drained)
+    }
+
+    /// Begins to end the association gracefully (RFC 4960 section 9.2), and returns at once. From now on writes are
+    /// refused by `NotEstablished`, and stops of streams by `CannotReset`. What was accepted is still sent, and messages
+    /// of the peer still come. Go on with the loop: once all messages of both sides are acknowledged the association
+    /// closes, at the peer, too, and [`Event::Lost`] tells it with [`Reason::Closed`](crate::Reason::Closed). Read what
+    /// comes at once: unread messages are gone then. The loop is over where [`is_drained`](Association::is_drained) says
+    /// so and `poll_transmit` gives None.
+    ///
+    /// A peer that is gone is waited for without a limit of time, and a side that closed answers nothing any more, even
+    /// if the last datagram that it sent is lost. So wait for a bounded time, and [`close`](Association::close) then.
+    ///
+    /// Errors: `Failed`; `ShutdownNotEstablished`, also where either side has begun a shutdown.
+    pub fn shutdown(&mut self) -> Result<(), Error> {
+        // SAFETY: the slot holds an association that nobody else uses now.
+        done(unsafe { sys::sctp_assoc_shutdown(self.slot.get()) })
+    }
+
     /// Closes the association at once. The peer is told nothing, and each stream ends. A datagram that waits, and a
     /// message that did not fit a buffer, can still be taken.
     ///
@@ -170,9 +193,20 @@ impl Association {
         self.ask(sys::sctp_assoc_is_established)
     }
 
+    /// Whether a shutdown has begun, at either side, and the association is not closed yet (RFC 4960 section 9.2).
+    pub fn is_closing(&self) -> bool {
+        self.ask(sys::sctp_assoc_is_closing)
+    }
+
     /// Whether the state is Closed: that of a server before its handshake, and of any side after a loss.
     pub fn is_closed(&self) -> bool {
         self.ask(sys::sctp_assoc_is_closed)
+    }
+
+    /// Whether the association was lost: by a fault, by [`close`](Association::close), or at the end of a shutdown.
+    /// Nothing is left then but the datagrams, events and messages that wait.
+    pub fn is_drained(&self) -> bool {
+        self.ask(sys::sctp_assoc_is_drained)
     }
 
     /// Whether an earlier call found no memory in its middle, so that the association is over.
@@ -281,6 +315,7 @@ impl fmt::Debug for Association {
     fn fmt(&self, f: &mut fmt::Formatter<'_>) -> fmt::Result {
         f.debug_struct("Association")
             .field("established", &self.is_established())
+            .field("closing", &self.is_closing())
             .field("closed", &self.is_closed())
             .field("failed", &self.is_failed())
             .finish_non_exhaustive()

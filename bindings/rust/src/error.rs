@@ -30,6 +30,8 @@ pub enum Error {
     NoStreamLeft,
     /// There is no such stream.
     NoStream,
+    /// A shutdown begins while the association is established, and at no other time, so not behind another one.
+    ShutdownNotEstablished,
     /// Messages are written while the association is established, and at no other time.
     NotEstablished,
     /// The reset of a stream is asked for while the association is established, and at no other time.
@@ -58,6 +60,7 @@ impl Error {
             12 => Error::ResetPending,
             13 => Error::NoStreamLeft,
             14 => Error::NoStream,
+            15 => Error::ShutdownNotEstablished,
             16 => Error::NotEstablished,
             17 => Error::CannotReset,
             26 => Error::StreamClosed,
@@ -81,6 +84,7 @@ impl fmt::Display for Error {
             Error::ResetPending => f.write_str("a reset of the stream is open"),
             Error::NoStreamLeft => f.write_str("no stream can be opened any more"),
             Error::NoStream => f.write_str("there is no such stream"),
+            Error::ShutdownNotEstablished => f.write_str("no shutdown begins outside an established association"),
             Error::NotEstablished => f.write_str("the association is not established"),
             Error::CannotReset => f.write_str("no stream is reset outside an established association"),
             Error::StreamClosed => f.write_str("this half of the stream is closed"),

@@ -1,5 +1,15 @@
 use crate::sys;
 
+/// What whoever keeps several associations is to be told of one, by
+/// [`poll_endpoint_event`](crate::Association::poll_endpoint_event).
+#[derive(Clone, Copy, Debug, PartialEq, Eq)]
+#[non_exhaustive]
+pub enum EndpointEvent {
+    /// The application began a shutdown here: nothing is written any more. Reads, and the calls with datagrams and
+    /// moments, go on until [`is_drained`](crate::Association::is_drained).
+    Drained,
+}
+
 /// What happened to an association, as [`poll_event`](crate::Association::poll_event) tells it.
 #[derive(Clone, Copy, Debug, PartialEq, Eq)]
 #[non_exhaustive]
@@ -80,7 +90,8 @@ pub enum Reason {
     NoInitAck,
     /// COOKIE ECHO was not answered.
     NoCookieAck,
-    /// [`close`](crate::Association::close), an ABORT or another fault of the peer.
+    /// The end of a [`shutdown`](crate::Association::shutdown) of either side, [`close`](crate::Association::close), an
+    /// ABORT or another fault of the peer.
     Closed,
     /// The receive buffer is full of what can never be read.
     BufferExhausted,

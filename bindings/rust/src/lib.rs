@@ -9,8 +9,11 @@
 //! 3. Call [`poll_event`](Association::poll_event) until it gives None; at [`Event::Readable`] call
 //!    [`read`](Stream::read) until it does so too, or the stream is gone.
 //! 4. Call [`poll_transmit`](Association::poll_transmit) until it gives None, and send each datagram. Where it may give
-//!    messages up ([`Reliability`]), poll for events behind it, too.
+//!    messages up ([`Reliability`]) or end the association, poll for events behind it, too.
 //! 5. Sleep until the moment of `poll_timeout`, or until a datagram comes.
+//!
+//! To end call [`shutdown`](Association::shutdown), and go on until [`is_drained`](Association::is_drained); or, to end
+//! at once, [`close`](Association::close).
 //!
 //! `examples/echo.rs` does so over UDP (RFC 6951). Here a client and a server meet in memory:
 //!
@@ -58,6 +61,6 @@ mod sys;
 pub use association::{Association, Fate, Totals};
 pub use config::{Config, Identity, Token};
 pub use error::Error;
-pub use event::{Counters, Event, Reason};
+pub use event::{Counters, EndpointEvent, Event, Reason};
 pub use payload::{PayloadType, Reliability};
 pub use stream::{Message, Stream};

@@ -112,6 +112,7 @@ extern "C" {
         remote: *const Token,
     ) -> u32;
     pub(crate) fn sctp_assoc_free(slot: *mut Slot) -> u32;
+    pub(crate) fn sctp_assoc_shutdown(slot: *mut Slot) -> u32;
     pub(crate) fn sctp_assoc_close(slot: *mut Slot) -> u32;
     pub(crate) fn sctp_assoc_handle_datagram(
         slot: *mut Slot,
@@ -130,8 +131,11 @@ extern "C" {
     pub(crate) fn sctp_assoc_poll_timeout(slot: *mut Slot, moment: *mut u64) -> u32;
     pub(crate) fn sctp_assoc_handle_timeout(slot: *mut Slot, now: u64) -> u32;
     pub(crate) fn sctp_assoc_poll_event(slot: *mut Slot, event: *mut Event) -> u32;
+    pub(crate) fn sctp_assoc_poll_endpoint_event(slot: *mut Slot) -> u32;
     pub(crate) fn sctp_assoc_is_established(slot: *mut Slot, answer: *mut bool) -> u32;
+    pub(crate) fn sctp_assoc_is_closing(slot: *mut Slot, answer: *mut bool) -> u32;
     pub(crate) fn sctp_assoc_is_closed(slot: *mut Slot, answer: *mut bool) -> u32;
+    pub(crate) fn sctp_assoc_is_drained(slot: *mut Slot, answer: *mut bool) -> u32;
     pub(crate) fn sctp_assoc_is_failed(slot: *mut Slot, answer: *mut bool) -> u32;
     pub(crate) fn sctp_assoc_stats(slot: *mut Slot, totals: *mut Totals) -> u32;
     pub(crate) fn sctp_assoc_rto(slot: *mut Slot, ms: *mut u64) -> u32;

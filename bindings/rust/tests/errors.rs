@@ -126,6 +126,7 @@ fn handshakes() -> Result<(), Error> {
     let [client, server] = &mut link.ends;
     assert_eq!(client.open_stream(1, PayloadType::Binary)?.write(b"x"), Err(Error::NotEstablished));
     assert_eq!(client.stream(1).stop(), Err(Error::CannotReset));
+    assert_eq!(client.shutdown(), Err(Error::ShutdownNotEstablished));
     assert!(!client.is_closed() && server.is_closed());
     let mut buffer = [0; 1500];
     let init = client.poll_transmit(now, &mut buffer)?.expect("an INIT is due").to_vec();
@@ -160,6 +161,7 @@ fn ends(link: &mut Link) -> Result<(), Error> {
     assert!(client.is_failed());
     assert_eq!(client.poll_event(), Err(Error::Failed));
     assert_eq!(client.handle_timeout(now), Err(Error::Failed));
+    assert_eq!(client.shutdown(), Err(Error::Failed));
     assert_eq!(client.poll_timeout(), None);
     Ok(())
 }

@@ -4,6 +4,8 @@
 #[cfg(test)]
 mod datagrams;
 #[cfg(test)]
+mod endings;
+#[cfg(test)]
 mod link;
 #[cfg(test)]
 mod messages;

@@ -1,4 +1,5 @@
 mod DriversLeft
 mod AsBox
+mod EndpointEvents
 mod Listings
 mod Refusals

@@ -7,6 +7,8 @@ use Rattle.sctp_wire_types.specs.declared.reliability.ReliabilityType.{Reliabili
 use Rattle.sctp_wire_types.specs.declared.reliability.ReliabilityType.TheVariants as kinds
 use Rattle.sctp_wire_types.specs.Errors.{refusal_number}
 use Rattle.sctp_wire_types.specs.Ids.{identifier_of}
+use Rattle.sctp_parts.specs.declared.shared.EndpointEvent.{EndpointEvent}
+use Rattle.sctp_parts.specs.Shared.{drained_event}
 use Rattle.sctp_driver.specs.declared.messages.ReadAnswer.{ReadAnswer}
 use Rattle.sctp_driver.specs.declared.messages.ReadAnswer.TheVariants as reads
 use Rattle.sctp_driver.specs.declared.sending.PollAnswer.{PollAnswer}
@@ -80,6 +82,10 @@ read_by code length payload_type =
 -- a moment or a number that a call wrote, where there was one
 abbrev pub found_by : ℕ → ℕ → Option ℕ
 found_by code number = if code == 0 then Some number else None
+
+-- what the code says that the endpoint was to be told
+abbrev pub endpoint_event_by : ℕ → Option EndpointEvent
+endpoint_event_by code = if code == 0 then Some drained_event else None
 
 -- what a write names as its payload protocol identifier: the greatest number of 32 bits is that of the stream
 abbrev pub payload_type_by : ℕ → Option PayloadProtocolIdentifier

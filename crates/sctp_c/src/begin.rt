@@ -6,6 +6,7 @@ ghost use Rattle.sctp_assoc.specs.Calls.{failed_refusal};
 ghost use Rattle.sctp_assoc.specs.Calls.{Refuses};
 ghost use Rattle.sctp_assoc.specs.Closing.{closed_by};
 ghost use Rattle.sctp_assoc.specs.Created.{client, create_refusal, join_refusal, joined, server};
+ghost use Rattle.sctp_assoc.specs.Shutdown.{shutdown_begun, shutdown_refusal};
 ghost use Rattle.sctp_driver.specs.Driving.{RunsOutOfMemory, begun_with, with_association};
 ghost use Rattle.sctp_c.specs.Codes.{code_of};
 ghost use Rattle.sctp_c.specs.Configs.{settings_of, token_chunk};
@@ -157,7 +158,24 @@ pub extern "C" fn sctp_assoc_free(slot: &mut Slot, alloc: Global) -> u32
     }
 }
 
-/// Closes the association.
+/// Begins to end the association gracefully.
+#[unsafe(no_mangle)]
+#[tactic(auto, using(crate::proofs::Refusals::of_refusal, crate::proofs::Refusals::when_done, crate::proofs::Refusals::when_refused))]
+pub extern "C" fn sctp_assoc_shutdown(slot: &mut Slot, alloc: Global) -> u32
+    ensures code { RefusesBy (λ d. shutdown_refusal d.association) slot.old.handle.driver result }
+    ensures done { result ≡ 0 → OnHeld slot.old.handle.driver slot.new.handle.driver
+        (λ d e. e ≡ with_association d (shutdown_begun d.association)) }
+    ensures left { result ≢ 0 → slot.new.handle.driver ≡ slot.old.handle.driver }
+{
+    let Some(mut driver) = slot.take(alloc) else {
+        return EMPTY_SLOT;
+    };
+    let answer = driver.shutdown();
+    slot.put(driver);
+    code_of(answer)
+}
+
+/// Closes the association at once.
 #[unsafe(no_mangle)]
 #[tactic(auto, using(crate::proofs::Refusals::of_refusal_or_memory, crate::proofs::Refusals::when_done, crate::proofs::Refusals::when_failed, crate::proofs::Refusals::when_memory))]
 pub extern "C" fn sctp_assoc_close(slot: &mut Slot, alloc: Global) -> u32

@@ -2,7 +2,9 @@
 ghost use Rattle.std.specs.Prelude.{◌≡◌, ◌≢◌, None};
 ghost use Rattle.sctp_streams.specs.declared.event.Event.TheVariants as events;
 ghost use Rattle.sctp_assoc.specs.Calls.{event_polled};
+ghost use Rattle.sctp_assoc.specs.Shutdown.{endpoint_event_polled};
 ghost use Rattle.sctp_driver.specs.Driving.{with_association};
+ghost use Rattle.sctp_c.specs.Codes.{endpoint_event_by};
 ghost use Rattle.sctp_c.specs.Events.{counters_of, event_with, failure_number, happening, reason_number};
 ghost use Rattle.sctp_c.specs.Events.{told_of, Tells};
 ghost use Rattle.sctp_c.specs.Slots.{OnAny};
@@ -10,7 +12,7 @@ ghost use Rattle.sctp_c.specs.Slots.{OnAny};
 use crate::codes::{DONE, EMPTY_SLOT, NOTHING, refusal_code};
 use crate::slot::Slot;
 use sctp_assoc::{AssociationError, DataChannelStats, StreamResetError};
-use sctp_driver::{Error, Event, StreamEvent};
+use sctp_driver::{EndpointEvent, Error, Event, StreamEvent};
 use std::alloc::Global;
 
 /// What a stream counted.
@@ -187,4 +189,32 @@ pub extern "C" fn sctp_assoc_poll_event(slot: &mut Slot, alloc: Global, event: &
         Ok(None) => NOTHING,
         Err(error) => refusal_code(error),
     }
+}
+
+// There is one event of this kind alone.
+#[tactic(auto, using(crate::proofs::EndpointEvents::drained_alone))]
+fn code_of_endpoint_event(event: Option<EndpointEvent>) -> u32
+    ensures { endpoint_event_by result ≡ event }
+{
+    match event {
+        Some(_) => DONE,
+        None => NOTHING,
+    }
+}
+
+/// Tells once that a shutdown began here.
+#[unsafe(no_mangle)]
+pub extern "C" fn sctp_assoc_poll_endpoint_event(slot: &mut Slot, alloc: Global) -> u32
+    ensures told { OnAny slot.old.handle.driver slot.new.handle.driver (λ d e. endpoint_event_polled d.association
+        ≡ (e.association, endpoint_event_by result)) }
+    ensures others { OnAny slot.old.handle.driver slot.new.handle.driver
+        (λ d e. e ≡ with_association d e.association) }
+    ensures empty { slot.old.handle.driver ≡ None → result ≡ 1 }
+{
+    let Some(mut driver) = slot.take(alloc) else {
+        return EMPTY_SLOT;
+    };
+    let event = driver.poll_endpoint_event();
+    slot.put(driver);
+    code_of_endpoint_event(event)
 }

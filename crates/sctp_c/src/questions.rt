@@ -1,5 +1,6 @@
 // Questions about the state.
 ghost use Rattle.std.specs.Prelude.{◌≡◌, None};
+ghost use Rattle.sctp_parts.specs.State.{is_closing};
 ghost use Rattle.sctp_assoc.specs.Calls.{is_established};
 ghost use Rattle.sctp_assoc.specs.Closing.{is_closed_state};
 ghost use Rattle.sctp_c.specs.Slots.{OnAny};
@@ -27,6 +28,21 @@ pub extern "C" fn sctp_assoc_is_established(
     DONE
 }
 
+/// Whether a shutdown has begun and the association is not closed yet.
+#[unsafe(no_mangle)]
+pub extern "C" fn sctp_assoc_is_closing(slot: &mut Slot, alloc: Global, answer: &mut bool) -> u32
+    ensures answer { OnAny slot.old.handle.driver slot.new.handle.driver
+        (λ d e. (e ≡ d) × (result ≡ 0) × (answer.new ≡ is_closing d.association.state)) }
+    ensures empty { slot.old.handle.driver ≡ None → (result ≡ 1) × (answer.new ≡ answer.old) }
+{
+    let Some(driver) = slot.take(alloc) else {
+        return EMPTY_SLOT;
+    };
+    *answer = driver.is_closing();
+    slot.put(driver);
+    DONE
+}
+
 /// Whether the association is closed.
 #[unsafe(no_mangle)]
 pub extern "C" fn sctp_assoc_is_closed(slot: &mut Slot, alloc: Global, answer: &mut bool) -> u32
@@ -38,6 +54,21 @@ pub extern "C" fn sctp_assoc_is_closed(slot: &mut Slot, alloc: Global, answer: &
         return EMPTY_SLOT;
     };
     *answer = driver.is_closed();
+    slot.put(driver);
+    DONE
+}
+
+/// Whether the association was lost.
+#[unsafe(no_mangle)]
+pub extern "C" fn sctp_assoc_is_drained(slot: &mut Slot, alloc: Global, answer: &mut bool) -> u32
+    ensures answer { OnAny slot.old.handle.driver slot.new.handle.driver
+        (λ d e. (e ≡ d) × (result ≡ 0) × (answer.new ≡ d.association.lost)) }
+    ensures empty { slot.old.handle.driver ≡ None → (result ≡ 1) × (answer.new ≡ answer.old) }
+{
+    let Some(driver) = slot.take(alloc) else {
+        return EMPTY_SLOT;
+    };
+    *answer = driver.is_drained();
     slot.put(driver);
     DONE
 }

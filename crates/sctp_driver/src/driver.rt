@@ -3,15 +3,17 @@ ghost use Rattle.std.specs.Prelude.{◌≡◌, ◌≢◌, ◌↔◌, ◌⊎◌, 
 ghost use Rattle.std.specs.Prelude.{false, min, true};
 ghost use Rattle.std.specs.Option.{option_copied};
 ghost use Rattle.sctp_wire.specs.Packets.{finished};
+ghost use Rattle.sctp_parts.specs.State.{is_closing};
 ghost use Rattle.sctp_parts.specs.Timers.{least_moment};
 ghost use Rattle.sctp_streams.specs.Streams.{live_ids};
-ghost use Rattle.sctp_assoc.specs.Calls.{RefusesOrLacksMemory, event_polled, failed_refusal, is_established};
-ghost use Rattle.sctp_assoc.specs.Calls.{with_max_send_message_size};
+ghost use Rattle.sctp_assoc.specs.Calls.{Refuses, RefusesOrLacksMemory, event_polled, failed_refusal};
+ghost use Rattle.sctp_assoc.specs.Calls.{is_established, with_max_send_message_size};
 ghost use Rattle.sctp_assoc.specs.Chunks.{after_packet};
 ghost use Rattle.sctp_assoc.specs.Closing.{closed_by, is_closed_state};
 ghost use Rattle.sctp_assoc.specs.Created.{client, create_refusal, created, join_refusal, joined, server};
 ghost use Rattle.sctp_assoc.specs.Gather.{has_something_to_give};
 ghost use Rattle.sctp_assoc.specs.Inbound.{taken_packet};
+ghost use Rattle.sctp_assoc.specs.Shutdown.{endpoint_event_polled, shutdown_begun, shutdown_refusal};
 ghost use Rattle.sctp_assoc.specs.Timeouts.{after_timeouts, timeouts_take_memory};
 ghost use Rattle.sctp_driver.specs.Driving.{RunsOutOfMemory, begun_with, with_association};
 ghost use Rattle.sctp_driver.specs.Sending.{Sends, asked};
@@ -24,7 +26,7 @@ use crate::tags::{DatagramAnswer, first_chunk, judge};
 use bytes::Bytes;
 use sctp_assoc::{
     Association, AssociationError, AssociationEvent, AssociationState, AssociationStats, ChunkInit,
-    Error, Event, Instant, PartialDecode, Payload, ServerConfig, StreamId, Transmit,
+    EndpointEvent, Error, Event, Instant, PartialDecode, Payload, ServerConfig, StreamId, Transmit,
     TransportConfig,
 };
 use std::alloc::Global;
@@ -205,7 +207,8 @@ impl Driver {
 
     /// Takes in one datagram that came at `now`, in nanoseconds. One that is no packet, whose verification tag RFC 4960
     /// section 8.5 does not accept, or that is an INIT past the handshake, is left and changes nothing. An ABORT or a
-    /// SHUTDOWN COMPLETE may have the peer's tag and its T bit set (section 8.5.1).
+    /// SHUTDOWN COMPLETE may have the peer's tag and its T bit set (section 8.5.1). A SHUTDOWN begins a shutdown at this
+    /// side, too, and a SHUTDOWN COMPLETE ends it: the association closes then (section 9.2).
     ///
     /// Errors: `ErrAssociationFailed`, with nothing changed; `ErrNoMemory`, which leaves all as it was, or the
     /// association failed where it was at reading the packet.
@@ -268,7 +271,8 @@ impl Driver {
 
     /// Copies the next datagram that is due at `now`, in nanoseconds, to the front of the buffer and takes it out.
     /// Where the buffer is shorter the datagram waits on, and `NoRoom` says how long it is. Call it until it answers
-    /// `Nothing`. The association is asked only where no datagram waits in the driver.
+    /// `Nothing`. The association is asked only where no datagram waits in the driver. Where a SHUTDOWN COMPLETE is due,
+    /// the association closes as it is asked, and its datagrams still go out.
     ///
     /// Errors, only where none waits: `ErrAssociationFailed`, with nothing changed; `ErrNoMemory`, only where there is
     /// something to give, after which the association is failed and the packets of this poll are lost.
@@ -319,7 +323,7 @@ impl Driver {
     }
 
     /// Does what the timers that expired by `now`, in nanoseconds, ask for, and nothing where none did (RFC 4960
-    /// sections 5.1, 6.2 and 6.3.3). `poll_transmit` gives the packets.
+    /// sections 5.1, 6.2, 6.3.3 and 9.2). `poll_transmit` gives the packets.
     ///
     /// Errors: `ErrAssociationFailed`, with nothing changed, and `ErrNoMemory` only where INIT or COOKIE ECHO is to go
     /// out again or a request to reset streams is given up, after which the association is failed.
@@ -345,6 +349,33 @@ impl Driver {
         ensures err { OnErr result ((result ≡ Err Error.ErrAssociationFailed) × (self.new ≡ self.old)) }
     {
         self.association.poll()
+    }
+
+    /// What whoever holds this driver is to be told, once; None where nothing is. That `shutdown` began is told by
+    /// `EndpointEvent::drained`, as soon as it did: the driver needs no more calls of the application, but those with
+    /// datagrams and moments go on until `is_drained`. Never refused, and takes no memory.
+    pub fn poll_endpoint_event(&mut self) -> Option<EndpointEvent>
+        ensures told { endpoint_event_polled self.old.association ≡ (self.new.association, result) }
+        ensures others { self.new ≡ with_association self.old self.new.association }
+    {
+        self.association.poll_endpoint_event()
+    }
+
+    /// Begins to end the association gracefully (RFC 4960 section 9.2), and answers at once. From now on writes and
+    /// stops are refused. What was accepted is still sent, and messages of the peer still come; go on with datagrams,
+    /// moments and events. Once all DATA of both sides is acknowledged the association closes, as by `close`, and the
+    /// peer's does; `Event::AssociationLost` tells it, for the reason `AssociationClosed`. Read what comes before that,
+    /// as the end of a stream takes unread messages with it. A peer that is gone is waited for without a limit of time.
+    ///
+    /// Refused, in this order with nothing changed: `ErrAssociationFailed`; `ErrShutdownNonEstablished` in any state but
+    /// Established, so also where the peer began a shutdown. Takes no memory.
+    pub fn shutdown(&mut self) -> Result<(), Error>
+        ensures refused { Refuses result (shutdown_refusal self.old.association) }
+        ensures ok { OnOk result (self.new
+            ≡ with_association self.old (shutdown_begun self.old.association)) }
+        ensures unchanged { OnErr result (self.new ≡ self.old) }
+    {
+        self.association.shutdown()
     }
 
     /// Closes the association at once, in any state but Closed; nothing is told to the peer, and each stream ends.
@@ -404,11 +435,26 @@ impl Driver {
         matches!(self.association.state(), AssociationState::Established)
     }
 
+    /// Whether a shutdown has begun, at either side, and the association is not closed yet (RFC 4960 section 9.2).
+    pub fn is_closing(&self) -> bool
+        ensures { result ≡ is_closing self.now.association.state }
+    {
+        self.association.is_closing()
+    }
+
     /// Whether the state is Closed: that of a server until a handshake establishes it, and of any side after a loss.
     pub fn is_closed(&self) -> bool
         ensures { result ≡ is_closed_state self.now.association.state }
     {
         self.association.is_closed()
+    }
+
+    /// Whether the association was lost: a fault closed it, or `close`, or the end of a shutdown. Nothing is left to do
+    /// for it then but to send the datagrams that wait, and to ask for its events and messages.
+    pub fn is_drained(&self) -> bool
+        ensures { result ≡ self.now.association.lost }
+    {
+        self.association.is_drained()
     }
 
     /// Whether an earlier call found no memory in its middle. Then the association is over.

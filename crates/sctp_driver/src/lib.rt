@@ -9,10 +9,15 @@
 //! 3. Call `poll_event` until it answers None. On `StreamEvent::Readable` call `read` until it answers `Nothing` or the
 //!    stream is gone.
 //! 4. Call `poll_transmit` until it answers `Nothing`, and send each datagram that it gives. Where it gives messages
-//!    up, a stream may fall to its low mark: the next turn's `poll_event` tells, or one right behind it.
+//!    up, a stream may fall to its low mark, and with a SHUTDOWN COMPLETE the association closes: the next turn's
+//!    `poll_event` tells, or one right behind it.
 //! 5. Sleep until the moment that `poll_timeout` answers, or until a datagram comes.
 //!
 //! A stream ends where either side stops or closes it (`stop`, `close_stream`): both are told so, and can open it anew.
+//!
+//! An association ends gracefully by `shutdown` of either side, once all that was accepted at both is acknowledged, and
+//! at once by `close`. After `shutdown` the loop goes on until `is_drained`. `poll_endpoint_event` tells whoever holds
+//! the driver that `shutdown` began here.
 //!
 //! Moments are nanoseconds from one that the user chooses. Each call is safe in each state and at each moment. What
 //! it refuses it refuses by name, and the page of each call says what is left then.
@@ -28,8 +33,9 @@ mod tags;
 pub use driver::Driver;
 pub use messages::ReadAnswer;
 pub use sctp_assoc::{
-    AssociationStats, ChunkInit, DataChannelStats, Error, Event, PayloadProtocolIdentifier,
-    ReliabilityType, StreamEvent, StreamResetError, TransportConfig, token,
+    AssociationError, AssociationStats, ChunkInit, DataChannelStats, EndpointEvent, Error, Event,
+    PayloadProtocolIdentifier, ReliabilityType, StreamEvent, StreamResetError, TransportConfig,
+    token,
 };
 pub use sending::PollAnswer;
 pub use tags::DatagramAnswer;

@@ -1,0 +1,148 @@
+/* The graceful end of an association (RFC 4960 section 9.2), which either side asks for, or both at once: messages that
+ * were written before it come, and then both are told the end. Datagrams of it that are lost, and want of memory. */
+#include "support.h"
+
+#define STREAM 7
+#define LENGTH 6000 /* more than goes out before the first acknowledgement */
+
+static sctp_assoc ends[2];
+static unsigned read_count[2];
+static uint8_t bytes[LENGTH], message[LENGTH];
+static size_t length;
+static sctp_assoc_event event;
+
+static bool answers(int end, sctp_assoc_code (*question)(sctp_assoc *, bool *)) {
+    bool answer;
+    CHECK(done(question(&ends[end], &answer)));
+    return answer;
+}
+
+static void begin(void) {
+    sctp_assoc_config config = default_config();
+    shake_hands(ends, &config, 0);
+    fill(message, LENGTH, 1);
+    for (int end = 0; end < 2; end++) {
+        read_count[end] = 0;
+        CHECK(done(sctp_assoc_open_stream(&ends[end], STREAM, SCTP_ASSOC_PPID_BINARY)));
+    }
+}
+
+/* Messages are read as they come, since the end of the association takes those that are not. */
+static void read_all(int end) {
+    uint32_t type;
+    while (sctp_assoc_read(&ends[end], STREAM, bytes, sizeof bytes, &length, &type) == SCTP_ASSOC_DONE) {
+        CHECK(length == LENGTH && !memcmp(bytes, message, LENGTH));
+        read_count[end]++;
+    }
+}
+
+/* Carries datagrams both ways, and lets time pass. */
+static void settle(void) {
+    for (uint64_t now = 0; now < 10000 * MS; now += 100 * MS)
+        for (int end = 0; end < 2; end++) {
+            CHECK(done(sctp_assoc_handle_timeout(&ends[end], now)));
+            pass_on(&ends[end], &ends[!end], now);
+            read_all(!end);
+        }
+}
+
+/* A shutdown begins at an end, which is told once; after that it accepts nothing. */
+static void shut_down(int end) {
+    CHECK(sctp_assoc_poll_endpoint_event(&ends[end]) == SCTP_ASSOC_NOTHING);
+    CHECK(!answers(end, sctp_assoc_is_closing) && done(sctp_assoc_shutdown(&ends[end])));
+    CHECK(sctp_assoc_poll_endpoint_event(&ends[end]) == SCTP_ASSOC_DONE);
+    CHECK(sctp_assoc_poll_endpoint_event(&ends[end]) == SCTP_ASSOC_NOTHING);
+    CHECK(sctp_assoc_shutdown(&ends[end]) == SCTP_ASSOC_SHUTDOWN_NOT_ESTABLISHED);
+    CHECK(sctp_assoc_write(&ends[end], STREAM, SCTP_ASSOC_PPID_BINARY, message, 1) == SCTP_ASSOC_NOT_ESTABLISHED);
+    CHECK(sctp_assoc_stop(&ends[end], STREAM) == SCTP_ASSOC_CANNOT_RESET);
+    CHECK(answers(end, sctp_assoc_is_closing) && !answers(end, sctp_assoc_is_established));
+    CHECK(!answers(end, sctp_assoc_is_drained) && !answers(end, sctp_assoc_is_closed));
+}
+
+/* An end is told once that the association was closed, and has no timer and nothing to send any more. */
+static void is_over(int end) {
+    uint64_t moment;
+    unsigned lost = 0;
+    while (done(sctp_assoc_poll_event(&ends[end], &event)))
+        lost += event.kind == SCTP_ASSOC_EVENT_LOST && event.reason == SCTP_ASSOC_REASON_CLOSED;
+    CHECK(lost == 1);
+    CHECK(answers(end, sctp_assoc_is_drained) && answers(end, sctp_assoc_is_closed));
+    CHECK(!answers(end, sctp_assoc_is_closing) && !answers(end, sctp_assoc_is_failed));
+    CHECK(sctp_assoc_poll_timeout(&ends[end], &moment) == SCTP_ASSOC_NOTHING);
+    CHECK(sctp_assoc_poll_transmit(&ends[end], 10000 * MS, bytes, sizeof bytes, &length) == SCTP_ASSOC_NOTHING);
+}
+
+/* Each end writes a message, and then these ends shut down. */
+static void ended_by(bool client, bool server) {
+    begin();
+    for (int end = 0; end < 2; end++)
+        CHECK(done(sctp_assoc_write(&ends[end], STREAM, SCTP_ASSOC_PPID_BINARY, message, LENGTH)));
+    if (client)
+        shut_down(0);
+    if (server)
+        shut_down(1);
+    settle();
+    for (int end = 0; end < 2; end++) {
+        CHECK(read_count[end] == 1);
+        is_over(end);
+    }
+    free_both(ends);
+}
+
+/* Loses the one datagram that an end has to send, with a chunk of this type. */
+static void lose(int end, uint8_t kind) {
+    CHECK(done(sctp_assoc_poll_transmit(&ends[end], 0, bytes, sizeof bytes, &length)) && bytes[12] == kind);
+    CHECK(!done(sctp_assoc_poll_transmit(&ends[end], 0, bytes, sizeof bytes, &length)));
+}
+
+/* SHUTDOWN is lost, or the SHUTDOWN ACK that answers it: it goes out again. */
+static void goes_again(bool is_answer) {
+    begin();
+    shut_down(0);
+    if (is_answer)
+        pass_on(&ends[0], &ends[1], 0);
+    lose(is_answer, is_answer ? 8 : 7);
+    settle();
+    is_over(0);
+    is_over(1);
+    free_both(ends);
+}
+
+/* SHUTDOWN COMPLETE is lost: the side that sent it closed, and the other one waits until its program has enough. */
+static void is_not_completed(void) {
+    begin();
+    shut_down(0);
+    pass_on(&ends[0], &ends[1], 0);
+    CHECK(answers(1, sctp_assoc_is_closing) && !done(sctp_assoc_poll_endpoint_event(&ends[1])));
+    pass_on(&ends[1], &ends[0], 0);
+    lose(0, 14);
+    is_over(0);
+    settle();
+    CHECK(answers(1, sctp_assoc_is_closing));
+    CHECK(done(sctp_assoc_close(&ends[1])));
+    is_over(1);
+    free_both(ends);
+}
+
+/* A shutdown takes no memory, but its datagrams do. */
+static void out_of_memory(void) {
+    begin();
+    refused_from = growths + 1, refused_to = UINT64_MAX;
+    shut_down(0);
+    CHECK(sctp_assoc_poll_transmit(&ends[0], 0, bytes, sizeof bytes, &length) == SCTP_ASSOC_NO_MEMORY);
+    refused_from = refused_to = 0;
+    CHECK(answers(0, sctp_assoc_is_failed) && sctp_assoc_shutdown(&ends[0]) == SCTP_ASSOC_FAILED);
+    free_both(ends);
+}
+
+int main(void) {
+    ended_by(true, false);
+    ended_by(false, true);
+    ended_by(true, true);
+    goes_again(false);
+    goes_again(true);
+    is_not_completed();
+    out_of_memory();
+    puts("shutdown: ok");
+    return 0;
+}
