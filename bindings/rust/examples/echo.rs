@@ -14,7 +14,7 @@ use std::time::{Duration, Instant};
 const STREAM: u16 = 1;
 /// Messages that the client has out at a time, so few that the sockets have room for them.
 const ON_THE_WAY: usize = 10;
-/// So long a shutdown may take. A peer that is gone answers it never.
+/// So long a shutdown may take. A peer that is gone never answers it.
 const END_WITHIN: Duration = Duration::from_secs(20);
 
 type Result<T> = std::result::Result<T, Box<dyn Error>>;
@@ -87,8 +87,11 @@ impl End {
     fn run(&mut self) -> Result<()> {
         while self.goes_on()? {
             self.send_all()?;
-            self.wait()?;
             self.take_events()?;
+            if self.goes_on()? {
+                self.wait()?; // what was sent may have ended it, and then nothing more comes
+                self.take_events()?;
+            }
         }
         Ok(())
     }
