@@ -31,6 +31,7 @@ pub mod ReadsLeadOn
 pub mod QuietRequests
 pub mod RequestsGiven
 mod SacksTell
+mod SettlesPlainly
 mod SkipsTold
 mod Stopping
 pub mod StopsLeadOn

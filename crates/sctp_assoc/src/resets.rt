@@ -158,9 +158,23 @@ impl Association {
     }
 
     // The last TSN in order may have moved: a request of the peer that waited for that is performed and answered, and
-    // skips that were kept are applied.
-    #[tactic(auto, unfolding(crate::specs::Resets::settled))]
+    // skips that were kept are applied. Nearly always no request can be performed and no skip is kept.
+    #[tactic(auto, using(crate::proofs::SettlesPlainly::settles_plainly))]
     pub(crate) fn settle(&mut self) -> Result<(), AllocError>
+        ensures exact { OnOk result (self.new ≡ settled self.old) }
+        ensures grows { OnErr result (settling_takes_memory self.old ≡ true) }
+    {
+        if !self.resets.has_to_settle(self.receiver.peer_last_tsn) {
+            return Ok(());
+        }
+        self.settle_what_waits()
+    }
+
+    // It stands apart, so that new DATA does not pay for it where nothing waits.
+    #[cold]
+    #[inline(never)]
+    #[tactic(auto, unfolding(crate::specs::Resets::settled))]
+    fn settle_what_waits(&mut self) -> Result<(), AllocError>
         ensures exact { OnOk result (self.new ≡ settled self.old) }
         ensures grows { OnErr result (settling_takes_memory self.old ≡ true) }
     {
@@ -194,10 +208,22 @@ impl Association {
         self.resets.apply_skips(&mut self.streams, &mut self.events)
     }
 
-    // Applies the skips that were kept for the generation of a live stream that is read now.
+    // Applies the skips that were kept for the generation of a live stream that is read now. Nearly always none is kept.
+    #[tactic(auto, using(crate::proofs::SettlesPlainly::skips_apply_plainly))]
     pub(crate) fn apply_skips_of(&mut self, id: StreamId) -> Result<(), AllocError>
         ensures exact { OnOk result (self.new ≡ skips_applied_of id self.old) }
         ensures grows { OnErr result (has_skips self.old.resets.generations ≡ true) }
+    {
+        if !self.resets.has_skips() {
+            return Ok(());
+        }
+        self.apply_kept_skips_of(id)
+    }
+
+    #[cold]
+    #[inline(never)]
+    fn apply_kept_skips_of(&mut self, id: StreamId) -> Result<(), AllocError>
+        ensures { OnOk result (self.new ≡ skips_applied_of id self.old) }
     {
         self.resets
             .apply_skips_of(id, &mut self.streams, &mut self.events)

@@ -1,5 +1,5 @@
 -- A performed request of the peer changes only the streams that it names, and those of which something was kept.
-use Rattle.std.proofs.Common.{◌≡◌, refl, sym, ◌∙◌, subst, ℕ, Bool, true, false, ◌||◌, not, cond}
+use Rattle.std.proofs.Common.{◌≡◌, refl, sym, ap, ◌∙◌, subst, ℕ, Bool, true, false, ◌||◌, not, cond}
 use Rattle.std.proofs.Common.{List, [], ◌∷◌, ◌++◌, fold, map, filter, Option, Some, None, is_eq, nat_cmp}
 use Rattle.std.proofs.lemmas.Bool.{or_parts}
 use Rattle.sctp_wire_types.specs.declared.chunk.ChunkPayloadData.{ChunkPayloadData}
@@ -14,26 +14,33 @@ use Rattle.sctp_reset_requests.specs.Peer as peer
 use Rattle.sctp_reset_requests.specs.Peer.{advanced_with, is_one_due}
 use Rattle.sctp_reset_requests.specs.Request.{PeerRequestView}
 use Rattle.sctp_reset_requests.specs.Request as request
+use Rattle.sctp_resets.specs.declared.performing.Settled.{Settled}
 use Rattle.sctp_resets.specs.Channels.{Channels, channels, delivered}
 use Rattle.sctp_resets.specs.Concerned.{StayBeside, deferred_ids, in_reset, named_in_progress, retiring_ids}
 use Rattle.sctp_resets.specs.Concerned.{skipped_ids}
 use Rattle.sctp_resets.specs.Performing.{Performing, is_drained, named_live, performing, retired_as, retired_each}
 use Rattle.sctp_resets.specs.Performing.{retired_next, retired_one, with_retired}
-use Rattle.sctp_resets.specs.Resets.{ResetsView, performed, settled, settled_where}
+use Rattle.sctp_resets.specs.Resets.{ResetsView, Resetting, performed, settled, settled_where}
 use Rattle.sctp_resets.proofs.SkipsBeside.{ids_of_skips}
 use Rattle.sctp_resets.proofs.StreamsBeside.{all_delivered_apart, both_false, ended_apart, filtered_apart}
 use Rattle.sctp_resets.proofs.StreamsBeside.{ids_of_data, named_by_neither}
 
--- nothing due is performed
+-- nothing due is performed, and nothing is to be answered
+pub nothing_settled : (cumulative_tsn first limit : ℕ) (r : ResetsView) (c : Channels)
+    → is_one_due r.peer.in_progress cumulative_tsn ≡ false
+    → settled cumulative_tsn first limit r c ≡ ((r, c), None)
+nothing_settled cumulative_tsn first limit r c = by r.peer.in_progress
+  where
+    by : (o : Option PeerRequestView) → is_one_due o cumulative_tsn ≡ false
+        → settled_where (advanced_with o r.peer cumulative_tsn) first limit r c ≡ ((r, c), None)
+    by None e = refl
+    by (Some q) e = rw e refl
+
 pub settled_plainly : (cumulative_tsn first limit : ℕ) (r : ResetsView) (c : Channels)
     → is_one_due r.peer.in_progress cumulative_tsn ≡ false
     → (settled cumulative_tsn first limit r c).0 ≡ (r, c)
-settled_plainly cumulative_tsn first limit r c = by r.peer.in_progress
-  where
-    by : (o : Option PeerRequestView) → is_one_due o cumulative_tsn ≡ false
-        → (settled_where (advanced_with o r.peer cumulative_tsn) first limit r c).0 ≡ (r, c)
-    by None e = refl
-    by (Some q) e = rw e refl
+settled_plainly cumulative_tsn first limit r c none =
+    ap (λ (x : Resetting × Option Settled). x.0) (nothing_settled cumulative_tsn first limit r c none)
 
 -- What retirements leave beside the streams that they are of: a stream, the DATA that waits, and no skip of that
 -- stream.

@@ -1,5 +1,5 @@
 // The resets of an association.
-ghost use Rattle.std.specs.Prelude.{◌≡◌, true, OnOk, OnErr, IfOk, is_some, length, nat_lt};
+ghost use Rattle.std.specs.Prelude.{◌≡◌, ◌||◌, true, OnOk, OnErr, IfOk, is_some, length, nat_lt};
 ghost use Rattle.sctp_receive_queues.specs.Pieces.{bytes_of};
 ghost use Rattle.sctp_generations.specs.Generations.{has_skips};
 ghost use Rattle.sctp_reset_requests.specs.Own.{HasRoom};
@@ -134,6 +134,31 @@ impl Resets {
         ensures grows { OnErr result (nat_lt 0 (length self.old.generations.deferred) ≡ true) }
     {
         self.generations.skip_unordered(tsn)
+    }
+
+    /// Whether a skip is kept.
+    pub fn has_skips(&self) -> bool
+        ensures { result ≡ has_skips self.now.generations }
+    {
+        self.generations.has_skips()
+    }
+
+    /// Whether a request of the peer can be performed now, or a skip is kept: else `settle` and `apply_skips` change
+    /// nothing.
+    pub fn has_to_settle(&self, peer_last_tsn: u32) -> bool
+        ensures { result ≡ (is_one_due self.now.peer.in_progress peer_last_tsn || has_skips self.now.generations) }
+    {
+        self.is_one_due(peer_last_tsn) || self.has_skips()
+    }
+
+    // Whether the request in progress can be performed now.
+    fn is_one_due(&self, peer_last_tsn: u32) -> bool
+        ensures { result ≡ is_one_due self.now.peer.in_progress peer_last_tsn }
+    {
+        match self.peer.in_progress() {
+            Some(request) => request.is_due(peer_last_tsn),
+            None => false,
+        }
     }
 
     /// Applies the skips that were kept for the generation of a live stream that is read now.
