@@ -9,3 +9,4 @@ pub mod ListsOver
 pub mod GenerationsOver
 pub mod OwnOver
 pub mod KeptOver
+mod MarkedFinished

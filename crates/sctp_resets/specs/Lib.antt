@@ -4,6 +4,7 @@ pub mod Draining
 pub mod Performing
 pub mod Answers
 pub mod Telling
+pub mod Marks
 pub mod Resets
 pub mod Concerned
 pub mod Within

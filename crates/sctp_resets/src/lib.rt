@@ -5,6 +5,7 @@
 mod answers;
 mod channels;
 mod draining;
+mod marks;
 mod performing;
 mod resets;
 mod skips;

@@ -473,8 +473,9 @@ impl Resets {
         end_stream(streams, events, id)
     }
 
-    /// Takes out the event that is told next. Goes over the events in front of it, and for each of a stream that retires
-    /// over all events.
+    /// Takes out the event that is told next. Where the first event waits, goes over all events once, and over those in
+    /// front of it; and for each of these over all once more where its stream has several events Finished, or another
+    /// stream with the same identifier mod 512 has one.
     pub fn next_event(&mut self, events: &mut Events) -> Option<Event>
         ensures { event_told self.old events.old ≡ (self.new, events.new, result) }
     {
