@@ -117,7 +117,9 @@ joined_begins {size} {own} {peer} other j = record {
         behind_data = λ e. absurd (false≢true e);
         before_data = λ e. absurd (false≢true e);
         asked = λ e. absurd (false≢true e);
+        agreed = λ e. absurd (false≢true e);
         answered = λ e. absurd (false≢true e);
+        lives = λ e. absurd (false≢true e);
       };
     }
 
@@ -193,7 +195,9 @@ client_begins {size} {own} other peer c = record {
         behind_data = λ e. absurd (false≢true e);
         before_data = λ e. absurd (false≢true e);
         asked = λ e. absurd (false≢true e);
+        agreed = λ e. absurd (false≢true e);
         answered = λ e. absurd (false≢true e);
+        lives = λ e. absurd (false≢true e);
       };
     }
 
@@ -250,7 +254,9 @@ server_begins {size} {own} other peer c = record {
         behind_data = λ e. absurd (false≢true e);
         before_data = λ e. absurd (false≢true e);
         asked = λ e. absurd (false≢true e);
+        agreed = λ e. absurd (false≢true e);
         answered = λ e. absurd (false≢true e);
+        lives = λ e. absurd (false≢true e);
       };
     }
 

@@ -37,7 +37,7 @@ use Rattle.sctp_sides.proofs.Proved.{forwardings_are_silent, other_polls_do_noth
 use Rattle.sctp_sides.proofs.Proved.{polls_complete_what_is_due, polls_end_last, polls_keep_the_stage, polls_lead_on_in_front}
 use Rattle.sctp_sides.proofs.Proved.{given_append, more_are_past, more_is_asked_past, no_reset_is_past_only}
 use Rattle.sctp_sides.proofs.Proved.{polls_give_and_report, polls_reset_no_more}
-use Rattle.sctp_sides.proofs.Proved.{polls_outside_established_give_what_waits, the_same_handshake_is_the_same_stage}
+use Rattle.sctp_sides.proofs.Proved.{polls_outside_an_exchange_give_what_waits, the_same_handshake_is_the_same_stage}
 use Rattle.sctp_sides.proofs.Proved.{polls_say_their_acts, reports_are_silent, what_waits_goes_out_as_it_is}
 use Rattle.sctp_fit.specs.Sendings.{IsGiven}
 use Rattle.sctp_serial.specs.Serial.{tsn}
@@ -474,7 +474,7 @@ silent_polls : {x : Surroundings} {a b : Shown} {packets : List (List ℕ)} (now
 unfolding still
 silent_polls {x} {a} {b} {packets} now f same again working e s =
     let nothing = closed_sides_exchange_nothing a s.closed in
-    let plainly = polls_outside_established_give_what_waits a now s.no_reset nothing.0 nothing.1 in
+    let plainly = polls_outside_an_exchange_give_what_waits a now s.no_reset nothing.0 nothing.1 in
     let gives : (without_control a, control_packets a.control) ≡ (b, packets) = sym plainly ∙ e in
     let left : without_control a ≡ b = ap (λ (z : Shown × List (List ℕ)). z.0) gives in
     let stays : KeepsTheStage a (without_control a) = subst (KeepsTheStage a) (sym left) same in

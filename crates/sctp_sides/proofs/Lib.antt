@@ -31,6 +31,16 @@ mod GenerationsOverRuns
 mod GivingUpKeeps
 mod HandshakeChunks
 mod HandshakeTruth
+mod HeldByCalls
+mod HeldInChunks
+mod HeldInPolls
+mod HeldInResets
+mod HeldInSending
+mod HeldOverCalls
+mod HeldPieces
+mod HeldSteps
+mod HeldStreams
+mod HeldWeaker
 mod LateGivenUp
 mod LiveStreams
 mod LossToldOnce

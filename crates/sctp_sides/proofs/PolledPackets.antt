@@ -36,7 +36,7 @@ use Rattle.sctp_assoc.specs.Gather.{packet_bytes, single_chunk_packet, sack_chun
 use Rattle.sctp_assoc.specs.Gather.{WaitPlainly, without_control}
 use Rattle.sctp_sides.specs.NoReset.{HasNoReset, IsNoReconfig, IsOfNoReset, control_packets, packets_of_control}
 use Rattle.sctp_sides.specs.SideLaws.{IsExchanged, IsGivenBy, IsWaitingToGo, NoResetGoesOut, OfEachChunk}
-use Rattle.sctp_sides.specs.SideLaws.{PollsOutsideEstablishedGiveWhatWaits, PollsSayTheirActs, WhatWaitsGoesOutAsItIs}
+use Rattle.sctp_sides.specs.SideLaws.{PollsOutsideAnExchangeGiveWhatWaits, PollsSayTheirActs, WhatWaitsGoesOutAsItIs}
 use Rattle.sctp_sides.specs.PastSpan.{AsksPast}
 use Rattle.sctp_assoc.specs.Shown.{Shown}
 use Rattle.sctp_sides.proofs.WithoutResets.{no_request_is_timed, what_waits_goes_out}
@@ -244,8 +244,8 @@ unfolding exchange_polled
 exchange_nothing a now e =
     cond-false (exchanges_data a.state) (forward_after (ack_after (requests_after (data_after a now)))) (a, []) e
 
-pub polls_outside_established_give_what_waits : PollsOutsideEstablishedGiveWhatWaits
-polls_outside_established_give_what_waits a now none e quiet =
+pub polls_outside_an_exchange_give_what_waits : PollsOutsideAnExchangeGiveWhatWaits
+polls_outside_an_exchange_give_what_waits a now none e quiet =
     let b : Shown = without_control a in
     let waiting = control_packets a.control in
     let front : open_polled a now ≡ (b, waiting) =

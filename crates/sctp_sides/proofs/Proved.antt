@@ -15,7 +15,7 @@ pub use Rattle.sctp_sides.proofs.LiveStreams.{opened_streams_were_not_live, sett
 pub use Rattle.sctp_sides.proofs.LiveStreams.{what_holds_nothing_gives_nothing}
 pub use Rattle.sctp_sides.proofs.HandshakeChunks.{established_sides_talk, the_same_handshake_is_the_same_stage}
 pub use Rattle.sctp_assoc.proofs.PollsLeadOn.{forwardings_are_silent, reports_are_silent}
-pub use Rattle.sctp_sides.proofs.PolledPackets.{polls_outside_established_give_what_waits, polls_say_their_acts}
+pub use Rattle.sctp_sides.proofs.PolledPackets.{polls_outside_an_exchange_give_what_waits, polls_say_their_acts}
 pub use Rattle.sctp_sides.proofs.PolledPackets.{no_reset_goes_out, what_waits_goes_out_as_it_is}
 pub use Rattle.sctp_sides.proofs.WithoutResets.{what_waits_goes_out}
 pub use Rattle.sctp_sides.proofs.ActsPast.{data_opens_or_takes, forwards_pass_over, i_forwards_pass_over}
@@ -58,3 +58,5 @@ pub use Rattle.sctp_sides.proofs.ResetsNoMore.{packet_ends_reset_no_more, polls_
 pub use Rattle.sctp_sides.proofs.ResetsNoMore.{reads_reset_no_more, settings_reset_no_more, stops_reset_that_stream}
 pub use Rattle.sctp_sides.proofs.ResetsNoMore.{timers_reset_no_more, told_events_reset_no_more, writes_reset_no_more}
 pub use Rattle.sctp_sides.proofs.ShutdownsStayInOrder.{polls_complete_what_is_due, shutdowns_stay_in_order}
+pub use Rattle.sctp_sides.proofs.HeldOverCalls.{calls_hold_what_came, reads_give_what_is_held}
+pub use Rattle.sctp_sides.proofs.HeldWeaker.{held_weaker, made_weaker}

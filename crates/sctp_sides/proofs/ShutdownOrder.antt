@@ -1,6 +1,7 @@
 -- The order of a shutdown at one side (RFC 4960 section 9.2): while SHUTDOWN or SHUTDOWN ACK waits for its answer all
 -- DATA of this side is acknowledged, while it waits for DATA some is not, and SHUTDOWN or SHUTDOWN ACK is due, and
--- the timer of the answer runs, in the states alone in which an answer is awaited. What keeps that order.
+-- the timer of the answer runs, in the states alone in which an answer is awaited, and one of them is so there. What
+-- keeps that order.
 use Rattle.std.proofs.Common.{◌≡◌, refl, sym, ap, ◌∙◌, subst, ◌⊎◌, inl, inr, ℕ, Bool, true, false, ◌&&◌, ◌||◌, ◌==◌}
 use Rattle.std.proofs.Common.{not}
 use Rattle.std.proofs.Common.{if◌then◌else◌, ltb, List, [], ◌∷◌, length, map, slice_get, zero, suc, eqb, Option, Some}
@@ -46,7 +47,7 @@ use Rattle.sctp_assoc.specs.Shutdown.{shutdown_continued, shutdown_sent, shutdow
 use Rattle.sctp_assoc.specs.Shutdown.{state_behind_data}
 use Rattle.sctp_assoc.specs.Timeouts.{after_timeouts}
 use Rattle.sctp_assoc.proofs.GivenApart.{ChangesControl, with_own_control}
-use Rattle.sctp_sides.specs.Ending.{AreInOrder, IsInOrder, is_any_due}
+use Rattle.sctp_sides.specs.Ending.{AreInOrder, IsDueOrTimed, IsInOrder, is_any_due}
 use Rattle.sctp_sides.specs.OneSide.{is_armed}
 use Rattle.sctp_sides.specs.Witnesses.{is_waiting_for_data}
 use Rattle.sctp_sides.proofs.EndedPolls.{polled_ends}
@@ -55,11 +56,16 @@ use Rattle.sctp_sides.proofs.PollsLeave.{after_requests, control_leaves, polled_
 use Rattle.sctp_sides.proofs.ResetsBeside.{ChangesResets, reconfig_timer_changes, run_changes, with_resets_of}
 use Rattle.sctp_sides.proofs.TimersOverChunks.{closed_rests}
 use Rattle.sctp_sides.proofs.TimersOverTimeouts.{kept_if}
-use Rattle.sctp_sides.proofs.TimersRun.{AtRest}
+use Rattle.sctp_sides.proofs.TimersRun.{AtRest, closed_gives_nothing}
 
 -- it is in order, or failed or was lost
 abbrev pub IsOrderedOrRests : Shown → Type 0
 IsOrderedOrRests a = IsInOrder a ⊎ AtRest a
+
+-- one of two is so yet where both stayed as they were
+still_either : {x y t u : Bool} → x ≡ y → t ≡ u → (x ≡ true) ⊎ (t ≡ true) → (y ≡ true) ⊎ (u ≡ true)
+still_either first second (inl e) = inl (sym first ∙ e)
+still_either first second (inr e) = inr (sym second ∙ e)
 
 -- what none of this looks at may change
 pub order_by : (a b : Shown) → b.state ≡ a.state → b.shutdown_due ≡ a.shutdown_due
@@ -112,8 +118,26 @@ module _ (k m : Bool) (s z : AssociationState) (due : ShutdownDue) (timed : Bool
     behind_data = λ e. absurd (false≢true (sym (nothing_awaited z after).0 ∙ e));
     before_data = λ e. absurd (false≢true (sym (nothing_awaited z after).1 ∙ e));
     asked = λ e. absurd (false≢true (sym (nothing_awaited s before).0 ∙ h.asked e));
+    agreed = λ e. absurd (true≢false (ap is_closing (sym (h.agreed e)) ∙ before));
     answered = λ e. absurd (false≢true (sym (nothing_awaited s before).0 ∙ h.answered e));
+    lives = λ e. absurd (false≢true (sym (nothing_awaited z after).0 ∙ e));
   }
+
+-- Whether one of three is so
+
+first_of : (x y z : Bool) → x ≡ true → (x || y || z) ≡ true
+first_of true y z e = refl
+first_of false y z e = absurd (false≢true e)
+
+second_of : (x y z : Bool) → y ≡ true → (x || y || z) ≡ true
+second_of true y z e = refl
+second_of false true z e = refl
+second_of false false z e = absurd (false≢true e)
+
+third_of : (x y z : Bool) → z ≡ true → (x || y || z) ≡ true
+third_of true y z e = refl
+third_of false true z e = refl
+third_of false false z e = e
 
 -- A shutdown that goes on
 
@@ -121,74 +145,103 @@ module _ (k m : Bool) (s z : AssociationState) (due : ShutdownDue) (timed : Bool
 module _ (due : ShutdownDue) (timed : Bool) where
   goes_on_in_order : (s : AssociationState)
       → (is_any_due due ≡ true → awaits_answer s ≡ true)
+      → (due.shutdown_ack ≡ true → s ≡ states.ShutdownAckSent)
       → (timed ≡ true → awaits_answer s ≡ true)
+      → (awaits_answer s ≡ true → IsDueOrTimed due timed)
       → AreInOrder true (state_behind_data s) (due_behind_data s due) timed
-  goes_on_in_order states.Closed asked answered = record {
+  goes_on_in_order states.Closed asked agreed answered lives = record {
     behind_data = λ e. refl;
     before_data = λ e. absurd (false≢true e);
     asked = asked;
+    agreed = agreed;
     answered = answered;
+    lives = lives;
   }
-  goes_on_in_order states.CookieWait asked answered = record {
+  goes_on_in_order states.CookieWait asked agreed answered lives = record {
     behind_data = λ e. refl;
     before_data = λ e. absurd (false≢true e);
     asked = asked;
+    agreed = agreed;
     answered = answered;
+    lives = lives;
   }
-  goes_on_in_order states.CookieEchoed asked answered = record {
+  goes_on_in_order states.CookieEchoed asked agreed answered lives = record {
     behind_data = λ e. refl;
     before_data = λ e. absurd (false≢true e);
     asked = asked;
+    agreed = agreed;
     answered = answered;
+    lives = lives;
   }
-  goes_on_in_order states.Established asked answered = record {
+  goes_on_in_order states.Established asked agreed answered lives = record {
     behind_data = λ e. refl;
     before_data = λ e. absurd (false≢true e);
     asked = asked;
+    agreed = agreed;
     answered = answered;
+    lives = lives;
   }
-  goes_on_in_order states.ShutdownAckSent asked answered = record {
+  goes_on_in_order states.ShutdownAckSent asked agreed answered lives = record {
     behind_data = λ e. refl;
     before_data = λ e. absurd (false≢true e);
     asked = λ e. refl;
+    agreed = agreed;
     answered = λ e. refl;
+    lives = lives;
   }
-  goes_on_in_order states.ShutdownPending asked answered = record {
+  goes_on_in_order states.ShutdownPending asked agreed answered lives = record {
     behind_data = λ e. refl;
     before_data = λ e. absurd (false≢true e);
     asked = λ e. refl;
+    agreed = λ e. absurd (false≢true (ap awaits_answer (agreed e)));
     answered = λ e. refl;
+    lives = λ e. inl refl;
   }
-  goes_on_in_order states.ShutdownReceived asked answered = record {
+  goes_on_in_order states.ShutdownReceived asked agreed answered lives = record {
     behind_data = λ e. refl;
     before_data = λ e. absurd (false≢true e);
     asked = λ e. refl;
+    agreed = λ e. refl;
     answered = λ e. refl;
+    lives = λ e. inl (second_of due.shutdown true due.shutdown_complete refl);
   }
-  goes_on_in_order states.ShutdownSent asked answered = record {
+  goes_on_in_order states.ShutdownSent asked agreed answered lives = record {
     behind_data = λ e. refl;
     before_data = λ e. absurd (false≢true e);
     asked = λ e. refl;
+    agreed = agreed;
     answered = λ e. refl;
+    lives = lives;
   }
 
   continued_if : (acknowledged : Bool) (s : AssociationState)
       → (awaits_answer s ≡ true → acknowledged ≡ true)
       → (is_any_due due ≡ true → awaits_answer s ≡ true)
+      → (due.shutdown_ack ≡ true → s ≡ states.ShutdownAckSent)
       → (timed ≡ true → awaits_answer s ≡ true)
+      → (awaits_answer s ≡ true → IsDueOrTimed due timed)
       → AreInOrder acknowledged (if acknowledged then state_behind_data s else s)
       (if acknowledged then due_behind_data s due else due) timed
-  continued_if true s behind asked answered = goes_on_in_order s asked answered
-  continued_if false s behind asked answered =
-      record { behind_data = behind; before_data = λ e. refl; asked = asked; answered = answered }
+  continued_if true s behind asked agreed answered lives = goes_on_in_order s asked agreed answered lives
+  continued_if false s behind asked agreed answered lives = record {
+    behind_data = behind;
+    before_data = λ e. refl;
+    asked = asked;
+    agreed = agreed;
+    answered = answered;
+    lives = lives;
+  }
 
 pub continued_order : (b : Shown) → (awaits_answer b.state ≡ true → all_acknowledged b ≡ true)
     → (is_any_due b.shutdown_due ≡ true → awaits_answer b.state ≡ true)
-    → (is_armed names.T2Shutdown b.timers ≡ true → awaits_answer b.state ≡ true) → IsInOrder (shutdown_continued b)
-continued_order b behind asked answered = record {
+    → (b.shutdown_due.shutdown_ack ≡ true → b.state ≡ states.ShutdownAckSent)
+    → (is_armed names.T2Shutdown b.timers ≡ true → awaits_answer b.state ≡ true)
+    → (awaits_answer b.state ≡ true → IsDueOrTimed b.shutdown_due (is_armed names.T2Shutdown b.timers))
+    → IsInOrder (shutdown_continued b)
+continued_order b behind asked agreed answered lives = record {
   order =
       continued_if b.shutdown_due (is_armed names.T2Shutdown b.timers) (all_acknowledged b) b.state behind asked
-      answered;
+      agreed answered lives;
 }
 
 -- the application begins one
@@ -198,7 +251,10 @@ begun_order a e h =
     continued_order (record a { state = states.ShutdownPending; endpoint_event = (shutdown_begun a).endpoint_event })
     (λ (w : false ≡ true). absurd (false≢true w))
     (λ (w : is_any_due a.shutdown_due ≡ true). absurd (false≢true (sym none ∙ h.order.asked w)))
+    (λ (w : a.shutdown_due.shutdown_ack ≡ true).
+    absurd (false≢true (sym none ∙ ap awaits_answer (h.order.agreed w))))
     (λ (w : is_armed names.T2Shutdown a.timers ≡ true). absurd (false≢true (sym none ∙ h.order.answered w)))
+    (λ (w : false ≡ true). absurd (false≢true w))
 
 -- SHUTDOWN comes
 taken_if : (acknowledged timed : Bool) (s : AssociationState) (due : ShutdownDue)
@@ -211,13 +267,17 @@ taken_if true timed states.Established due h = record {
   behind_data = λ e. refl;
   before_data = λ e. absurd (false≢true e);
   asked = λ e. refl;
+  agreed = λ e. refl;
   answered = λ e. refl;
+  lives = λ e. inl (second_of due.shutdown true due.shutdown_complete refl);
 }
 taken_if false timed states.Established due h = record {
   behind_data = λ e. absurd (false≢true e);
   before_data = λ e. refl;
   asked = h.asked;
+  agreed = λ e. absurd (false≢true (ap awaits_answer (h.agreed e)));
   answered = h.answered;
+  lives = λ e. absurd (false≢true e);
 }
 taken_if acknowledged timed states.ShutdownAckSent due h = h
 taken_if acknowledged timed states.ShutdownPending due h = h
@@ -226,7 +286,9 @@ taken_if acknowledged timed states.ShutdownSent due h = record {
   behind_data = λ e. h.behind_data refl;
   before_data = λ e. absurd (false≢true e);
   asked = λ e. refl;
+  agreed = λ e. refl;
   answered = λ e. refl;
+  lives = λ e. inl (second_of due.shutdown true due.shutdown_complete refl);
 }
 
 pub taken_order : (a : Shown) → IsInOrder a → IsInOrder (shutdown_taken a)
@@ -248,41 +310,45 @@ completes_where_awaited : (awaits : Bool) (due : ShutdownDue)
 completes_where_awaited true due e asked = refl
 completes_where_awaited false due e asked = asked e
 
+complete_is_due : (awaits : Bool) (due : ShutdownDue) → awaits ≡ true
+    → is_any_due (record due { shutdown_complete = if awaits then true else due.shutdown_complete }) ≡ true
+complete_is_due true due e = third_of due.shutdown due.shutdown_ack true refl
+complete_is_due false due e = absurd (false≢true e)
+
 pub answered_order : (a : Shown) → IsInOrder a → IsInOrder (shutdown_answered a)
 answered_order a h = record {
   order = record {
     behind_data = h.order.behind_data;
     before_data = h.order.before_data;
     asked = λ e. completes_where_awaited (awaits_answer a.state) a.shutdown_due e h.order.asked;
+    agreed = h.order.agreed;
     answered = λ e. h.order.answered (stopped_or_as_it_was (awaits_answer a.state) a.timers e);
+    lives = λ e. inl (complete_is_due (awaits_answer a.state) a.shutdown_due e);
   };
 }
 
 -- The end of a poll: the chunk of a shutdown that goes out last
 
-completed_order : (closed : Bool) (m : Shown) (due : ShutdownDue)
-    → (is_any_due due ≡ true → is_any_due m.shutdown_due ≡ true) → IsInOrder m
+-- a closed side awaits nothing
+completed_order : (closed : Bool) (m : Shown) (due : ShutdownDue) → is_closed_state m.state ≡ closed
+    → (is_any_due due ≡ true → is_any_due m.shutdown_due ≡ true)
+    → (due.shutdown_ack ≡ true → m.shutdown_due.shutdown_ack ≡ true) → IsInOrder m
     → IsOrderedOrRests
     (let b : Shown = record m { shutdown_due = due } in
     if closed then b else closed_open b reasons.AssociationClosed)
-completed_order true m due e h = inl (record {
+completed_order true m due closed e f h = inl (record {
   order = record {
     behind_data = h.order.behind_data;
     before_data = h.order.before_data;
     asked = λ w. h.order.asked (e w);
+    agreed = λ w. h.order.agreed (f w);
     answered = h.order.answered;
+    lives = λ w.
+        absurd (false≢true (sym (nothing_awaited m.state (closed_gives_nothing m.state closed).1).0 ∙ w));
   };
 })
-completed_order false m due e h = inr (closed_rests (record m { shutdown_due = due }) reasons.AssociationClosed)
-
-first_of : (x y z : Bool) → x ≡ true → (x || y || z) ≡ true
-first_of true y z e = refl
-first_of false y z e = absurd (false≢true e)
-
-second_of : (x y z : Bool) → y ≡ true → (x || y || z) ≡ true
-second_of true y z e = refl
-second_of false true z e = refl
-second_of false false z e = absurd (false≢true e)
+completed_order false m due closed e f h =
+    inr (closed_rests (record m { shutdown_due = due }) reasons.AssociationClosed)
 
 -- where SHUTDOWN COMPLETE goes out the others are due no more often
 third_left : (x y z : Bool) → (x || y || false) ≡ true → (x || y || z) ≡ true
@@ -291,16 +357,19 @@ third_left false true z e = refl
 third_left false false z e = absurd (false≢true e)
 
 -- SHUTDOWN or SHUTDOWN ACK was due: an answer is awaited, and its timer runs
-awaiting_order : (m b : Shown) → awaits_answer m.state ≡ true → b.state ≡ m.state
+awaiting_order : (m b : Shown) → awaits_answer m.state ≡ true → is_armed names.T2Shutdown b.timers ≡ true
+    → (b.shutdown_due.shutdown_ack ≡ true → m.state ≡ states.ShutdownAckSent) → b.state ≡ m.state
     → all_acknowledged b ≡ all_acknowledged m → IsInOrder m → IsInOrder b
-awaiting_order m b w state acknowledged h =
+awaiting_order m b w timed agreed state acknowledged h =
     let there : awaits_answer b.state ≡ true = ap awaits_answer state ∙ w in
     record {
       order = record {
         behind_data = λ e. acknowledged ∙ h.order.behind_data w;
         before_data = λ e. acknowledged ∙ h.order.before_data (sym (ap is_waiting_for_data state) ∙ e);
         asked = λ e. there;
+        agreed = λ e. state ∙ agreed e;
         answered = λ e. there;
+        lives = λ e. inr timed;
       };
     }
 
@@ -315,15 +384,16 @@ end_if false shutdown shutdown_ack complete m now e f h = inl h
 end_if true true shutdown_ack complete m now e f h =
     let w = h.order.asked
     (first_of m.shutdown_due.shutdown m.shutdown_due.shutdown_ack m.shutdown_due.shutdown_complete e) in
-    inl (awaiting_order m (shutdown_sent m now) w refl refl h)
+    inl (awaiting_order m (shutdown_sent m now) w refl h.order.agreed refl refl h)
 end_if true false true complete m now e f h =
     let w = h.order.asked
     (second_of m.shutdown_due.shutdown m.shutdown_due.shutdown_ack m.shutdown_due.shutdown_complete f) in
-    inl (awaiting_order m (shutdown_ack_sent m now) w refl refl h)
+    inl (awaiting_order m (shutdown_ack_sent m now) w refl (λ (v : false ≡ true). absurd (false≢true v)) refl refl h)
 end_if true false false true m now e f h =
     completed_order (is_closed_state m.state) m
-    (let due = m.shutdown_due in record due { shutdown_complete = false })
-    (third_left m.shutdown_due.shutdown m.shutdown_due.shutdown_ack m.shutdown_due.shutdown_complete) h
+    (let due = m.shutdown_due in record due { shutdown_complete = false }) refl
+    (third_left m.shutdown_due.shutdown m.shutdown_due.shutdown_ack m.shutdown_due.shutdown_complete)
+    (λ (w : m.shutdown_due.shutdown_ack ≡ true). w) h
 end_if true false false false m now e f h = inl h
 
 end_order : (m : Shown) (now : ℕ) → IsInOrder m → IsOrderedOrRests (shutdown_polled m now).0
@@ -467,12 +537,20 @@ data_order : (a : Shown) (now : ℕ) → IsInOrder a → IsInOrder (data_after a
 data_order a now h =
     let b : Shown = (data_polled a now).0 in
     let there : awaits_answer b.state ≡ awaits_answer a.state = ap awaits_answer (data_leaves_state a now) in
+    let due : is_any_due b.shutdown_due ≡ is_any_due a.shutdown_due = ap is_any_due (data_leaves_due a now) in
+    let timed : is_armed names.T2Shutdown b.timers ≡ is_armed names.T2Shutdown a.timers =
+    ap (λ (t : TimerState). is_some t.moment) (data_leaves_timer a now) in
     continued_order b
     (λ (e : awaits_answer b.state ≡ true). polled_acknowledged a now (h.order.behind_data (sym there ∙ e)))
     (λ (e : is_any_due b.shutdown_due ≡ true).
-    there ∙ h.order.asked (sym (ap is_any_due (data_leaves_due a now)) ∙ e))
+    there ∙ h.order.asked (sym due ∙ e))
+    (λ (e : b.shutdown_due.shutdown_ack ≡ true).
+    data_leaves_state a now
+    ∙ h.order.agreed (sym (ap (λ (d : ShutdownDue). d.shutdown_ack) (data_leaves_due a now)) ∙ e))
     (λ (e : is_armed names.T2Shutdown b.timers ≡ true).
-    there ∙ h.order.answered (sym (ap (λ (t : TimerState). is_some t.moment) (data_leaves_timer a now)) ∙ e))
+    there ∙ h.order.answered (sym timed ∙ e))
+    (λ (e : awaits_answer b.state ≡ true).
+    still_either (sym due) (sym timed) (h.order.lives (sym there ∙ e)))
 
 -- A whole poll
 
@@ -570,19 +648,32 @@ due_is_armed : (o : Option ℕ) (now : ℕ) → is_due o now ≡ true → is_som
 due_is_armed None now e = absurd (false≢true e)
 due_is_armed (Some moment) now e = refl
 
+-- SHUTDOWN ACK goes again in ShutdownAckSent alone
+again_agreed : (s : AssociationState) (due : ShutdownDue) → (due.shutdown_ack ≡ true → s ≡ states.ShutdownAckSent)
+    → (due_again s due).shutdown_ack ≡ true → s ≡ states.ShutdownAckSent
+again_agreed states.Closed due agreed e = agreed e
+again_agreed states.CookieWait due agreed e = agreed e
+again_agreed states.CookieEchoed due agreed e = agreed e
+again_agreed states.Established due agreed e = agreed e
+again_agreed states.ShutdownAckSent due agreed e = refl
+again_agreed states.ShutdownPending due agreed e = agreed e
+again_agreed states.ShutdownReceived due agreed e = agreed e
+again_agreed states.ShutdownSent due agreed e = agreed e
+
 answer_expired_order : (expired : Bool) (a : Shown) (t : Timers) → (expired ≡ true → awaits_answer a.state ≡ true)
-    → IsInOrder a
+    → is_armed names.T2Shutdown t ≡ true → IsInOrder a
     → IsInOrder (record a {
       timers = if expired then t else a.timers;
       shutdown_due = if expired then due_again a.state a.shutdown_due else a.shutdown_due;
     })
-answer_expired_order true a t awaits h = awaiting_order a _ (awaits refl) refl refl h
-answer_expired_order false a t awaits h = h
+answer_expired_order true a t awaits timed h =
+    awaiting_order a _ (awaits refl) timed (again_agreed a.state a.shutdown_due h.order.agreed) refl refl h
+answer_expired_order false a t awaits timed h = h
 
 t2_order : (a : Shown) (now : ℕ) → IsInOrder a → IsInOrder (after_t2_shutdown a now)
 t2_order a now h =
     answer_expired_order (expiry_of names.T2Shutdown now a.timers).expired a _
-    (λ e. h.order.answered (due_is_armed a.timers.t2_shutdown.moment now e)) h
+    (λ e. h.order.answered (due_is_armed a.timers.t2_shutdown.moment now e)) refl h
 
 retransmits_order : (a : Shown) (now : ℕ) → IsInOrder a → IsInOrder (retransmits a now)
 retransmits_order a now h =

@@ -196,13 +196,15 @@ outcome_order outcomes.NotInFlight a cumulative_tsn_ack blocks window trigger no
 outcome_order outcomes.NamesTheUnsent a cumulative_tsn_ack blocks window trigger now s h = h
 outcome_order outcomes.Taken a cumulative_tsn_ack blocks window trigger now s h =
     let b : Shown = after_sack a cumulative_tsn_ack blocks window now in
+    let none = sending_awaits_nothing a.state s in
     continued_order b
-    (λ (e : awaits_answer a.state ≡ true). absurd (false≢true (sym (sending_awaits_nothing a.state s) ∙ e)))
-    h.order.asked
+    (λ (e : awaits_answer a.state ≡ true). absurd (false≢true (sym none ∙ e)))
+    h.order.asked h.order.agreed
     (λ (e : is_some b.timers.t2_shutdown.moment ≡ true).
     h.order.answered (sym (ap (λ (t : TimerState). is_some t.moment)
     (acknowledged_leaves a (progress_of a.sender cumulative_tsn_ack blocks) now
     (sack_taken cumulative_tsn_ack blocks window now a.sender a.estimate a.streams))) ∙ e))
+    (λ (e : awaits_answer a.state ≡ true). absurd (false≢true (sym none ∙ e)))
 
 -- The handshake
 

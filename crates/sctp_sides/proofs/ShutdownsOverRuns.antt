@@ -13,6 +13,7 @@ use Rattle.sctp_streams.specs.Stream.{StreamView, is_read_half_open}
 use Rattle.sctp_streams.specs.Streams.{StreamMap, read_in, stream_at}
 use Rattle.sctp_receive_queues.specs.Messages.{ReceivedMessage}
 use Rattle.sctp_resets.specs.Resets.{ResetsView, event_told}
+use Rattle.sctp_assoc.specs.declared.shutdown.ShutdownDue.{ShutdownDue}
 use Rattle.sctp_assoc.specs.Calls.{accepted_from, adjusted, after_read, drained_behind, event_from, holds_of}
 use Rattle.sctp_assoc.specs.Calls.{is_established, stopped_open, written_at}
 use Rattle.sctp_assoc.specs.Closing.{exhausted, is_closed_state, is_exhausted, relieved}
@@ -146,7 +147,9 @@ fresh_order a f =
         behind_data = λ e. absurd (false≢true (sym none.0 ∙ e));
         before_data = λ e. absurd (false≢true (sym none.1 ∙ e));
         asked = λ e. absurd (false≢true (sym undue ∙ e));
+        agreed = λ e. absurd (false≢true (sym (ap (λ (d : ShutdownDue). d.shutdown_ack) f.no_shutdown) ∙ e));
         answered = λ e. absurd (false≢true (sym f.answer ∙ e));
+        lives = λ e. absurd (false≢true (sym none.0 ∙ e));
       };
     }
 

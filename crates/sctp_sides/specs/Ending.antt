@@ -1,6 +1,7 @@
 -- The order of a shutdown at one side (RFC 4960 section 9.2).
 use Rattle.std.specs.Prelude.{◌≡◌, ◌⊎◌, ◌||◌, ℕ, Bool, true, false, length, None, ⊤}
 use Rattle.sctp_parts.specs.declared.state.AssociationState.{AssociationState}
+use Rattle.sctp_parts.specs.declared.state.AssociationState.TheVariants as states
 use Rattle.sctp_parts.specs.declared.timer.Timer.TheVariants as names
 use Rattle.sctp_assoc.specs.declared.shutdown.ShutdownDue.{ShutdownDue}
 use Rattle.sctp_assoc.specs.Calls.{write_refusal}
@@ -14,15 +15,24 @@ use Rattle.sctp_sides.specs.Witnesses.{is_waiting_for_data}
 abbrev pub is_any_due : ShutdownDue → Bool
 is_any_due due = due.shutdown || due.shutdown_ack || due.shutdown_complete
 
+-- a chunk of a shutdown is due, or the timer of the answer runs
+abbrev pub IsDueOrTimed : ShutdownDue → Bool → Type 0
+IsDueOrTimed due timed = (is_any_due due ≡ true) ⊎ (timed ≡ true)
+
 -- Whether all DATA of a side is acknowledged, its state, which chunks of a shutdown are due, and whether the timer of
 -- the answer runs: while SHUTDOWN or SHUTDOWN ACK waits for its answer all DATA is acknowledged, while it waits for
--- DATA some is not, and chunks of a shutdown are due, and the timer runs, where an answer is awaited alone.
+-- DATA some is not, and chunks of a shutdown are due, and the timer runs, where an answer is awaited alone, and
+-- SHUTDOWN ACK is due in ShutdownAckSent alone (SHUTDOWN may be due there too, where SHUTDOWN of the peer came before
+-- it went out, and SHUTDOWN COMPLETE in both states). Where an answer is awaited one of them is due or the timer runs,
+-- so that a shutdown does not stop for good.
 pub record AreInOrder (acknowledged : Bool) (state : AssociationState) (due : ShutdownDue) (timed : Bool)
     : Type 0 where
   pub behind_data : awaits_answer state ≡ true → acknowledged ≡ true
   pub before_data : is_waiting_for_data state ≡ true → acknowledged ≡ false
   pub asked : is_any_due due ≡ true → awaits_answer state ≡ true
+  pub agreed : due.shutdown_ack ≡ true → state ≡ states.ShutdownAckSent
   pub answered : timed ≡ true → awaits_answer state ≡ true
+  pub lives : awaits_answer state ≡ true → IsDueOrTimed due timed
 
 -- Of an association that is so.
 pub record IsInOrder (a : Shown) : Type 0 where

@@ -11,3 +11,5 @@ pub mod OneSide
 pub mod SideLaws
 pub mod Repeats
 pub mod Witnesses
+pub mod Held
+pub mod Brought

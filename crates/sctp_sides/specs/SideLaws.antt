@@ -570,8 +570,8 @@ PollsLeadOnInFront = (a b : Shown) (now : ℕ) (packets : List (List ℕ)) → p
 
 -- Where DATA is not exchanged and no shutdown goes on, a poll gives what waits to go out, and nothing else, if no reset
 -- is under way.
-abbrev pub PollsOutsideEstablishedGiveWhatWaits : Type 0
-PollsOutsideEstablishedGiveWhatWaits =
+abbrev pub PollsOutsideAnExchangeGiveWhatWaits : Type 0
+PollsOutsideAnExchangeGiveWhatWaits =
     (a : Shown) (now : ℕ) → HasNoReset a → exchanges_data a.state ≡ false → is_closing a.state ≡ false
     → polled a now ≡ (without_control a, control_packets a.control)
 

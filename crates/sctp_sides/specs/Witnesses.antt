@@ -80,8 +80,8 @@ abbrev pub IsTimed : Timer → Timers → Type 0
 IsTimed timer t = (is_armed timer t ≡ true) ⊎ (has_given_up timer t ≡ true)
 
 -- At a side that did not fail, in Established and in a shutdown until SHUTDOWN or SHUTDOWN ACK is due, the
--- retransmission timer runs as long as DATA is in flight, unless its retries passed their limit (RFC 4960 section 6.3.2, rules R1 and R3). What goes out again when
--- it expires stands in the equations of timeouts and polls.
+-- retransmission timer runs as long as DATA is in flight, unless its retries passed their limit (RFC 4960 section
+-- 6.3.2, rules R1 and R3). What goes out again when it expires stands in the equations of timeouts and polls.
 abbrev pub OutstandingDataIsTimed : Type 0
 OutstandingDataIsTimed = OfEachSide (λ b. b.failed ≡ false → sends_data b.state ≡ true
     → 0 < length b.sender.queue.in_flight → IsTimed names.T3RTX b.timers)

@@ -17,11 +17,12 @@ ghost use Rattle.sctp_sides.specs.SideLaws.{OpenedStreamsWereNotLive, OtherChunk
 ghost use Rattle.sctp_sides.specs.SideLaws.{EndpointEventsKeepTheStatus, OtherPollsDoNothingInFront, PacketsEnd};
 ghost use Rattle.sctp_sides.specs.SideLaws.{PollsEndLast, PollsGiveAndReport, PollsKeepTheStage};
 ghost use Rattle.sctp_sides.specs.SideLaws.{PollsLeadOnInFront, ShutdownsKeepTheStage, TheSameStatusIsTheSameStage};
-ghost use Rattle.sctp_sides.specs.SideLaws.{PollsOutsideEstablishedGiveWhatWaits, PollsSayTheirActs};
+ghost use Rattle.sctp_sides.specs.SideLaws.{PollsOutsideAnExchangeGiveWhatWaits, PollsSayTheirActs};
 ghost use Rattle.sctp_sides.specs.SideLaws.{NoResetGoesOut, ReadsChangeStreamsAlone, ReadsKeepTheStatus};
 ghost use Rattle.sctp_sides.specs.SideLaws.{SacksAcknowledge, TakenSacksAcknowledge, TheSameHandshakeIsTheSameStage};
 ghost use Rattle.sctp_sides.specs.SideLaws.{TimeoutsMarkAtMost, TimersKeepTheStatus, ToldEventsKeepTheStatus};
 ghost use Rattle.sctp_sides.specs.SideLaws.{WhatHoldsNothingGivesNothing, WhatWaitsGoesOutAsItIs, WritesKeepTheStatus};
+ghost use Rattle.sctp_sides.specs.Brought.{CallsHoldWhatCame, ReadsGiveWhatIsHeld};
 ghost use Rattle.sctp_sides.specs.Ending.{PollsCompleteWhatIsDue, ShutdownsStayInOrder};
 ghost use Rattle.sctp_sides.specs.NoReset.{AcceptedStreamsBeginNoReset, ClosesBeginNoReset, CreatedSidesResetNothing};
 ghost use Rattle.sctp_sides.specs.NoReset.{EndpointEventsBeginNoReset, ShutdownsBeginNoReset};
@@ -160,10 +161,17 @@ pub fn data_is_taken_in()
     ensures no_other_kept { NothingElseIsKeptApart }
 {}
 
+/// Integrity: a message that is read was made of DATA chunks that came, from its first piece to its last, whatever the
+/// peer sends. All that waits to be read came, and complete messages that wait are made so, too.
+pub fn what_is_read_came()
+    ensures held { CallsHoldWhatCame }
+    ensures read { ReadsGiveWhatIsHeld }
+{}
+
 /// Status: whether it failed, its state, whether it was lost, its payload size, its side and its handshake change by no
 /// call of the application but a shutdown, a close, and a read or a stop that closes, no timer and no poll that is
-/// carried out, and what waits to go out stays truthful; a poll may lead a shutdown on, and end it. (One that finds no memory in its middle fails the
-/// association.)
+/// carried out, and what waits to go out stays truthful; a poll may lead a shutdown on, and end it. (One that finds no
+/// memory in its middle fails the association.)
 pub fn calls_keep_the_status()
     ensures opened { OpenedStreamsKeepTheStatus }
     ensures written { WritesKeepTheStatus }
@@ -287,7 +295,7 @@ pub fn calls_are_made_of_acts()
     ensures other_poll { OtherPollsDoNothingInFront }
     ensures ending { PollsEndLast }
     ensures front { PollsLeadOnInFront }
-    ensures silent { PollsOutsideEstablishedGiveWhatWaits }
+    ensures silent { PollsOutsideAnExchangeGiveWhatWaits }
     ensures packets { PollsSayTheirActs }
     ensures no_reset { NoResetGoesOut }
     ensures waiting { WhatWaitsGoesOutAsItIs }
@@ -313,10 +321,10 @@ pub fn generations_end_once()
 {}
 
 /// Timing: over every list of calls each timer of DATA, of the handshake and of acknowledgements runs where it should,
-/// unless its retries passed their limit, and there alone (RFC 4960 sections 5.1, 6.2 and 6.3.2), and that of the answer to
-/// SHUTDOWN or SHUTDOWN ACK runs where one is awaited alone (section 9.2). A poll leaves the
-/// timer of a request to reset streams running that is not answered, and so does a timeout (RFC 6525 section 5.1.1). A
-/// side that failed or was lost waits for no moment.
+/// unless its retries passed their limit, and there alone (RFC 4960 sections 5.1, 6.2 and 6.3.2), and that of the answer
+/// to SHUTDOWN or SHUTDOWN ACK runs where one is awaited alone (section 9.2). A poll leaves the timer of a request to
+/// reset streams running that is not answered, and so does a timeout (RFC 6525 section 5.1.1). A side that failed or was
+/// lost waits for no moment.
 pub fn timers_run_where_they_should()
     ensures data { OutstandingDataIsTimed }
     ensures no_data { NothingInFlightIsNotTimed }
@@ -336,8 +344,9 @@ pub fn timers_run_where_they_should()
 {}
 
 /// Ending: over every list of calls a shutdown waits until all DATA of this side is acknowledged, and no longer (RFC
-/// 4960 section 9.2). Each call leaves a shutdown in that order, and a poll gives SHUTDOWN COMPLETE where it was due
-/// before.
+/// 4960 section 9.2). Each call leaves a shutdown in that order: where an answer is awaited a chunk of the shutdown is
+/// due or the timer of the answer runs, so that it does not stop for good. A poll gives SHUTDOWN COMPLETE where it was
+/// due before.
 pub fn shutdowns_wait_for_data()
     ensures follow { ShutdownsFollowAllData }
     ensures go_on { ShutdownsGoOnBehindData }

@@ -1,7 +1,7 @@
 use Rattle.sctp_sides.proofs.Proved.{data_opens_or_takes, greetings_make_the_peer_known, other_chunks_do_nothing}
 use Rattle.sctp_sides.proofs.Proved.{other_polls_do_nothing_in_front, other_sacks_do_nothing, polls_end_last}
 use Rattle.sctp_sides.proofs.Proved.{polls_lead_on_in_front}
-use Rattle.sctp_sides.proofs.Proved.{polls_give_and_report, polls_outside_established_give_what_waits}
+use Rattle.sctp_sides.proofs.Proved.{polls_give_and_report, polls_outside_an_exchange_give_what_waits}
 use Rattle.sctp_sides.proofs.Proved.{polls_say_their_acts, sacks_acknowledge, taken_sacks_acknowledge}
 use Rattle.sctp_sides.proofs.Proved.{timeouts_mark_at_most, what_waits_goes_out_as_it_is}
 use Rattle.sctp_sides.proofs.Proved.{forwards_pass_over, i_forwards_pass_over, only_forwards_ahead_pass_over}
@@ -40,7 +40,7 @@ pub returns-clause-front : goal.returns-clause-front
 returns-clause-front c = polls_lead_on_in_front
 
 pub returns-clause-silent : goal.returns-clause-silent
-returns-clause-silent c = polls_outside_established_give_what_waits
+returns-clause-silent c = polls_outside_an_exchange_give_what_waits
 
 pub returns-clause-packets : goal.returns-clause-packets
 returns-clause-packets c = polls_say_their_acts
