@@ -2,7 +2,7 @@
 use Rattle.std.proofs.Common.{refl, ℕ, List, [], ◌∷◌, ◌++◌}
 use Rattle.std.specs.Prelude.{IfOk, Result, Ok, Err}
 use Rattle.sctp_model.specs.Machine.{fresh}
-use Rattle.sctp_pair.specs.declared.step.Reply.{Reply}
+use Rattle.sctp_assoc.specs.declared.call.Reply.{Reply}
 use Rattle.sctp_pair.specs.declared.step.Step.{Step}
 use Rattle.sctp_pair.specs.Ends.{Ends}
 use Rattle.sctp_pair.specs.World.{IsSafeWorld, World, empty_world}

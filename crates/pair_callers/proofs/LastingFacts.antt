@@ -4,7 +4,7 @@ use Rattle.std.proofs.lemmas.Bool.{true≢false}
 use Rattle.sctp_model.specs.Messages.{is_reliable, message_at}
 use Rattle.sctp_model.specs.Machine.{Direction}
 use Rattle.sctp_assoc.specs.Shown.{Shown}
-use Rattle.sctp_pair.specs.declared.step.Reply.{Reply}
+use Rattle.sctp_assoc.specs.declared.call.Reply.{Reply}
 use Rattle.sctp_pair.specs.declared.step.Side2.{Side2}
 use Rattle.sctp_pair.specs.declared.step.Step.{Step}
 use Rattle.sctp_pair.specs.declared.step.Step.TheVariants as steps

@@ -11,8 +11,8 @@ use Rattle.sctp_model.specs.Machine.{Direction}
 use Rattle.sctp_model.specs.Reassembly.{Got}
 use Rattle.sctp_model.specs.Safe.{IsSafe, Letter, Names, Tells, letter_read}
 use Rattle.sctp_reassembly.specs.Stands.{IsReadAs, letter_received}
-use Rattle.sctp_pair.specs.declared.step.Reply.{Reply}
-use Rattle.sctp_pair.specs.declared.step.Reply.TheVariants as replies
+use Rattle.sctp_assoc.specs.declared.call.Reply.{Reply}
+use Rattle.sctp_assoc.specs.declared.call.Reply.TheVariants as replies
 use Rattle.sctp_pair.specs.declared.step.Side2.{Side2}
 use Rattle.sctp_pair.specs.declared.step.Step.{Step}
 use Rattle.sctp_pair.specs.declared.step.Step.TheVariants as steps

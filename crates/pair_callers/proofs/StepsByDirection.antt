@@ -1,6 +1,6 @@
 -- A step of a pair, as what it does to the direction from a side or to it.
 use Rattle.std.proofs.Common.{◌≡◌, refl, sym, true}
-use Rattle.sctp_pair.specs.declared.step.Reply.{Reply}
+use Rattle.sctp_assoc.specs.declared.call.Reply.{Reply}
 use Rattle.sctp_pair.specs.declared.step.Side2.{Side2}
 use Rattle.sctp_pair.specs.declared.step.Side2.TheVariants as sides
 use Rattle.sctp_pair.specs.declared.step.Step.{Step}

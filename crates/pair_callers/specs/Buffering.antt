@@ -7,8 +7,8 @@ use Rattle.sctp_model.specs.Safe.{IsKeptOrdered, IsKeptReliable, IsToBeHad, IsWh
 use Rattle.sctp_assoc.specs.Calls.{ready_messages}
 use Rattle.sctp_assoc.specs.Shown.{Shown}
 use Rattle.sctp_reassembly.specs.Stands.{letter_received}
-use Rattle.sctp_pair.specs.declared.step.Reply.{Reply}
-use Rattle.sctp_pair.specs.declared.step.Reply.TheVariants as replies
+use Rattle.sctp_assoc.specs.declared.call.Reply.{Reply}
+use Rattle.sctp_assoc.specs.declared.call.Reply.TheVariants as replies
 use Rattle.pair_callers.specs.Reading.{letter_at, letters_read}
 
 -- the amount that a reply tells, if it is that of a question for buffered bytes

@@ -6,8 +6,8 @@ use Rattle.sctp_model.specs.Messages.{Plan, message_at}
 use Rattle.sctp_model.specs.Machine.{Direction}
 use Rattle.sctp_model.specs.Safe.{AreDistinct, AreRising, IsWhole, Letter, is_ordered, letter_read, letter_written}
 use Rattle.sctp_reassembly.specs.Stands.{letter_received}
-use Rattle.sctp_pair.specs.declared.step.Reply.{Reply}
-use Rattle.sctp_pair.specs.declared.step.Reply.TheVariants as replies
+use Rattle.sctp_assoc.specs.declared.call.Reply.{Reply}
+use Rattle.sctp_assoc.specs.declared.call.Reply.TheVariants as replies
 
 -- the message that a reply tells, if it is that of a read
 abbrev pub message_in : Reply → Option ReceivedMessage

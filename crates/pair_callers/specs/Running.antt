@@ -1,8 +1,8 @@
 -- What a run of a pair leads to.
 use Rattle.std.specs.Prelude.{◌≡◌, ℕ, Bool, false, List, [], ◌∷◌, ⊤}
 use Rattle.sctp_model.specs.Machine.{Direction}
-use Rattle.sctp_pair.specs.declared.step.Reply.{Reply}
-use Rattle.sctp_pair.specs.declared.step.Reply.TheVariants as replies
+use Rattle.sctp_assoc.specs.declared.call.Reply.{Reply}
+use Rattle.sctp_assoc.specs.declared.call.Reply.TheVariants as replies
 use Rattle.sctp_pair.specs.declared.step.Side2.{Side2}
 use Rattle.sctp_pair.specs.declared.step.Step.{Step}
 use Rattle.sctp_pair.specs.Ends.{Ends}

@@ -1,6 +1,6 @@
 -- What the replies of all steps of a pair tell, run by run.
 use Rattle.std.specs.Prelude.{◌≡◌, ℕ, List, ◌++◌, length}
-use Rattle.sctp_pair.specs.declared.step.Reply.{Reply}
+use Rattle.sctp_assoc.specs.declared.call.Reply.{Reply}
 use Rattle.sctp_pair.specs.declared.step.Step.{Step}
 use Rattle.sctp_pair.specs.Callers.{AcceptFew, CameBy, Made, NothingIsReadBeforeADelivery, ReadsAreFronts}
 use Rattle.sctp_pair.specs.Callers.{ReadsWereWritten, StaysFew, tally_of}

@@ -3,7 +3,7 @@ ghost use Rattle.std.specs.Prelude.{◌≡◌, ◌*◌, None, true, IfOk, OnErr,
 ghost use Rattle.sctp_assoc.specs.Calls.{stream_refusal, written};
 ghost use Rattle.sctp_assoc.specs.Chunks.{after_packet};
 ghost use Rattle.sctp_assoc.specs.Gather.{packets_of, polled};
-ghost use Rattle.sctp_pair.specs.Steps.{packet_in};
+ghost use Rattle.sctp_assoc.specs.Replies.{packet_in};
 ghost use Rattle.pair_callers.specs.Exchanging.{IsHeldOrDropped};
 
 use bytes::Bytes;

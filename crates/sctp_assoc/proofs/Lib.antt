@@ -1,3 +1,6 @@
+pub mod AbstractRuns
+pub mod AbstractSteps
+pub mod Replied
 pub mod ActsKeepOffsets
 mod BesideOne
 pub mod CallsLeadOn
@@ -42,3 +45,4 @@ pub mod WhatCame
 pub mod GivenApart
 mod FallsInPolls
 mod TakingSettles
+mod RefusalNumbers

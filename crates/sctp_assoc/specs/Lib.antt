@@ -1,3 +1,4 @@
+pub mod Abstract
 pub mod Leads
 pub mod Calls
 pub mod Chunks
@@ -6,6 +7,7 @@ pub mod Control
 pub mod Created
 pub mod Gather
 pub mod Handshake
+pub mod Replies
 pub mod ResetActs
 pub mod Happened
 pub mod Inbound

@@ -379,8 +379,8 @@ impl Association {
     }
 
     /// What the endpoint that holds this association is to be told, once; None where nothing is. A shutdown that this
-    /// side began is told by `EndpointEvent::drained`, as soon as it began: the endpoint then may stop handing it
-    /// calls of the application, but goes on with datagrams and timers. Never refused, and takes no memory.
+    /// side began is told by `EndpointEvent::drained`, as soon as it began: nothing is accepted from the application
+    /// from then on, but reads, datagrams and timers go on until `is_drained`. Never refused, and takes no memory.
     pub fn poll_endpoint_event(&mut self) -> Option<EndpointEvent>
         ensures told { endpoint_event_polled self.old ≡ (self.new, result) }
         ensures acts { LeadsOn [] self.old self.new }
@@ -399,7 +399,7 @@ impl Association {
 
     /// All packets that are due at `now`, in the order in which they are to go out; None where none is due. Each entry
     /// of the `Payload::RawEncode` is one datagram. Packets of the handshake and answers go first, in every state. In
-    /// Established, and in a shutdown until SHUTDOWN ACK goes out, there follow DATA that the retransmission timer
+    /// Established, and in a shutdown until SHUTDOWN ACK is due, there follow DATA that the retransmission timer
     /// marked, DATA that is to be retransmitted fast, new DATA within both windows (or one piece that probes them,
     /// where nothing is in flight), a SACK that is due, and a FORWARD TSN that is due. In a shutdown SHUTDOWN,
     /// SHUTDOWN ACK or SHUTDOWN COMPLETE goes last, one a call; the last of them closes the association (RFC 4960
@@ -456,8 +456,8 @@ impl Association {
     /// `poll_transmit` and `poll_timeout`.
     ///
     /// It answers Ok also where nothing changes: the datagram does not decode, is refused as a packet, comes after a
-    /// loss, or is a `Payload::RawEncode`. A chunk that is a fault ends the packet and closes an open association;
-    /// that is no error of this call, but `Event::AssociationLost`.
+    /// loss, or is a `Payload::RawEncode`. A chunk that is a fault ends the packet and closes an open association, and so
+    /// does the SHUTDOWN COMPLETE that is waited for; that is no error of this call, but `Event::AssociationLost`.
     ///
     /// Errors: `ErrAssociationFailed`, and `ErrNoMemory` only where a datagram is to be read, never after a loss.
     /// After the latter the association is failed.

@@ -21,6 +21,7 @@
 //! | [`Association::poll_transmit`], [`Association::poll_timeout`] | the driver: what to send, and when to wake |
 //! | [`Association::poll_endpoint_event`] | the driver: whether a shutdown began here |
 //! | `state`, `is_closed`, `rtt`, `cwnd` and the other questions | anybody, at any time; they change nothing |
+//! | [`Association::run`], [`Association::carry_out`] | who keeps calls as values, or reasons about all of them |
 //!
 //! # The loop
 //!
@@ -31,8 +32,9 @@
 //!    cannot be read: it is no SCTP packet, or there was no memory for it.
 //! 3. Call `poll` until it answers None. On [`StreamEvent::Readable`] read that stream until `read` answers None.
 //!    From [`Event::Connected`] on streams can be written.
-//! 4. Call `poll_transmit`, and send each of the datagrams that it answers. Where it gives messages up, a stream may
-//!    fall to its low mark: the next turn's `poll` tells, or one right behind it.
+//! 4. Call `poll_transmit` until it answers None, and send each of the datagrams that it answers. Where it gives messages
+//!    up, a stream may fall to its low mark, and with a SHUTDOWN COMPLETE the association closes: the next turn's `poll`
+//!    tells, or one right behind it.
 //! 5. Sleep until the moment that `poll_timeout` answers, or until a datagram comes.
 //!
 //! A new client begins with step 4, since its INIT waits there. After a write outside of the loop, go on with step 4.
@@ -59,8 +61,9 @@
 //!
 //! # Faults
 //!
-//! A datagram that does not decode changes nothing. A chunk that has no business in its state is a *fault*: an ABORT,
-//! a SACK of a TSN that was not sent, an INIT once the association is established, a chunk that is not processed yet.
+//! A datagram that does not decode changes nothing, nor does a chunk of a handshake or of a shutdown that comes out of
+//! its state, but for an INIT. A *fault* is a chunk that no peer should send: an ABORT, a SACK of a TSN that was not
+//! sent, an INIT once the association is established, a chunk that is not processed here.
 //! A fault ends the processing of its packet. If the association is open (in any state but Closed), the fault also
 //! closes it: all timers stop, no packet waits any more, each live stream ends with its last counters
 //! ([`Event::DataChannelStatsFinal`]), and [`Event::AssociationLost`] tells it. Only a failed handshake that nobody was
@@ -73,6 +76,8 @@
 #![tactic(auto)]
 
 mod association;
+mod call;
+pub mod calls;
 mod control;
 mod effects;
 mod gather;
@@ -80,6 +85,7 @@ mod handshake;
 mod inbound;
 mod readers;
 mod resets;
+mod run;
 mod shared;
 mod shutdown;
 mod skipping;
@@ -88,6 +94,7 @@ mod stream_calls;
 mod tokens;
 
 pub use association::Association;
+pub use call::{Call, Reply};
 pub use sctp_inbound::SUPPORTED_EXTENSIONS;
 pub use sctp_parts::estimate::RtoManager;
 pub use sctp_parts::shared::{AssociationId, EndpointEvent, IssuedAid};

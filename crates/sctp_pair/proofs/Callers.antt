@@ -18,8 +18,8 @@ use Rattle.sctp_model.proofs.Lists.{all_join}
 use Rattle.sctp_assoc.specs.Calls.{first_filled}
 use Rattle.sctp_assoc.specs.Shown.{Shown}
 use Rattle.sctp_sides.proofs.Proved.{accepted_writes_fit}
-use Rattle.sctp_pair.specs.declared.step.Reply.{Reply}
-use Rattle.sctp_pair.specs.declared.step.Reply.TheVariants as replies
+use Rattle.sctp_assoc.specs.declared.call.Reply.{Reply}
+use Rattle.sctp_assoc.specs.declared.call.Reply.TheVariants as replies
 use Rattle.sctp_pair.specs.declared.step.Side2.{Side2}
 use Rattle.sctp_pair.specs.declared.step.Side2.TheVariants as sides
 use Rattle.sctp_pair.specs.declared.step.Step.{Step}
@@ -39,7 +39,8 @@ use Rattle.std.specs.Prelude.{◌||◌, not, map}
 use Rattle.sctp_pair.specs.Callers.{read_in, read_undelivered, written_in}
 use Rattle.sctp_pair.specs.Counted.{FitsCounted, Tally, nothing_tallied}
 use Rattle.sctp_pair.specs.Ends.{Ends}
-use Rattle.sctp_pair.specs.Steps.{AtSide, Runs, Steps, Writes, reading_of, writing_of}
+use Rattle.sctp_assoc.specs.Replies.{Writes}
+use Rattle.sctp_pair.specs.Steps.{AtSide, Runs, Steps, reading_of, writing_of}
 use Rattle.sctp_pair.specs.World.{EndsSpan, HasData, IsDirectionStep, IsWorldStep, World, accepted_at, empty_world}
 use Rattle.sctp_pair.specs.World.{ends_span}
 use Rattle.sctp_pair.specs.World.{accepted_of, is_side, message_answered, message_read, messages_on, other_side}

@@ -19,12 +19,13 @@ use Rattle.sctp_assoc.specs.Shown.{Shown}
 use Rattle.sctp_sides.proofs.Proved.{established_sides_talk}
 use Rattle.sctp_reassembly.specs.Stands.{IsReadAs}
 use Rattle.sctp_directions.specs.Between.{IsSound}
-use Rattle.sctp_pair.specs.declared.step.Reply.{Reply}
+use Rattle.sctp_assoc.specs.declared.call.Reply.{Reply}
 use Rattle.sctp_pair.specs.declared.step.Side2.{Side2}
 use Rattle.sctp_pair.specs.declared.step.Side2.TheVariants as sides
 use Rattle.sctp_pair.specs.declared.step.Step.{Step}
 use Rattle.sctp_pair.specs.Ends.{Ends, end_of}
-use Rattle.sctp_pair.specs.Steps.{Steps, packet_in}
+use Rattle.sctp_assoc.specs.Replies.{packet_in}
+use Rattle.sctp_pair.specs.Steps.{Steps}
 use Rattle.sctp_fit.specs.Incoming.{tsn_before}
 use Rattle.sctp_pair.specs.World.{EndsSpan, HasData, HasForward, IsDirectionStep, IsOpen, World, accepted_at}
 use Rattle.sctp_pair.specs.World.{message_read}

@@ -1,7 +1,7 @@
 -- A run that was counted, and in which few stay unacknowledged and unread, led safely; and behind what led safely it
 -- goes on so.
 use Rattle.std.proofs.Common.{◌≡◌, refl, sym, ap, ◌∙◌, subst, ℕ, List, [], ◌∷◌, ◌++◌}
-use Rattle.sctp_pair.specs.declared.step.Reply.{Reply}
+use Rattle.sctp_assoc.specs.declared.call.Reply.{Reply}
 use Rattle.sctp_pair.specs.declared.step.Step.{Step}
 use Rattle.sctp_pair.specs.Callers.{LedSafely, Made, StaysFew, tallied_by, tally_from, world_of}
 use Rattle.sctp_pair.specs.Counted.{AreFew, FitsCounted, RunsCounted, Tally, tallied, tallied_in}

@@ -7,8 +7,8 @@ use Rattle.sctp_assoc.specs.Shown.{Shown}
 use Rattle.sctp_sides.proofs.Proved.{accepted_writes_fit}
 use Rattle.sctp_fit.specs.FewPieces.{pieces_in}
 use Rattle.sctp_fit.proofs.PlacesCounted.{piece_counted}
-use Rattle.sctp_pair.specs.declared.step.Reply.{Reply}
-use Rattle.sctp_pair.specs.declared.step.Reply.TheVariants as replies
+use Rattle.sctp_assoc.specs.declared.call.Reply.{Reply}
+use Rattle.sctp_assoc.specs.declared.call.Reply.TheVariants as replies
 use Rattle.sctp_pair.specs.declared.step.Side2.{Side2}
 use Rattle.sctp_pair.specs.declared.step.Side2.TheVariants as sides
 use Rattle.sctp_pair.specs.declared.step.Step.{Step}
@@ -17,7 +17,8 @@ use Rattle.sctp_pair.specs.Callers.{AcceptFew, FewStayFew, Made, StaysFew, accep
 use Rattle.sctp_pair.specs.Callers.{tally_of}
 use Rattle.sctp_pair.specs.Counted.{Tally, nothing_tallied, one_accepted, one_written, pieces_accepted, pieces_of}
 use Rattle.sctp_pair.specs.Ends.{Ends}
-use Rattle.sctp_pair.specs.Steps.{AtSide, Runs, Steps, Writes}
+use Rattle.sctp_assoc.specs.Replies.{Writes}
+use Rattle.sctp_pair.specs.Steps.{AtSide, Runs, Steps}
 use Rattle.sctp_pair.specs.World.{is_side}
 use Rattle.sctp_pair.proofs.AcceptedAndRead.{writes}
 use Rattle.sctp_pair.proofs.WriteCall.{first_none}

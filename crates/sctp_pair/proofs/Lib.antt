@@ -24,7 +24,6 @@ pub mod PacketChunks
 pub mod PollCall
 pub mod Promised
 pub mod ReadCall
-mod RefusalNumbers
 pub mod RunsJoined
 pub mod RunsOfWorlds
 pub mod SaidStaysSaid

@@ -18,9 +18,9 @@ use Rattle.sctp_sides.proofs.Proved.{past_packets_carry, the_same_handshake_is_t
 use Rattle.sctp_sides.proofs.Proved.{the_same_status_is_the_same_stage}
 use Rattle.sctp_directions.proofs.Proved.{closed_receivers_are_not_open, receivers_events_are_received}
 use Rattle.sctp_pair.specs.Fits.{StagesAgree, StandsFailed}
-use Rattle.sctp_pair.specs.declared.step.Reply.{Reply}
-use Rattle.sctp_pair.specs.declared.step.Reply.TheVariants as replies
-use Rattle.sctp_pair.specs.Steps.{Fails, HadFailed, LacksMemory, TakesPacket}
+use Rattle.sctp_assoc.specs.declared.call.Reply.{Reply}
+use Rattle.sctp_assoc.specs.declared.call.Reply.TheVariants as replies
+use Rattle.sctp_assoc.specs.Replies.{Fails, HadFailed, LacksMemory, TakesPacket}
 use Rattle.sctp_pair.proofs.BetweenDirections.{By, ClosedAt, Faces, None_brought, OpenAt, Settles}
 use Rattle.sctp_pair.proofs.BetweenDirections.{SettlesQuietly, Surroundings, does_by_goes, goes_by_receiver}
 use Rattle.sctp_pair.proofs.BetweenDirections.{goes_nowhere, goes_on, moved, nothing_added, nothing_read}

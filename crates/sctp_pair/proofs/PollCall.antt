@@ -47,10 +47,10 @@ use Rattle.sctp_outbound.specs.Forward.{forward_of}
 use Rattle.sctp_outbound_queue.specs.declared.message.InFlight.{InFlight}
 use Rattle.sctp_directions.specs.Said.{IsForwardMade, Says}
 use Rattle.sctp_directions.proofs.Proved.{closed_receivers_are_not_open, receivers_events_are_received}
-use Rattle.sctp_pair.specs.declared.step.Reply.{Reply}
-use Rattle.sctp_pair.specs.declared.step.Reply.TheVariants as replies
+use Rattle.sctp_assoc.specs.declared.call.Reply.{Reply}
+use Rattle.sctp_assoc.specs.declared.call.Reply.TheVariants as replies
 use Rattle.sctp_pair.specs.Fits.{AreSaid, IsSaidBy}
-use Rattle.sctp_pair.specs.Steps.{Fails, GivesOut, HadFailed, LosesSome, packet_in}
+use Rattle.sctp_assoc.specs.Replies.{Fails, GivesOut, HadFailed, LosesSome, packet_in}
 use Rattle.sctp_pair.proofs.SaidStaysSaid.{StageGoesOn, forward_stays_said, said_grows}
 use Rattle.sctp_pair.proofs.BetweenDirections.{ClosedAt, Faces, Goes, Holds, None_brought, OpenAt, SettlesQuietly}
 use Rattle.sctp_pair.proofs.BetweenDirections.{StandsAt, Surroundings, can_back, can_front, does_by_goes, goes_on, moved}

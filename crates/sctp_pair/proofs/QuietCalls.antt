@@ -29,10 +29,10 @@ use Rattle.sctp_sides.specs.SideLaws.{HoldsNothing, IsNotLive, IsSameStatus, Kee
 use Rattle.sctp_sides.proofs.Proved.{open_leads_on, opened_streams_hold_nothing, opened_streams_keep_the_status}
 use Rattle.sctp_sides.proofs.Proved.{opened_streams_begin_no_reset, opened_streams_reset_no_more}
 use Rattle.sctp_sides.proofs.Proved.{opened_streams_were_not_live, the_same_status_is_the_same_stage}
-use Rattle.sctp_pair.specs.declared.step.Reply.{Reply}
-use Rattle.sctp_pair.specs.declared.step.Reply.TheVariants as replies
+use Rattle.sctp_assoc.specs.declared.call.Reply.{Reply}
+use Rattle.sctp_assoc.specs.declared.call.Reply.TheVariants as replies
 use Rattle.sctp_pair.specs.Fits.{IsAt, StandsClosed, StandsFailed}
-use Rattle.sctp_pair.specs.Steps.{Buffers, Fails, Finds, HadFailed, Measures, Opens}
+use Rattle.sctp_assoc.specs.Replies.{Fails, HadFailed, Opens}
 use Rattle.sctp_pair.proofs.BetweenDirections.{ClosedAt, Faces, KeepsOrder, None_brought, OpenAt, SettlesQuietly}
 use Rattle.sctp_pair.proofs.BetweenDirections.{StandsAt, orderly_acts_keep_order}
 use Rattle.sctp_pair.proofs.BetweenDirections.{Surroundings, does_by_goes, goes_by_receiver, goes_nowhere, moved}
@@ -67,25 +67,6 @@ nothing_settles f = still f f.at f.stands
 -- a call that leaves the association as it is
 pub same_settles : {x : Surroundings} {a b : Shown} → b ≡ a → Faces x a → SettlesQuietly x b
 same_settles {x} e f = subst (SettlesQuietly x) (sym e) (nothing_settles f)
-
--- Questions change nothing
-
--- whether a stream is live
-pub finds_same : (a : Shown) (id : ℕ) (r : Reply) (b : Shown) → Finds a id r b → b ≡ a
-finds_same a id replies.Done b h = h.1
-finds_same a id (replies.Refused n) b h = h.1
-finds_same a id r b h = absurd h
-
--- how much of it is buffered
-pub buffers_same : (a : Shown) (id : ℕ) (r : Reply) (b : Shown) → Buffers a id r b → b ≡ a
-buffers_same a id (replies.BufferedAmount n) b h = h.1
-buffers_same a id (replies.Refused n) b h = h.1
-buffers_same a id r b h = absurd h
-
--- how long a round trip may last
-pub measures_same : (a : Shown) (r : Reply) (b : Shown) → Measures a r b → b ≡ a
-measures_same a (replies.Rtt duration) b h = h.1
-measures_same a r b h = absurd h
 
 -- One event of the receiver
 

@@ -34,10 +34,10 @@ use Rattle.sctp_sides.proofs.Proved.{found_streams_are_live, more_are_past, read
 use Rattle.sctp_sides.proofs.Proved.{reads_lead_on}
 use Rattle.sctp_sides.proofs.Proved.{the_same_handshake_is_the_same_stage, the_same_status_is_the_same_stage}
 use Rattle.sctp_sides.proofs.Proved.{what_holds_nothing_gives_nothing}
-use Rattle.sctp_pair.specs.declared.step.Reply.{Reply}
-use Rattle.sctp_pair.specs.declared.step.Reply.TheVariants as replies
+use Rattle.sctp_assoc.specs.declared.call.Reply.{Reply}
+use Rattle.sctp_assoc.specs.declared.call.Reply.TheVariants as replies
 use Rattle.sctp_pair.specs.Fits.{IsAt, StandsClosed}
-use Rattle.sctp_pair.specs.Steps.{Reads}
+use Rattle.sctp_assoc.specs.Replies.{Reads}
 use Rattle.sctp_pair.proofs.BetweenDirections.{orderly_acts_keep_order, passes_on}
 use Rattle.sctp_pair.proofs.BetweenDirections.{ClosedAt, Does, DoesEnding, Faces, Goes, None_brought, OpenAt, OtherStands}
 use Rattle.sctp_pair.proofs.BetweenDirections.{Settles, SettlesQuietly, StandsAt, goes_by_receiver, run_append}

@@ -3,7 +3,7 @@ use Rattle.std.proofs.Common.{◌≡◌, refl, subst, ℕ, ◌<◌, ◌+◌, Lis
 use Rattle.std.proofs.lemmas.List.{take_more}
 use Rattle.sctp_pair.specs.Ends.{Ends}
 use Rattle.sctp_pair.specs.Steps.{Runs, Steps}
-use Rattle.sctp_pair.specs.declared.step.Reply.{Reply}
+use Rattle.sctp_assoc.specs.declared.call.Reply.{Reply}
 use Rattle.sctp_pair.specs.declared.step.Step.{Step}
 
 pub run_more : (ss : List Step) (rs : List Reply) (p u q : Ends) (s : Step) (r : Reply)

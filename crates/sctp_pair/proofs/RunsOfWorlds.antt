@@ -1,6 +1,6 @@
 -- Runs of a pair are runs of worlds.
 use Rattle.std.proofs.Common.{sym, subst, List, [], ◌∷◌}
-use Rattle.sctp_pair.specs.declared.step.Reply.{Reply}
+use Rattle.sctp_assoc.specs.declared.call.Reply.{Reply}
 use Rattle.sctp_pair.specs.declared.step.Step.{Step}
 use Rattle.sctp_pair.specs.Ends.{Ends}
 use Rattle.sctp_pair.specs.Steps.{Runs}

@@ -15,7 +15,7 @@ use Rattle.sctp_sides.proofs.Proved.{greetings_stay_true, more_is_asked_past}
 use Rattle.sctp_fit.specs.Forwards.{IsForwardSaid}
 use Rattle.sctp_fit.specs.Incoming.{IsSaid}
 use Rattle.sctp_directions.specs.Said.{Says}
-use Rattle.sctp_pair.specs.Steps.{packet_in}
+use Rattle.sctp_assoc.specs.Replies.{packet_in}
 use Rattle.sctp_pair.specs.Fits.{AreSaid, IsSaidBy}
 use Rattle.sctp_pair.proofs.BetweenDirections.{SpansGoOn}
 

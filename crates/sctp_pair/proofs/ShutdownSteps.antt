@@ -15,20 +15,21 @@ use Rattle.sctp_sides.specs.OneSide.{Call, carried_out, with_told}
 use Rattle.sctp_sides.proofs.Proved.{accepted_streams_keep_the_status, endpoint_events_keep_the_status}
 use Rattle.sctp_sides.proofs.Proved.{found_streams_are_live, limits_keep_the_status, opened_streams_were_not_live}
 use Rattle.sctp_sides.proofs.Proved.{shutdowns_keep_the_stage, shutdowns_stay_in_order}
-use Rattle.sctp_pair.specs.declared.step.Reply.{Reply}
-use Rattle.sctp_pair.specs.declared.step.Reply.TheVariants as replies
+use Rattle.sctp_assoc.specs.declared.call.Reply.{Reply}
+use Rattle.sctp_assoc.specs.declared.call.Reply.TheVariants as replies
+use Rattle.sctp_assoc.proofs.Replied.{buffers_same, finds_same, lists_same, measures_same, shows_same}
 use Rattle.sctp_pair.specs.declared.step.Side2.{Side2}
 use Rattle.sctp_pair.specs.declared.step.Side2.TheVariants as sides
 use Rattle.sctp_pair.specs.declared.step.Step.{Step}
 use Rattle.sctp_pair.specs.declared.step.Step.TheVariants as steps
 use Rattle.sctp_pair.specs.Ends.{Ends, end_of}
 use Rattle.sctp_pair.specs.Fits.{EndsInOrder}
-use Rattle.sctp_pair.specs.Steps.{AcceptsStream, AtSide, Buffers, ClosesOne, ComesTo, Delivers, Expires, Finds}
-use Rattle.sctp_pair.specs.Steps.{GivesOut, Limits, Lists, Measures, Opens, PollsEndpointEvent, PollsEvent, Reads}
-use Rattle.sctp_pair.specs.Steps.{SendsAt, Sets, ShowsOrRefuses, ShutsDown, Steps, Stops, TakesIn, Writes, WritesFirst, packet_in}
-use Rattle.sctp_pair.proofs.QuietCalls.{buffers_same, finds_same, measures_same}
+use Rattle.sctp_assoc.specs.Replies.{AcceptsStream, Buffers, ClosesOne, Expires, Finds}
+use Rattle.sctp_pair.specs.Steps.{AtSide, ComesTo, Delivers}
+use Rattle.sctp_assoc.specs.Replies.{GivesOut, Limits, Lists, Measures, Opens, PollsEndpointEvent, PollsEvent, Reads}
+use Rattle.sctp_assoc.specs.Replies.{Sets, ShowsOrRefuses, ShutsDown, Stops, TakesIn, Writes, WritesFirst, packet_in}
+use Rattle.sctp_pair.specs.Steps.{SendsAt, Steps}
 use Rattle.sctp_pair.proofs.ReadCall.{found_none}
-use Rattle.sctp_pair.proofs.StreamCalls.{lists_same, shows_same}
 use Rattle.sctp_pair.proofs.WriteCall.{first_none}
 
 -- One call

@@ -8,7 +8,7 @@ use Rattle.sctp_serial.specs.Serial.{tsn, tsn_past}
 use Rattle.sctp_model.specs.Messages.{Place}
 use Rattle.sctp_model.specs.Machine.{Direction}
 use Rattle.sctp_assoc.specs.Shown.{Shown}
-use Rattle.sctp_pair.specs.declared.step.Reply.{Reply}
+use Rattle.sctp_assoc.specs.declared.call.Reply.{Reply}
 use Rattle.sctp_pair.specs.declared.step.Side2.{Side2}
 use Rattle.sctp_pair.specs.declared.step.Step.{Step}
 use Rattle.sctp_pair.specs.Counted.{IsPresent, acknowledged_of}

@@ -12,18 +12,21 @@ use Rattle.sctp_model.proofs.Lists.{all_get}
 use Rattle.sctp_sides.specs.SideLaws.{OfEachChunk}
 use Rattle.sctp_assoc.specs.Calls.{first_filled, is_writable}
 use Rattle.sctp_assoc.specs.Shown.{Shown}
-use Rattle.sctp_pair.specs.declared.step.Reply.{Reply}
-use Rattle.sctp_pair.specs.declared.step.Reply.TheVariants as replies
+use Rattle.sctp_assoc.specs.declared.call.Reply.{Reply}
+use Rattle.sctp_assoc.specs.declared.call.Reply.TheVariants as replies
+use Rattle.sctp_assoc.proofs.Replied.{buffers_same, finds_same, lists_same, measures_same, shows_same}
 use Rattle.sctp_pair.specs.declared.step.Side2.{Side2}
 use Rattle.sctp_pair.specs.declared.step.Side2.TheVariants as sides
 use Rattle.sctp_pair.specs.declared.step.Step.{Step}
 use Rattle.sctp_pair.specs.declared.step.Step.TheVariants as steps
 use Rattle.sctp_pair.specs.Ends.{Ends, end_of, packets_of}
-use Rattle.sctp_pair.specs.Steps.{AtSide, Buffers, ComesTo, Delivers, Expires, Finds, Measures, Opens, Reads, SendsAt}
-use Rattle.sctp_pair.specs.Steps.{AcceptsStream, ClosesOne, Limits, Lists, Sets, ShowsOrRefuses, Steps, PollsEvent}
-use Rattle.sctp_pair.specs.Steps.{PollsEndpointEvent, ShutsDown, Stops, Writes}
-use Rattle.sctp_pair.specs.Steps.{WritesFirst}
-use Rattle.sctp_pair.specs.Steps.{packet_in}
+use Rattle.sctp_assoc.specs.Replies.{Buffers, Expires, Finds, Measures, Opens, Reads}
+use Rattle.sctp_pair.specs.Steps.{AtSide, ComesTo, Delivers, SendsAt}
+use Rattle.sctp_assoc.specs.Replies.{AcceptsStream, ClosesOne, Limits, Lists, Sets, ShowsOrRefuses, PollsEvent}
+use Rattle.sctp_pair.specs.Steps.{Steps}
+use Rattle.sctp_assoc.specs.Replies.{PollsEndpointEvent, ShutsDown, Stops, Writes}
+use Rattle.sctp_assoc.specs.Replies.{WritesFirst}
+use Rattle.sctp_assoc.specs.Replies.{packet_in}
 use Rattle.sctp_streams.specs.declared.setting.Setting.TheVariants as settings
 use Rattle.sctp_streams.specs.Stream.{is_read_half_open, ordered_and_reliable, params_of}
 use Rattle.sctp_pair.specs.World.{EndsSpan, is_loose, is_side, loose_after, loose_of}
@@ -39,9 +42,8 @@ use Rattle.sctp_pair.proofs.PacketChunks.{Brings_of}
 use Rattle.sctp_pair.proofs.PacketChunks.{OtherSays}
 use Rattle.sctp_pair.proofs.PollCall.{poll_settles}
 use Rattle.sctp_pair.proofs.ReadCall.{read_by, reads_settle}
-use Rattle.sctp_pair.proofs.QuietCalls.{buffers_same, finds_same, measures_same, opens_settle, same_settles}
-use Rattle.sctp_pair.proofs.StreamCalls.{accepts_settle, closes_settle, limits_settle, lists_same, sets_settle}
-use Rattle.sctp_pair.proofs.StreamCalls.{shows_same}
+use Rattle.sctp_pair.proofs.QuietCalls.{opens_settle, same_settles}
+use Rattle.sctp_pair.proofs.StreamCalls.{accepts_settle, closes_settle, limits_settle, sets_settle}
 use Rattle.sctp_pair.proofs.StopCall.{Ended_by, stops_settle}
 use Rattle.sctp_pair.proofs.StreamCalls.{IsCovered, reliability_settles}
 use Rattle.sctp_pair.proofs.TimedCalls.{drains_settle, expires_settle, shuts_down_settle, tells_settle}

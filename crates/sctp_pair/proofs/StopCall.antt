@@ -24,10 +24,10 @@ use Rattle.sctp_sides.specs.SideLaws.{IsOver}
 use Rattle.sctp_sides.proofs.Proved.{exhaustion_closes, exhaustion_ends_resets, exhaustion_resets_no_more, more_are_past}
 use Rattle.sctp_sides.proofs.Proved.{open_stops_reset_that_stream, stops_are_in_established, stops_keep_the_status}
 use Rattle.sctp_sides.proofs.Proved.{the_same_status_is_the_same_stage}
-use Rattle.sctp_pair.specs.declared.step.Reply.{Reply}
-use Rattle.sctp_pair.specs.declared.step.Reply.TheVariants as replies
+use Rattle.sctp_assoc.specs.declared.call.Reply.{Reply}
+use Rattle.sctp_assoc.specs.declared.call.Reply.TheVariants as replies
 use Rattle.sctp_pair.specs.Fits.{IsAt, StandsClosed, StandsFailed, StandsOpen}
-use Rattle.sctp_pair.specs.Steps.{Stops}
+use Rattle.sctp_assoc.specs.Replies.{Stops}
 use Rattle.sctp_pair.proofs.BetweenDirections.{By, ClosedAt, DoesEnding, Faces, Goes, None_brought, None_ended, OpenAt}
 use Rattle.sctp_pair.proofs.BetweenDirections.{OtherStands, SettlesEnding, SettlesQuietly, SpansGoOn, StandsAt}
 use Rattle.sctp_pair.proofs.BetweenDirections.{Surroundings, goes_by_receiver, moved, nothing_added, nothing_read}

@@ -31,26 +31,13 @@ use Rattle.sctp_sides.proofs.Proved.{limit_leads_on, limits_keep_the_status, set
 use Rattle.sctp_sides.proofs.Proved.{found_streams_are_live, setting_leads_on, settings_hold_nothing}
 use Rattle.sctp_sides.proofs.Proved.{settings_keep_the_status, the_same_handshake_is_the_same_stage}
 use Rattle.sctp_sides.proofs.Proved.{the_same_status_is_the_same_stage}
-use Rattle.sctp_pair.specs.declared.step.Reply.{Reply}
-use Rattle.sctp_pair.specs.declared.step.Reply.TheVariants as replies
-use Rattle.sctp_pair.specs.Steps.{AcceptsStream, ClosesOne, Limits, Lists, Sets, ShowsOrRefuses}
+use Rattle.sctp_assoc.specs.declared.call.Reply.{Reply}
+use Rattle.sctp_assoc.specs.declared.call.Reply.TheVariants as replies
+use Rattle.sctp_assoc.specs.Replies.{AcceptsStream, ClosesOne, Limits, Sets}
 use Rattle.sctp_pair.proofs.BetweenDirections.{KeepsOrder, orderly_acts_keep_order}
 use Rattle.sctp_pair.proofs.BetweenDirections.{Faces, SettlesQuietly, Surroundings}
 use Rattle.sctp_pair.proofs.QuietCalls.{by_working, idle_settles, refused_call_settles, same_settles}
 use Rattle.sctp_pair.proofs.QuietCalls.{settles_by_receiver, unseen_settles}
-
--- Questions change nothing
-
-pub lists_same : (a : Shown) (r : Reply) (b : Shown) → Lists a r b → b ≡ a
-lists_same a (replies.StreamIds ids) b h = h.2
-lists_same a (replies.Refused n) b (inl had) = had.2
-lists_same a (replies.Refused n) b (inr lacks) = lacks.2
-lists_same a r b h = absurd h
-
-pub shows_same : (a : Shown) (id : ℕ) (answer : StreamView → Reply) (r : Reply) (b : Shown)
-    → ShowsOrRefuses a id answer r b → b ≡ a
-shows_same a id answer r b (inl shown) = shown.same
-shows_same a id answer r b (inr refused) = refused.3
 
 -- Something is set on a stream
 

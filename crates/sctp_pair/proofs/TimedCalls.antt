@@ -28,9 +28,9 @@ use Rattle.sctp_sides.proofs.Proved.{poll_leads_on, timeouts_lead_on, timeouts_m
 use Rattle.sctp_sides.proofs.Proved.{timers_begin_no_reset, timers_reset_no_more, told_events_begin_no_reset}
 use Rattle.sctp_sides.proofs.Proved.{the_same_status_is_the_same_stage, told_events_keep_the_status}
 use Rattle.sctp_sides.proofs.Proved.{told_events_reset_no_more}
-use Rattle.sctp_pair.specs.declared.step.Reply.{Reply}
-use Rattle.sctp_pair.specs.declared.step.Reply.TheVariants as replies
-use Rattle.sctp_pair.specs.Steps.{Expires, PollsEndpointEvent, PollsEvent, ShutsDown}
+use Rattle.sctp_assoc.specs.declared.call.Reply.{Reply}
+use Rattle.sctp_assoc.specs.declared.call.Reply.TheVariants as replies
+use Rattle.sctp_assoc.specs.Replies.{Expires, PollsEndpointEvent, PollsEvent, ShutsDown}
 use Rattle.sctp_pair.proofs.BetweenDirections.{orderly_acts_keep_order}
 use Rattle.sctp_pair.proofs.BetweenDirections.{Faces, KeepsOrder, SettlesQuietly, Surroundings}
 use Rattle.sctp_pair.proofs.QuietCalls.{empty_still, fails_settle, idle_settles, refused_call_settles, same_settles}

@@ -24,9 +24,9 @@ use Rattle.sctp_assoc.specs.Shown.{Shown}
 use Rattle.sctp_sides.specs.SideLaws.{WasWritable}
 use Rattle.sctp_sides.proofs.Proved.{accepted_writes_fit, write_leads_on, writes_keep_the_status}
 use Rattle.sctp_sides.proofs.Proved.{the_same_status_is_the_same_stage, writes_reset_no_more}
-use Rattle.sctp_pair.specs.declared.step.Reply.{Reply}
-use Rattle.sctp_pair.specs.declared.step.Reply.TheVariants as replies
-use Rattle.sctp_pair.specs.Steps.{Writes, WritesFirst}
+use Rattle.sctp_assoc.specs.declared.call.Reply.{Reply}
+use Rattle.sctp_assoc.specs.declared.call.Reply.TheVariants as replies
+use Rattle.sctp_assoc.specs.Replies.{Writes, WritesFirst}
 use Rattle.sctp_pair.specs.World.{IsOrderedAndReliable, messages_on}
 use Rattle.sctp_pair.proofs.BetweenDirections.{orderly_acts_keep_order}
 use Rattle.sctp_pair.proofs.BetweenDirections.{Does, Faces, None_brought, OpenAt, Settles, Surroundings}

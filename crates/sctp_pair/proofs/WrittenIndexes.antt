@@ -16,15 +16,16 @@ use Rattle.sctp_reassembly.specs.Stands.{IsReadAs, letter_received}
 use Rattle.sctp_assoc.specs.Calls.{first_filled}
 use Rattle.sctp_assoc.specs.Shown.{Shown}
 use Rattle.sctp_sides.proofs.Proved.{accepted_writes_fit}
-use Rattle.sctp_pair.specs.declared.step.Reply.{Reply}
-use Rattle.sctp_pair.specs.declared.step.Reply.TheVariants as replies
+use Rattle.sctp_assoc.specs.declared.call.Reply.{Reply}
+use Rattle.sctp_assoc.specs.declared.call.Reply.TheVariants as replies
 use Rattle.sctp_pair.specs.declared.step.Side2.{Side2}
 use Rattle.sctp_pair.specs.declared.step.Side2.TheVariants as sides
 use Rattle.sctp_pair.specs.declared.step.Step.{Step}
 use Rattle.sctp_pair.specs.declared.step.Step.TheVariants as steps
 use Rattle.sctp_pair.specs.Callers.{AreAt, IsNamed, IsAsWritten, WrittenMessage, message_accepted, messages_of}
 use Rattle.sctp_pair.specs.Ends.{Ends}
-use Rattle.sctp_pair.specs.Steps.{AtSide, Steps, Writes, writing_of}
+use Rattle.sctp_assoc.specs.Replies.{Writes}
+use Rattle.sctp_pair.specs.Steps.{AtSide, Steps, writing_of}
 use Rattle.sctp_pair.specs.World.{World, accepted_at, accepted_of, messages_on}
 use Rattle.sctp_pair.proofs.AcceptedAndRead.{writes}
 use Rattle.sctp_pair.proofs.WriteCall.{first_none}

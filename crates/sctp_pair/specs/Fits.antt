@@ -15,10 +15,10 @@ use Rattle.sctp_sides.specs.SideLaws.{HoldsNothing, OfEachChunk}
 use Rattle.sctp_assoc.specs.Shown.{Shown}
 use Rattle.sctp_directions.specs.Said.{Says}
 use Rattle.sctp_directions.specs.Between.{FitsBetween, IsSound}
-use Rattle.sctp_pair.specs.declared.step.Reply.{Reply}
+use Rattle.sctp_assoc.specs.declared.call.Reply.{Reply}
 use Rattle.sctp_pair.specs.declared.step.Step.{Step}
 use Rattle.sctp_pair.specs.Ends.{Ends}
-use Rattle.sctp_pair.specs.Steps.{packet_in}
+use Rattle.sctp_assoc.specs.Replies.{packet_in}
 use Rattle.sctp_pair.specs.World.{IsSafeWorld, IsWithinLimits, IsWorldStep, World}
 
 -- An association that was neither lost nor failed (a server that listens, in state Closed, is one, too) stands between

@@ -28,14 +28,15 @@ use Rattle.sctp_wire_types.specs.declared.reliability.ReliabilityType.TheVariant
 use Rattle.sctp_fit.specs.Writes.{message_on}
 use Rattle.std.specs.List.{AllByRecursion}
 use Rattle.sctp_directions.specs.Acts.{type_on}
-use Rattle.sctp_pair.specs.declared.step.Reply.{Reply}
-use Rattle.sctp_pair.specs.declared.step.Reply.TheVariants as replies
+use Rattle.sctp_assoc.specs.declared.call.Reply.{Reply}
+use Rattle.sctp_assoc.specs.declared.call.Reply.TheVariants as replies
 use Rattle.sctp_pair.specs.declared.step.Side2.{Side2}
 use Rattle.sctp_pair.specs.declared.step.Side2.TheVariants as sides
 use Rattle.sctp_pair.specs.declared.step.Step.{Step}
 use Rattle.sctp_pair.specs.declared.step.Step.TheVariants as steps
 use Rattle.sctp_pair.specs.Ends.{Ends, end_of, packets_of}
-use Rattle.sctp_pair.specs.Steps.{Steps, Writing, packet_in, reading_of, writing_of}
+use Rattle.sctp_assoc.specs.Replies.{packet_in}
+use Rattle.sctp_pair.specs.Steps.{Steps, Writing, reading_of, writing_of}
 
 -- Both associations with every packet that they gave out, their initial TSNs, and the two directions: what was accepted
 -- on each stream and on which offsets it stands, what was given out, what was taken in, and what was read. A stream is

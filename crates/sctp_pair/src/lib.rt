@@ -2,9 +2,9 @@
 //! packets, of which any is delivered, again and in any order.
 #![tactic(auto)]
 
-mod calls;
 mod pair;
 mod step;
 
 pub use pair::Pair;
-pub use step::{Reply, Side2, Step};
+pub use sctp_assoc::Reply;
+pub use step::{Side2, Step};

@@ -11,12 +11,12 @@ ghost use Rattle.sctp_pair.specs.Ends.{JoinRefuses, packets_of, end_of, with_end
 ghost use Rattle.sctp_pair.specs.World.{World, empty_world};
 ghost use Rattle.sctp_pair.specs.Counted.{FitsCounted, LeadsCounted, RunsCounted, Tally, nothing_tallied};
 ghost use Rattle.sctp_pair.specs.Fits.{Fits, LeadsSafely, RunsSafely};
-ghost use Rattle.sctp_pair.specs.Steps.{ComesTo, Runs, SendsAt, Steps};
+ghost use Rattle.sctp_pair.specs.Steps.{ComesTo, Delivers, Runs, SendsAt, Steps};
 
-use crate::{Reply, Side2, Step, calls};
+use crate::{Reply, Side2, Step};
 use bytes::Bytes;
 use sctp_assoc::{
-    Association, AssociationId, ChunkInit, Error, Instant, ServerConfig, TransportConfig,
+    Association, AssociationId, ChunkInit, Error, Instant, ServerConfig, TransportConfig, calls,
 };
 use std::alloc::Global;
 use std::marker::Model;
@@ -427,14 +427,14 @@ impl Pair {
         ensures { ComesTo side self.old number now result self.new }
     {
         match side {
-            Side2::A => calls::deliver(
+            Side2::A => deliver(
                 &mut self.a,
                 self.packets_b.as_slice(),
                 number,
                 self.remote_a,
                 now,
             ),
-            Side2::B => calls::deliver(
+            Side2::B => deliver(
                 &mut self.b,
                 self.packets_a.as_slice(),
                 number,
@@ -442,5 +442,22 @@ impl Pair {
                 now,
             ),
         }
+    }
+}
+
+// Hands a packet that the other side gave out to an association. A packet that finds no memory to be read is lost. A
+// failed association refuses each datagram, whatever it spells.
+fn deliver(
+    association: &mut Association,
+    packets: &[Bytes],
+    number: u64,
+    remote: SocketAddr,
+    now: Instant,
+) -> Reply
+    ensures { Delivers association.old (slice_get packets.now number) now result association.new }
+{
+    match packets.get(number as usize) {
+        Some(packet) => calls::handle_datagram(association, packet, remote, now),
+        None => Reply::NoSuchPacket,
     }
 }

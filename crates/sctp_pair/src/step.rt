@@ -1,10 +1,6 @@
-// What may happen to a pair, and what it replies.
+// What may happen to a pair.
 use bytes::Bytes;
-use sctp_assoc::{
-    Chunks, DataChannelStats, EndpointEvent, Event, Instant, PayloadProtocolIdentifier,
-    ReliabilityType, StreamId,
-};
-use std::time::Duration;
+use sctp_assoc::{Instant, PayloadProtocolIdentifier, ReliabilityType, StreamId};
 
 /// One of the two sides of a pair. `A` and `B` say nothing of client and server; that is `Side`, of an association.
 #[derive(Clone, Copy, Debug, PartialEq, Eq)]
@@ -225,50 +221,4 @@ pub enum Step {
     Rtt {
         side: Side2,
     },
-}
-
-/// What a step was answered. Each step may be answered `Refused`, but for `AcceptStream`, `SetMaxSendMessageSize`,
-/// `PollEndpointEvent`, `PollTimeout`, `Rtt` and the questions about the state.
-#[derive(Debug, Drop)]
-pub enum Reply {
-    /// The call was carried out and answers nothing else.
-    Done,
-    /// A message of this length, in bytes, was accepted.
-    Wrote(usize),
-    /// The message that was read; None where none was ready.
-    Read(Option<Chunks>),
-    /// Bytes that were accepted on the stream and are not released.
-    BufferedAmount(usize),
-    /// The oldest stream that the peer opened and that was not accepted yet; None where there is none, or the side
-    /// failed.
-    Accepted(Option<StreamId>),
-    /// The identifiers of the live streams, ascending.
-    StreamIds(Vec<StreamId>),
-    /// What a generation of the stream counted.
-    StreamStats(DataChannelStats),
-    /// The identifier of a live stream.
-    StreamIdentifier(StreamId),
-    /// The payload type of messages that are written without one.
-    PayloadType(PayloadProtocolIdentifier),
-    /// A threshold of the buffered amount, in bytes.
-    Threshold(usize),
-    /// The oldest event; None where none waited.
-    Event(Option<Event>),
-    /// What the endpoint of the side is to be told; None where nothing waited.
-    EndpointEvent(Option<EndpointEvent>),
-    /// The moment at which the next timer expires; None where no timer runs.
-    Timeout(Option<Instant>),
-    /// Packets that a poll gave out: the number of the first one, and how many.
-    Sent { first: u64, count: u64 },
-    /// A poll that gave out no packet.
-    NothingSent,
-    /// What a question about the state was answered.
-    State(bool),
-    /// The retransmission timeout.
-    Rtt(Duration),
-    /// The number of the refusal, as `Error::number` gives it. Of number 4, want of memory, the packets of a poll may
-    /// be lost, or the side may have failed; of any other number nothing changed.
-    Refused(u8),
-    /// The other side gave out no packet of this number; nothing changed.
-    NoSuchPacket,
 }

@@ -1,6 +1,6 @@
 use Rattle.sctp_assoc.specs.Calls.{open_refusal}
-use Rattle.sctp_pair.proofs.RefusalNumbers.{number_reported}
-use Rattle.sctp_pair.proofs.calls.open_stream.Goals as goal
+use Rattle.sctp_assoc.proofs.RefusalNumbers.{number_reported}
+use Rattle.sctp_assoc.proofs.calls.open_stream.Goals as goal
 
 pub returns-in-Err : goal.returns-in-Err
 returns-in-Err c = (

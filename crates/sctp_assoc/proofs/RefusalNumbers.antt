@@ -3,7 +3,7 @@ use Rattle.std.proofs.Common.{◌≡◌, sym, ap, ◌∙◌, subst, ℕ, Option,
 use Rattle.sctp_wire_types.specs.declared.error.Error.{Error}
 use Rattle.sctp_wire_types.specs.Errors.{refusal_number}
 use Rattle.sctp_assoc.specs.Calls.{RefusesOrLacksMemory, first_refusal}
-use Rattle.sctp_pair.specs.Steps.{IsNumberOf, IsNumberOrMemory}
+use Rattle.sctp_assoc.specs.Replies.{IsNumberOf, IsNumberOrMemory}
 
 pub number_reported : (refusal : Option Error) (e : Error) (n : ℕ)
     → RefusesOrLacksMemory {T = Unit {0}} (Err e) refusal → n ≡ refusal_number e → IsNumberOrMemory refusal n

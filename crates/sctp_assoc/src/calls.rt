@@ -1,30 +1,28 @@
-// One call of one association, and its answer as a reply.
-ghost use Rattle.std.specs.Prelude.{◌≡◌, ◌<◌, ◌++◌, ◌⊎◌, ℕ, length, take, slice_get, IfOk, None, OnErr, OnOk, Some};
+// Each call of an association, and of its live streams, with its answer as a `Reply`.
+ghost use Rattle.std.specs.Prelude.{◌≡◌, ◌<◌, ◌++◌, ℕ, length, take, IfOk, None, OnErr, OnOk, Some};
 ghost use Rattle.sctp_wire.specs.Packets.{finished};
-ghost use Rattle.sctp_assoc.specs.Chunks.{after_packet};
 ghost use Rattle.sctp_assoc.specs.Inbound.{taken_packet};
 ghost use Rattle.sctp_assoc.specs.Gather.{bytes_within};
-ghost use Rattle.sctp_pair.specs.Steps.{Buffers, Delivers, Expires, Fails, Finds, GivesOut, HadFailed, Opens, Reads};
-ghost use Rattle.sctp_pair.specs.Steps.{AcceptsStream, ClosesOne, Keeps, Limits, Lists, Sets, ShowsOrRefuses, TakesIn};
-ghost use Rattle.sctp_pair.specs.Steps.{TakesPacket};
-ghost use Rattle.sctp_pair.specs.Steps.{PollsEndpointEvent, PollsEvent, ShutsDown, Stops, Writes, WritesFirst};
+ghost use Rattle.sctp_assoc.specs.Replies.{Buffers, ClosesStream, Expires, Finds, GivesOut, Opens, Reads};
+ghost use Rattle.sctp_assoc.specs.Replies.{AcceptsStream, ClosesOne, Keeps, Limits, Lists, Sets, ShowsOrRefuses, TakesIn};
+ghost use Rattle.sctp_assoc.specs.Replies.{TakesPacket};
+ghost use Rattle.sctp_assoc.specs.Replies.{PollsEndpointEvent, PollsEvent, ShutsDown, Stops, Writes, WritesFirst};
 ghost use Rattle.sctp_assoc.specs.Calls.{RefusesOrLacksMemory, first_filled, is_writable, open_refusal, opened};
 ghost use Rattle.sctp_assoc.specs.Calls.{refusal_to_write, written};
-ghost use Rattle.sctp_pair.specs.declared.step.Reply.TheVariants as replies;
+ghost use Rattle.sctp_assoc.specs.declared.call.Reply.TheVariants as replies;
 ghost use Rattle.sctp_streams.specs.declared.setting.Setting.TheVariants as settings;
 ghost use Rattle.sctp_streams.specs.Stream.{is_read_half_open, params_of};
 
-use crate::Reply;
-use bytes::Bytes;
-use sctp_assoc::{
-    Association, AssociationEvent, Error, Instant, Payload, PayloadProtocolIdentifier,
-    ReliabilityType, StreamId, Transmit,
+use crate::{
+    Association, AssociationEvent, Error, Instant, PartialDecode, Payload,
+    PayloadProtocolIdentifier, ReliabilityType, Reply, StreamId, Transmit,
 };
-use sctp_wire_queues::PartialDecode;
+use bytes::Bytes;
 use std::alloc::AllocError;
 use std::net::SocketAddr;
 
-pub(crate) fn open_stream(
+/// `Association::open_stream`; nobody borrows the stream then.
+pub fn open_stream(
     association: &mut Association,
     id: StreamId,
     payload_type: PayloadProtocolIdentifier,
@@ -53,7 +51,8 @@ fn make_stream(
     }
 }
 
-pub(crate) fn find_stream(association: &mut Association, id: StreamId) -> Reply
+/// `Association::stream`: whether such a stream is live.
+pub fn find_stream(association: &mut Association, id: StreamId) -> Reply
     ensures { Finds association.old id result association.new }
 {
     match association.stream(id) {
@@ -62,7 +61,8 @@ pub(crate) fn find_stream(association: &mut Association, id: StreamId) -> Reply
     }
 }
 
-pub(crate) fn accept_stream(association: &mut Association) -> Reply
+/// `Association::accept_stream`.
+pub fn accept_stream(association: &mut Association) -> Reply
     ensures { AcceptsStream association.old result association.new }
 {
     match association.accept_stream() {
@@ -71,14 +71,16 @@ pub(crate) fn accept_stream(association: &mut Association) -> Reply
     }
 }
 
-pub(crate) fn set_max_send_message_size(association: &mut Association, size: u32) -> Reply
+/// `Association::set_max_send_message_size`, in bytes.
+pub fn set_max_send_message_size(association: &mut Association, size: u32) -> Reply
     ensures { Limits association.old size result association.new }
 {
     association.set_max_send_message_size(size);
     Reply::Done
 }
 
-pub(crate) fn stream_ids(association: &mut Association) -> Reply
+/// `Association::stream_ids`.
+pub fn stream_ids(association: &mut Association) -> Reply
     ensures { Lists association.old result association.new }
 {
     match association.stream_ids() {
@@ -87,7 +89,8 @@ pub(crate) fn stream_ids(association: &mut Association) -> Reply
     }
 }
 
-pub(crate) fn shutdown(association: &mut Association) -> Reply
+/// `Association::shutdown`.
+pub fn shutdown(association: &mut Association) -> Reply
     ensures { ShutsDown association.old result association.new }
 {
     match association.shutdown() {
@@ -96,7 +99,8 @@ pub(crate) fn shutdown(association: &mut Association) -> Reply
     }
 }
 
-pub(crate) fn close(association: &mut Association) -> Reply
+/// `Association::close`.
+pub fn close(association: &mut Association) -> Reply
     ensures { ClosesOne association.old result association.new }
 {
     match association.close() {
@@ -105,7 +109,8 @@ pub(crate) fn close(association: &mut Association) -> Reply
     }
 }
 
-pub(crate) fn write(association: &mut Association, id: StreamId, bytes: &Bytes) -> Reply
+/// `Stream::write`.
+pub fn write(association: &mut Association, id: StreamId, bytes: &Bytes) -> Reply
     ensures { Writes association.old id None bytes.now result association.new }
 {
     match write_copied(association, id, None, bytes) {
@@ -114,7 +119,8 @@ pub(crate) fn write(association: &mut Association, id: StreamId, bytes: &Bytes) 
     }
 }
 
-pub(crate) fn write_with_ppi(
+/// `Stream::write_with_ppi`.
+pub fn write_with_ppi(
     association: &mut Association,
     id: StreamId,
     bytes: &Bytes,
@@ -146,7 +152,8 @@ fn write_copied(
     }
 }
 
-pub(crate) fn write_sctp(
+/// `Stream::write_sctp`.
+pub fn write_sctp(
     association: &mut Association,
     id: StreamId,
     bytes: &Bytes,
@@ -163,7 +170,8 @@ pub(crate) fn write_sctp(
     }
 }
 
-pub(crate) fn write_chunk(association: &mut Association, id: StreamId, bytes: &Bytes) -> Reply
+/// `Stream::write_chunk`.
+pub fn write_chunk(association: &mut Association, id: StreamId, bytes: &Bytes) -> Reply
     ensures { Writes association.old id None bytes.now result association.new }
 {
     match association.stream(id) {
@@ -175,11 +183,8 @@ pub(crate) fn write_chunk(association: &mut Association, id: StreamId, bytes: &B
     }
 }
 
-pub(crate) fn write_chunks(
-    association: &mut Association,
-    id: StreamId,
-    chunks: &Vec<Bytes>,
-) -> Reply
+/// `Stream::write_chunks`, of clones of the buffers; it is refused, too, where these find no memory.
+pub fn write_chunks(association: &mut Association, id: StreamId, chunks: &Vec<Bytes>) -> Reply
     ensures { WritesFirst association.old id chunks.now.items result association.new }
 {
     match copied(chunks) {
@@ -206,7 +211,8 @@ fn write_first(association: &mut Association, id: StreamId, buffers: &mut [Bytes
     }
 }
 
-pub(crate) fn finish(association: &mut Association, id: StreamId) -> Reply
+/// `Stream::finish`.
+pub fn finish(association: &mut Association, id: StreamId) -> Reply
     ensures { Sets association.old id settings.WriteHalfClosed result association.new }
 {
     match association.stream(id) {
@@ -218,7 +224,8 @@ pub(crate) fn finish(association: &mut Association, id: StreamId) -> Reply
     }
 }
 
-pub(crate) fn stop(association: &mut Association, id: StreamId) -> Reply
+/// `Stream::stop`.
+pub fn stop(association: &mut Association, id: StreamId) -> Reply
     ensures { Stops association.old id result association.new }
 {
     match association.stream(id) {
@@ -230,7 +237,21 @@ pub(crate) fn stop(association: &mut Association, id: StreamId) -> Reply
     }
 }
 
-pub(crate) fn set_default_payload_type(
+/// `Stream::close`.
+pub fn close_stream(association: &mut Association, id: StreamId) -> Reply
+    ensures { ClosesStream association.old id result association.new }
+{
+    match association.stream(id) {
+        Ok(mut stream) => match stream.close() {
+            Ok(()) => Reply::Done,
+            Err(error) => Reply::Refused(error.number()),
+        },
+        Err(error) => Reply::Refused(error.number()),
+    }
+}
+
+/// `Stream::set_default_payload_type`.
+pub fn set_default_payload_type(
     association: &mut Association,
     id: StreamId,
     kind: PayloadProtocolIdentifier,
@@ -246,7 +267,8 @@ pub(crate) fn set_default_payload_type(
     }
 }
 
-pub(crate) fn set_reliability_params(
+/// `Stream::set_reliability_params`.
+pub fn set_reliability_params(
     association: &mut Association,
     id: StreamId,
     unordered: bool,
@@ -265,7 +287,8 @@ pub(crate) fn set_reliability_params(
     }
 }
 
-pub(crate) fn set_low_threshold(association: &mut Association, id: StreamId, th: usize) -> Reply
+/// `Stream::set_buffered_amount_low_threshold`, in bytes.
+pub fn set_low_threshold(association: &mut Association, id: StreamId, th: usize) -> Reply
     ensures { Sets association.old id (settings.LowMark th) result association.new }
 {
     match association.stream(id) {
@@ -277,7 +300,8 @@ pub(crate) fn set_low_threshold(association: &mut Association, id: StreamId, th:
     }
 }
 
-pub(crate) fn set_high_threshold(association: &mut Association, id: StreamId, th: usize) -> Reply
+/// `Stream::set_buffered_amount_high_threshold`, in bytes.
+pub fn set_high_threshold(association: &mut Association, id: StreamId, th: usize) -> Reply
     ensures { Sets association.old id (settings.HighMark th) result association.new }
 {
     match association.stream(id) {
@@ -289,7 +313,8 @@ pub(crate) fn set_high_threshold(association: &mut Association, id: StreamId, th
     }
 }
 
-pub(crate) fn stream_stats(association: &mut Association, id: StreamId) -> Reply
+/// `Stream::stats`.
+pub fn stream_stats(association: &mut Association, id: StreamId) -> Reply
     ensures { ShowsOrRefuses association.old id (λ s. replies.StreamStats s.stats) result association.new }
 {
     match association.stream(id) {
@@ -301,7 +326,8 @@ pub(crate) fn stream_stats(association: &mut Association, id: StreamId) -> Reply
     }
 }
 
-pub(crate) fn default_payload_type(association: &mut Association, id: StreamId) -> Reply
+/// `Stream::get_default_payload_type`.
+pub fn default_payload_type(association: &mut Association, id: StreamId) -> Reply
     ensures { ShowsOrRefuses association.old id (λ s. replies.PayloadType s.default_payload_type)
         result association.new }
 {
@@ -314,7 +340,8 @@ pub(crate) fn default_payload_type(association: &mut Association, id: StreamId) 
     }
 }
 
-pub(crate) fn low_threshold(association: &mut Association, id: StreamId) -> Reply
+/// `Stream::buffered_amount_low_threshold`.
+pub fn low_threshold(association: &mut Association, id: StreamId) -> Reply
     ensures { ShowsOrRefuses association.old id (λ s. replies.Threshold s.low_mark) result association.new }
 {
     match association.stream(id) {
@@ -326,7 +353,8 @@ pub(crate) fn low_threshold(association: &mut Association, id: StreamId) -> Repl
     }
 }
 
-pub(crate) fn high_threshold(association: &mut Association, id: StreamId) -> Reply
+/// `Stream::buffered_amount_high_threshold`.
+pub fn high_threshold(association: &mut Association, id: StreamId) -> Reply
     ensures { ShowsOrRefuses association.old id (λ s. replies.Threshold s.high_mark) result association.new }
 {
     match association.stream(id) {
@@ -338,7 +366,8 @@ pub(crate) fn high_threshold(association: &mut Association, id: StreamId) -> Rep
     }
 }
 
-pub(crate) fn is_readable(association: &mut Association, id: StreamId) -> Reply
+/// `Stream::is_readable`.
+pub fn is_readable(association: &mut Association, id: StreamId) -> Reply
     ensures { ShowsOrRefuses association.old id (λ s. replies.State (is_read_half_open s.halves))
         result association.new }
 {
@@ -348,7 +377,8 @@ pub(crate) fn is_readable(association: &mut Association, id: StreamId) -> Reply
     }
 }
 
-pub(crate) fn is_writable(association: &mut Association, id: StreamId) -> Reply
+/// `Stream::is_writable`.
+pub fn is_writable(association: &mut Association, id: StreamId) -> Reply
     ensures { ShowsOrRefuses association.old id (λ s. replies.State (is_writable association.old id))
         result association.new }
 {
@@ -358,7 +388,8 @@ pub(crate) fn is_writable(association: &mut Association, id: StreamId) -> Reply
     }
 }
 
-pub(crate) fn stream_identifier(association: &mut Association, id: StreamId) -> Reply
+/// `Stream::stream_identifier`.
+pub fn stream_identifier(association: &mut Association, id: StreamId) -> Reply
     ensures { ShowsOrRefuses association.old id (λ s. replies.StreamIdentifier id) result association.new }
 {
     match association.stream(id) {
@@ -367,7 +398,8 @@ pub(crate) fn stream_identifier(association: &mut Association, id: StreamId) -> 
     }
 }
 
-pub(crate) fn read(association: &mut Association, id: StreamId) -> Reply
+/// `Stream::read`.
+pub fn read(association: &mut Association, id: StreamId) -> Reply
     ensures { Reads association.old id result association.new }
 {
     match association.stream(id) {
@@ -379,7 +411,8 @@ pub(crate) fn read(association: &mut Association, id: StreamId) -> Reply
     }
 }
 
-pub(crate) fn read_sctp(association: &mut Association, id: StreamId) -> Reply
+/// `Stream::read_sctp`.
+pub fn read_sctp(association: &mut Association, id: StreamId) -> Reply
     ensures { Reads association.old id result association.new }
 {
     match association.stream(id) {
@@ -391,7 +424,8 @@ pub(crate) fn read_sctp(association: &mut Association, id: StreamId) -> Reply
     }
 }
 
-pub(crate) fn buffered_amount(association: &mut Association, id: StreamId) -> Reply
+/// `Stream::buffered_amount`.
+pub fn buffered_amount(association: &mut Association, id: StreamId) -> Reply
     ensures { Buffers association.old id result association.new }
 {
     match association.stream(id) {
@@ -403,7 +437,8 @@ pub(crate) fn buffered_amount(association: &mut Association, id: StreamId) -> Re
     }
 }
 
-pub(crate) fn poll(association: &mut Association) -> Reply
+/// `Association::poll`.
+pub fn poll(association: &mut Association) -> Reply
     ensures { PollsEvent association.old result association.new }
 {
     match association.poll() {
@@ -412,13 +447,15 @@ pub(crate) fn poll(association: &mut Association) -> Reply
     }
 }
 
-pub(crate) fn poll_endpoint_event(association: &mut Association) -> Reply
+/// `Association::poll_endpoint_event`.
+pub fn poll_endpoint_event(association: &mut Association) -> Reply
     ensures { PollsEndpointEvent association.old result association.new }
 {
     Reply::EndpointEvent(association.poll_endpoint_event())
 }
 
-pub(crate) fn handle_timeout(association: &mut Association, now: Instant) -> Reply
+/// `Association::handle_timeout`.
+pub fn handle_timeout(association: &mut Association, now: Instant) -> Reply
     ensures { Expires association.old now result association.new }
 {
     match association.handle_timeout(now) {
@@ -427,12 +464,9 @@ pub(crate) fn handle_timeout(association: &mut Association, now: Instant) -> Rep
     }
 }
 
-// Polls for packets and gives them the next numbers of their side.
-pub(crate) fn poll_transmit(
-    association: &mut Association,
-    packets: &mut Vec<Bytes>,
-    now: Instant,
-) -> Reply
+/// `Association::poll_transmit`. Its packets are put behind those that were given out before, and so get the next numbers;
+/// where room is refused for one, that one and those behind it are lost.
+pub fn poll_transmit(association: &mut Association, packets: &mut Vec<Bytes>, now: Instant) -> Reply
     ensures { GivesOut association.old packets.old.items now result association.new packets.new.items }
 {
     match association.poll_transmit(now) {
@@ -471,36 +505,21 @@ fn keep_all(packets: &mut Vec<Bytes>, sent: Vec<Bytes>) -> Result<(), AllocError
     Ok(())
 }
 
-// Hands a packet that the other side gave out to an association. A packet that finds no memory to be read is lost. A
-// failed association refuses each datagram, whatever it spells.
-pub(crate) fn deliver(
+/// These bytes came as a datagram. One that spells no packet changes nothing, and one that finds no memory to be read is
+/// lost. A failed association refuses each datagram, whatever it spells.
+pub fn handle_datagram(
     association: &mut Association,
-    packets: &[Bytes],
-    number: u64,
+    datagram: &Bytes,
     remote: SocketAddr,
     now: Instant,
 ) -> Reply
-    ensures { Delivers association.old (slice_get packets.now number) now result association.new }
-{
-    match packets.get(number as usize) {
-        Some(packet) => take_datagram(association, packet, remote, now),
-        None => Reply::NoSuchPacket,
-    }
-}
-
-fn take_datagram(
-    association: &mut Association,
-    packet: &Bytes,
-    remote: SocketAddr,
-    now: Instant,
-) -> Reply
-    ensures { TakesIn association.old packet.now now result association.new }
+    ensures { TakesIn association.old datagram.now now result association.new }
 {
     if association.is_failed() {
         return Reply::Refused(Error::ErrAssociationFailed.number());
     }
-    match PartialDecode::unmarshal(packet) {
-        Ok(datagram) => take(association, datagram, remote, now),
+    match PartialDecode::unmarshal(datagram) {
+        Ok(read) => take(association, read, remote, now),
         Err(Error::ErrNoMemory) => Reply::Refused(Error::ErrNoMemory.number()),
         Err(_) => Reply::Done,
     }

@@ -1,9 +1,9 @@
 use Rattle.std.proofs.Common.{rules, ◌≡◌, ap, ◌∙◌, ℕ, None, inl}
 use Rattle.sctp_assoc.specs.Shown.{Shown}
 use Rattle.sctp_assoc.specs.Calls.{stop_refusal, stopped, stream_refusal}
-use Rattle.sctp_pair.specs.Steps.{refusal_to_stop}
-use Rattle.sctp_pair.proofs.RefusalNumbers.{unfound_reported}
-use Rattle.sctp_pair.proofs.calls.stop.Goals as goal
+use Rattle.sctp_assoc.specs.Replies.{refusal_to_stop}
+use Rattle.sctp_assoc.proofs.RefusalNumbers.{unfound_reported}
+use Rattle.sctp_assoc.proofs.calls.stop.Goals as goal
 
 pub returns-in-Ok-stop : goal.returns-in-Ok-stop
 returns-in-Ok-stop c =
