@@ -9,4 +9,4 @@ mod setting;
 pub use line::{Beginning, JoinedBy, Line, parse};
 pub use replay::session;
 pub use reply::show;
-pub use setting::snapped_under;
+pub use setting::{begun, snapped_under};

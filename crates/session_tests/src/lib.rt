@@ -8,6 +8,8 @@ mod network;
 #[cfg(test)]
 mod pair;
 #[cfg(test)]
+mod repeated;
+#[cfg(test)]
 mod run;
 #[cfg(test)]
 mod sessions;

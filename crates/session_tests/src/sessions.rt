@@ -320,9 +320,9 @@ read B 1=message 53 61
 read B 1=none
 ";
 
-#[test]
-fn sessions_give_their_replies(rt: HostRuntime) -> Result<(), Fail> {
-    for text in [
+/// Each session that makes a pair, with its replies.
+pub(crate) fn stored() -> [&'static str; 16] {
+    [
         LOST,
         TWICE,
         OTHERS,
@@ -339,7 +339,12 @@ fn sessions_give_their_replies(rt: HostRuntime) -> Result<(), Fail> {
         SHUTDOWN,
         BOTH_SHUT_DOWN,
         SHUTDOWN_LOST,
-    ] {
+    ]
+}
+
+#[test]
+fn sessions_give_their_replies(rt: HostRuntime) -> Result<(), Fail> {
+    for text in stored() {
         check_replies(&rt, text)?;
     }
     for text in REFUSED {
