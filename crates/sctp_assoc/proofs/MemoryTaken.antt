@@ -2,7 +2,8 @@
 use Rattle.std.proofs.Common.{◌≡◌, ◌≢◌, refl, sym, ap, ◌∙◌, subst, ℕ, ◌+◌, Bool, true, false, not, ◌||◌, ◌&&◌}
 use Rattle.std.proofs.Common.{if◌then◌else◌, is_some, nat_lt, length, List, [], ◌∷◌, suc, Option, Some, None}
 use Rattle.std.proofs.Common.{arith, ◌<◌, ◌==◌, ⊎_elim}
-use Rattle.std.proofs.lemmas.Bool.{and_from, false≢true, lt-ltb, ne_eqb, or_cases, or_left, or_parts, or_right, true≢false}
+use Rattle.std.proofs.lemmas.Bool.{and_from, false≢true, lt-ltb, ne_eqb, or_cases, or_left, or_parts}
+use Rattle.std.proofs.lemmas.Bool.{or_right, true≢false}
 use Rattle.sctp_wire_types.specs.declared.chunk.Chunk.{Chunk}
 use Rattle.sctp_wire_types.specs.declared.chunk.ChunkPayloadData.{ChunkPayloadData}
 use Rattle.sctp_wire_types.specs.declared.error.Error.{Error}

@@ -1,5 +1,6 @@
 -- What the calls of an application do to an association.
-use Rattle.std.specs.Prelude.{◌≡◌, ◌⊎◌, ℕ, Bool, true, false, List, [], ◌∷◌, ◌++◌, ◌&&◌, ◌||◌, ◌==◌, if◌then◌else◌, length}
+use Rattle.std.specs.Prelude.{◌≡◌, ◌⊎◌, ℕ, Bool, true, false, List, [], ◌∷◌, ◌++◌, ◌&&◌, ◌||◌, ◌==◌}
+use Rattle.std.specs.Prelude.{if◌then◌else◌, length}
 use Rattle.std.specs.Prelude.{not, slice_get}
 use Rattle.std.specs.Prelude.{drop, nat_lt, is_some, Option, Some, None, Result, Ok, Err}
 use Rattle.sctp_wire_types.specs.declared.error.Error.{Error}
@@ -357,7 +358,7 @@ is_event_at_once (Some (events.Stream e)) = is_stream_event_at_once e
 is_event_at_once (Some (events.DataChannelStatsFinal stats)) = true
 is_event_at_once (Some events.DatagramReceived) = true
 
--- the oldest event never waits for one of its stream, and that it is told says nothing of a reset
+-- the oldest event is of a kind that never waits, and that it is told says nothing of a reset
 abbrev pub is_first_at_once : List Event → Bool
 is_first_at_once es = is_event_at_once (slice_get es 0)
 

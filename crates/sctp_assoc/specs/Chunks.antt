@@ -224,8 +224,8 @@ ended a trigger now = record a {
   timers = ended_packet_timers a.timers trigger now;
 }
 
--- the chunks in order; a fault ends the packet and closes an open association, and so do an exhausted receive buffer and
--- the end of a shutdown
+-- the chunks in order; a fault ends the packet and closes an open association, and so do an exhausted receive buffer
+-- and the end of a shutdown
 abbrev pub after_chunks : CommonHeader → List Chunk → Shown → AckTrigger → ℕ → Shown
 after_chunks header [] a trigger now = ended a trigger now
 after_chunks header (c ∷ cs) a trigger now =

@@ -353,8 +353,8 @@ shutdown_polled a now =
 abbrev pub shutdown_after : Shown × List (List ℕ) → ℕ → Shown × List (List ℕ)
 shutdown_after (a, packets) now = after_both packets (shutdown_polled a now)
 
--- what a poll leaves in front of the chunks of a graceful end, and the packets that it gives: those that wait, and while
--- DATA is exchanged DATA, then in Established requests to reset streams, the acknowledgement, and FORWARD TSN
+-- what a poll leaves in front of the chunks of a graceful end, and the packets that it gives: those that wait, and
+-- while DATA is exchanged DATA, then in Established requests to reset streams, the acknowledgement, and FORWARD TSN
 abbrev pub open_polled : Shown → ℕ → Shown × List (List ℕ)
 open_polled a now = reconfig_run_after (exchange_after (control_polled a) now) now
 
@@ -370,16 +370,16 @@ requests_wait a = nat_lt 0 (length a.resets.own.waiting) || nat_lt 0 (length a.c
 abbrev pub requests_give : Shown → Bool
 requests_give a = is_some a.resets.own.active || requests_wait a
 
--- the exchange of a poll has something to give: DATA goes out or is given up, in Established streams are to be reset, or
--- an acknowledgement or FORWARD TSN is due
+-- the exchange of a poll has something to give: DATA goes out or is given up, in Established streams are to be reset,
+-- or an acknowledgement or FORWARD TSN is due
 abbrev pub exchange_gives : Shown → ℕ → Bool
 exchange_gives a now =
     data_gives a now || (is_established a.state && requests_give (data_polled a now).0)
     || is_due a.receiver.ack_state
     || gives_forward (data_polled a now).0.sender
 
--- a poll has something to give: something waits, or while DATA is exchanged its exchange does, or behind that a chunk of
--- a graceful end is due
+-- a poll has something to give: something waits, or while DATA is exchanged its exchange does, or behind that a chunk
+-- of a graceful end is due
 abbrev pub has_something_to_give : Shown → ℕ → Bool
 has_something_to_give a now =
     nat_lt 0 (length a.control) || (exchanges_data a.state && exchange_gives (without_control a) now)

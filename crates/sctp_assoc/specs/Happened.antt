@@ -366,8 +366,8 @@ requests_given header [] = []
 requests_given header (request ∷ requests) =
     packet_bytes header (reconfig_of (params.OutgoingResetRequest request)) ++ requests_given header requests
 
--- while DATA is exchanged these packets of DATA, then these requests to reset streams, then the acknowledgement, and then,
--- where it is given, the FORWARD TSN of what is in flight after the poll
+-- while DATA is exchanged these packets of DATA, then these requests to reset streams, then the acknowledgement, and
+-- then, where it is given, the FORWARD TSN of what is in flight after the poll
 abbrev pub exchange_given : Shown → List (List ChunkPayloadData) → List ParamOutgoingResetRequest → Bool → Shown
     → List (List ℕ)
 exchange_given a bundles requests forwards b =

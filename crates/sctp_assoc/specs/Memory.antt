@@ -60,8 +60,8 @@ new_data_takes_memory a piece =
     is_new_to a.receiver piece.tsn
     && (makes_stream a piece.stream_identifier || keeps_message a piece)
 
--- so does DATA of a generation that is not read yet, for what is kept of it, and DATA behind which a request of the peer
--- is performed or a kept skip applied
+-- so does DATA of a generation that is not read yet, for what is kept of it, and DATA behind which a request of the
+-- peer is performed or a kept skip applied
 abbrev pub data_takes_memory : Shown → ChunkPayloadData → Bool
 data_takes_memory a piece =
     new_data_takes_memory a piece || resets_take_memory a

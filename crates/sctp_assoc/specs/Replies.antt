@@ -167,7 +167,7 @@ abbrev pub PollsEndpointEvent : Shown → Reply → Shown → Type 0
 PollsEndpointEvent a (replies.EndpointEvent event) b = endpoint_event_polled a ≡ (b, event)
 PollsEndpointEvent a _ b = ⊥
 
--- the oldest event is taken out, or with none left it is told that the handshake failed
+-- the oldest event that does not wait is taken out, or where there is none it is told that the handshake failed
 abbrev pub PollsEvent : Shown → Reply → Shown → Type 0
 PollsEvent a (replies.Event event) b =
     (a.failed ≡ false) × (event_polled a ≡ (b, event))

@@ -13,7 +13,8 @@ use Rattle.sctp_resets.specs.Concerned.{active_ids, ids_of_request, in_reset, re
 use Rattle.sctp_resets.specs.Resets.{is_retiring}
 use Rattle.sctp_directions.specs.Acts.{Act}
 use Rattle.sctp_assoc.specs.Calls.{drained_behind}
-use Rattle.sctp_assoc.specs.Resets.{after_param, on_request, on_response, settled, settling_takes_memory, skips_applied_of}
+use Rattle.sctp_assoc.specs.Resets.{after_param, on_request, on_response, settled, settling_takes_memory}
+use Rattle.sctp_assoc.specs.Resets.{skips_applied_of}
 use Rattle.sctp_assoc.specs.Shown.{Shown}
 use Rattle.sctp_assoc.specs.Skipping.{with_passed, with_skips}
 

@@ -69,15 +69,27 @@ all_stopped t =
     with_stopped names.Ack (with_stopped names.Reconfig (with_stopped names.T3RTX
     (with_stopped names.T2Shutdown (with_stopped names.T1Cookie (with_stopped names.T1Init t)))))
 
--- what the questions about the state answer
+-- what the questions about an association answer
 abbrev pub answers_of : Shown → StateAnswers
-answers_of a = record { state = a.state; lost = a.lost; completed = a.handshake.completed }
+answers_of a = record {
+  side = a.side;
+  remote_addr = a.remote_addr;
+  local_ip = a.local_ip;
+  state = a.state;
+  lost = a.lost;
+  completed = a.handshake.completed;
+  stats = a.counts;
+}
 
--- a call found no memory in its middle: no timer runs on, and the questions about the state answer what they answered
--- before it
+-- a call found no memory in its middle: no timer runs on, and the questions about the association answer what they
+-- answered before it
 pub record HasFailed (before : StateAnswers) (a : Shown) : Type 0 where
   pub marked : a.failed ≡ true
+  pub side_stays : a.side ≡ before.side
+  pub remote_addr_stays : a.remote_addr ≡ before.remote_addr
+  pub local_ip_stays : a.local_ip ≡ before.local_ip
   pub state_stays : a.state ≡ before.state
   pub loss_stays : a.lost ≡ before.lost
   pub handshaking_stays : a.handshake.completed ≡ before.completed
+  pub counts_stay : a.counts ≡ before.stats
   pub disarmed : a.timers ≡ all_stopped a.timers

@@ -41,8 +41,8 @@ standing_of a tsn =
 abbrev pub readable_told : Bool → ℕ → List Event
 readable_told ready id = if ready then events.Stream (Readable id) ∷ [] else []
 
--- The ordered messages of a stream, if it is live, are skipped up to an SSN. Where a generation of it ended and is still
--- read, the skip is one of its newest generation, and kept for that.
+-- The ordered messages of a stream, if it is live, are skipped up to an SSN. Where a generation of it ended and is
+-- still read, the skip is one of its newest generation, and kept for that.
 unfoldable pub with_skip : ℕ → ℕ → ℕ → Shown → Shown
 with_skip tsn id ssn a =
     if is_retiring a.resets id then record a { resets = resets.with_skip a.resets id ssn tsn } else

@@ -316,10 +316,12 @@ impl Association {
         }
     }
 
-    /// Takes out the oldest event; None where none waits. That the handshake failed is told behind all other events,
-    /// as `Event::HandshakeFailed`, once for each of its timers that gave up; it may follow `Event::Connected`. Call it
-    /// until it answers None: after a constructor, `handle_event` and `handle_timeout`. Its one error is
-    /// `ErrAssociationFailed`; the events that waited are not told then.
+    /// Takes out the oldest event that is ready; None where there is none. `StreamEvent::Finished` of a stream is held
+    /// until all that came before it was read, and with it most later events of that stream (RFC 8831 section 6.7);
+    /// events of other streams pass it. That the handshake failed is told where no other event is ready, as
+    /// `Event::HandshakeFailed`, once for each of its timers that gave up; it may follow `Event::Connected`. Call it
+    /// until it answers None: after a constructor, `handle_event`, `handle_timeout` and `poll_transmit`, and after
+    /// reads. Its one error is `ErrAssociationFailed`; the events that waited are not told then.
     #[tactic(auto, using(crate::proofs::CallsLeadOn::poll_leads_on))]
     pub fn poll(&mut self) -> Result<Option<Event>, Error>
         ensures failed { IsErrOf result Error.ErrAssociationFailed ↔ (self.old.failed ≡ true) }
@@ -344,7 +346,7 @@ impl Association {
         self.next_ready_event()
     }
 
-    // Whether the oldest event never waits for one of its stream, and says nothing of a reset.
+    // Whether the oldest event is of a kind that never waits, and says nothing of a reset.
     fn is_first_at_once(&self) -> bool
         ensures { result ≡ is_first_at_once self.now.events }
     {
@@ -379,7 +381,7 @@ impl Association {
     }
 
     /// What the endpoint that holds this association is to be told, once; None where nothing is. A shutdown that this
-    /// side began is told by `EndpointEvent::drained`, as soon as it began: nothing is accepted from the application
+    /// side began is told by `EndpointEvent::drained`, as soon as it began: no message is accepted from the application
     /// from then on, but reads, datagrams and timers go on until `is_drained`. Never refused, and takes no memory.
     pub fn poll_endpoint_event(&mut self) -> Option<EndpointEvent>
         ensures told { endpoint_event_polled self.old ≡ (self.new, result) }
@@ -456,8 +458,8 @@ impl Association {
     /// `poll_transmit` and `poll_timeout`.
     ///
     /// It answers Ok also where nothing changes: the datagram does not decode, is refused as a packet, comes after a
-    /// loss, or is a `Payload::RawEncode`. A chunk that is a fault ends the packet and closes an open association, and so
-    /// does the SHUTDOWN COMPLETE that is waited for; that is no error of this call, but `Event::AssociationLost`.
+    /// loss, or is a `Payload::RawEncode`. A chunk that is a fault ends the packet and closes an open association, and
+    /// so does the SHUTDOWN COMPLETE that is waited for; that is no error of this call, but `Event::AssociationLost`.
     ///
     /// Errors: `ErrAssociationFailed`, and `ErrNoMemory` only where a datagram is to be read, never after a loss.
     /// After the latter the association is failed.
@@ -495,11 +497,11 @@ impl Association {
     /// go out again, or past `max_init_retransmits` the handshake failed (RFC 4960 section 5.1). DATA in flight is
     /// marked to be sent again, but not past `max_data_retransmits` (section 6.3.3). SHUTDOWN or SHUTDOWN ACK waits to
     /// go out again, without a limit (section 9.2). Where pieces in front of all others in flight are given up, FORWARD
-    /// TSN is due again (RFC 3758 section 3.5). A delayed SACK becomes due (RFC 4960 section 6.2). `poll_transmit` gives
-    /// the packets.
+    /// TSN is due again (RFC 3758 section 3.5). A delayed SACK becomes due (RFC 4960 section 6.2). `poll_transmit`
+    /// gives the packets.
     ///
-    /// Errors: `ErrAssociationFailed`, and `ErrNoMemory` only where INIT or COOKIE ECHO is to go out again, or a request
-    /// to reset streams is given up. After the latter the association is failed.
+    /// Errors: `ErrAssociationFailed`, and `ErrNoMemory` only where INIT or COOKIE ECHO is to go out again, or a
+    /// request to reset streams is given up. After the latter the association is failed.
     #[tactic(auto, using(crate::proofs::CallsLeadOn::timeouts_lead_on))]
     pub fn handle_timeout(&mut self, now: Instant) -> Result<(), Error>
         ensures failed { IsErrOf result Error.ErrAssociationFailed ↔ (self.old.failed ≡ true) }
@@ -652,13 +654,13 @@ impl Association {
         }
     }
 
-    /// Begins to end the association gracefully (RFC 4960 section 9.2), and answers at once. Nothing is accepted from
-    /// the application any more. What was accepted is still sent, and what the peer sends is taken in; once all DATA is
-    /// acknowledged SHUTDOWN goes out, and the peer answers when its own is. Then the association closes, as by
-    /// `close`. `poll_endpoint_event` tells that a shutdown began.
+    /// Begins to end the association gracefully (RFC 4960 section 9.2), and answers at once. No message is accepted
+    /// from the application any more; streams can still be opened, and read. What was accepted is still sent, and what
+    /// the peer sends is taken in; once all DATA is acknowledged SHUTDOWN goes out, and the peer answers when its own
+    /// is. Then the association closes, as by `close`. `poll_endpoint_event` tells that a shutdown began.
     ///
-    /// Refused, in this order with nothing changed: `ErrAssociationFailed`; `ErrShutdownNonEstablished` in any state but
-    /// Established. Takes no memory.
+    /// Refused, in this order with nothing changed: `ErrAssociationFailed`; `ErrShutdownNonEstablished` in any state
+    /// but Established. Takes no memory.
     pub fn shutdown(&mut self) -> Result<(), Error>
         ensures refused { Refuses result (shutdown_refusal self.old) }
         ensures err { OnErr result (self.new ≡ self.old) }
@@ -723,7 +725,7 @@ impl Association {
     }
 
     /// Whether an earlier call found no memory in its middle. Then the association is over, no timer runs, and the
-    /// other questions about the state answer what they answered before that call.
+    /// other questions (about its state, its side, its addresses and its counts) answer what they answered before.
     pub fn is_failed(&self) -> bool
         ensures { result ≡ self.now.failed }
     {

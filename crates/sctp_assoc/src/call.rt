@@ -77,7 +77,7 @@ pub enum Call {
         id: StreamId,
     },
     /// `Stream::set_reliability_params`: whether messages that are written from now on are sent unordered, and how long
-    /// each is tried. Its reply is `Done`.
+    /// each is tried: `rel_val` retransmissions at most for `Rexmit`, `rel_val` ms for `Timed`. Its reply is `Done`.
     SetReliabilityParams {
         id: StreamId,
         unordered: bool,
@@ -149,8 +149,8 @@ pub enum Call {
     HandleTimeout {
         now: Instant,
     },
-    /// These bytes came as a datagram: `PartialDecode::unmarshal`, and `Association::handle_event` of what it reads. Its
-    /// reply is `Done`, also where the datagram spells no packet or changes nothing. One that finds no memory to be
+    /// These bytes came as a datagram: `PartialDecode::unmarshal`, and `Association::handle_event` of what it reads.
+    /// Its reply is `Done`, also where the datagram spells no packet or changes nothing. One that finds no memory to be
     /// read is refused and lost.
     HandleDatagram {
         datagram: Bytes,
@@ -180,7 +180,7 @@ pub enum Call {
 }
 
 /// What a call was answered. Each call may be answered `Refused`, but for `AcceptStream`, `SetMaxSendMessageSize`,
-/// `PollEndpointEvent`, `PollTimeout`, and the questions that no stream is asked.
+/// `PollEndpointEvent`, `PollTimeout`, and the questions that are asked of no stream.
 #[derive(Debug, Drop)]
 pub enum Reply {
     /// The call was carried out and answers nothing else.
@@ -204,7 +204,7 @@ pub enum Reply {
     PayloadType(PayloadProtocolIdentifier),
     /// A threshold of the buffered amount, in bytes.
     Threshold(usize),
-    /// The oldest event; None where none waited.
+    /// The oldest event that was ready; None where none was.
     Event(Option<Event>),
     /// What the endpoint is to be told; None where nothing waited.
     EndpointEvent(Option<EndpointEvent>),

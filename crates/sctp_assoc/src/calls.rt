@@ -4,7 +4,8 @@ ghost use Rattle.sctp_wire.specs.Packets.{finished};
 ghost use Rattle.sctp_assoc.specs.Inbound.{taken_packet};
 ghost use Rattle.sctp_assoc.specs.Gather.{bytes_within};
 ghost use Rattle.sctp_assoc.specs.Replies.{Buffers, ClosesStream, Expires, Finds, GivesOut, Opens, Reads};
-ghost use Rattle.sctp_assoc.specs.Replies.{AcceptsStream, ClosesOne, Keeps, Limits, Lists, Sets, ShowsOrRefuses, TakesIn};
+ghost use Rattle.sctp_assoc.specs.Replies.{AcceptsStream, ClosesOne, Keeps, Limits, Lists, Sets};
+ghost use Rattle.sctp_assoc.specs.Replies.{ShowsOrRefuses, TakesIn};
 ghost use Rattle.sctp_assoc.specs.Replies.{TakesPacket};
 ghost use Rattle.sctp_assoc.specs.Replies.{PollsEndpointEvent, PollsEvent, ShutsDown, Stops, Writes, WritesFirst};
 ghost use Rattle.sctp_assoc.specs.Calls.{RefusesOrLacksMemory, first_filled, is_writable, open_refusal, opened};
@@ -464,8 +465,8 @@ pub fn handle_timeout(association: &mut Association, now: Instant) -> Reply
     }
 }
 
-/// `Association::poll_transmit`. Its packets are put behind those that were given out before, and so get the next numbers;
-/// where room is refused for one, that one and those behind it are lost.
+/// `Association::poll_transmit`. Its packets are put behind those that were given out before, and so get the next
+/// numbers; where room is refused for one, that one and those behind it are lost.
 pub fn poll_transmit(association: &mut Association, packets: &mut Vec<Bytes>, now: Instant) -> Reply
     ensures { GivesOut association.old packets.old.items now result association.new packets.new.items }
 {
@@ -505,8 +506,8 @@ fn keep_all(packets: &mut Vec<Bytes>, sent: Vec<Bytes>) -> Result<(), AllocError
     Ok(())
 }
 
-/// These bytes came as a datagram. One that spells no packet changes nothing, and one that finds no memory to be read is
-/// lost. A failed association refuses each datagram, whatever it spells.
+/// These bytes came as a datagram. One that spells no packet changes nothing, and one that finds no memory to be read
+/// is lost. A failed association refuses each datagram, whatever it spells.
 pub fn handle_datagram(
     association: &mut Association,
     datagram: &Bytes,

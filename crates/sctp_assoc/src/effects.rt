@@ -8,22 +8,28 @@ ghost use Rattle.sctp_assoc.specs.Shown.{HasFailed, all_stopped, answers_of};
 use crate::Association;
 use bytes::Bytes;
 use sctp_parts::state::AssociationState;
+use sctp_parts::stats::AssociationStats;
 use sctp_parts::timer::{Timer, TimerTable};
 use sctp_wire_queues::{
-    AssociationError, Chunk, ChunkAbort, Error, ErrorCause, Event, Events, List, Streams,
+    AssociationError, Chunk, ChunkAbort, Error, ErrorCause, Event, Events, List, Side, Streams,
 };
 use std::alloc::{AllocError, Global};
+use std::net::{IpAddr, SocketAddr};
 
 /// The code of the error cause Out of Resource (RFC 4960 section 3.3.10).
 const OUT_OF_RESOURCE: u16 = 4;
 
-/// What the questions about the state answered before a call.
+/// What the questions about an association answered before a call.
 #[derive(Clone, Copy, Debug)]
 pub(crate) struct StateAnswers {
+    pub(crate) side: Side,
+    pub(crate) remote_addr: SocketAddr,
+    pub(crate) local_ip: Option<IpAddr>,
     pub(crate) state: AssociationState,
     pub(crate) lost: bool,
     /// The handshake was over.
     pub(crate) completed: bool,
+    pub(crate) stats: AssociationStats,
 }
 
 impl Association {
@@ -45,8 +51,8 @@ impl Association {
         self.events.push(Event::AssociationLost { reason })
     }
 
-    // Closes it by this reason. Where memory is refused it fails, and the questions about its state answer what they
-    // answered before.
+    // Closes it by this reason. Where memory is refused it fails, and the questions about it answer what they answered
+    // before.
     pub(crate) fn close_or_fail(&mut self, reason: AssociationError) -> Result<(), Error>
         ensures ok { OnOk result (self.new ≡ closed_by self.old reason) }
         ensures err { IfErr result (λ e. (e ≡ Error.ErrNoMemory) × (is_closed_state self.old.state ≡ false)
@@ -80,13 +86,17 @@ impl Association {
         self.queue_control(chunk)
     }
 
-    // Marks the association failed: no timer runs on, and the questions about its state go on to answer as before.
+    // Marks the association failed: no timer runs on, and the questions about it go on to answer as before.
     pub(crate) fn fail(&mut self, before: StateAnswers)
         ensures { HasFailed before self.new }
     {
+        self.side = before.side;
+        self.remote_addr = before.remote_addr;
+        self.local_ip = before.local_ip;
         self.state = before.state;
         self.lost = before.lost;
         self.handshake.completed = before.completed;
+        self.stats = before.stats;
         self.failed = true;
         stop_all(&mut self.timers);
     }
@@ -95,9 +105,13 @@ impl Association {
         ensures { result ≡ answers_of self.now }
     {
         StateAnswers {
+            side: self.side,
+            remote_addr: self.remote_addr,
+            local_ip: self.local_ip,
             state: self.state,
             lost: self.lost,
             completed: self.handshake.completed,
+            stats: self.stats,
         }
     }
 }

@@ -77,8 +77,8 @@ impl Association {
         self.on_chunks(packet.common_header, packet.chunks.into_vec(), now)
     }
 
-    // The chunks in order; a fault ends the packet and closes an open association, and so do an exhausted receive buffer
-    // and the end of a shutdown.
+    // The chunks in order; a fault ends the packet and closes an open association, and so do an exhausted receive
+    // buffer and the end of a shutdown.
     fn on_chunks(
         &mut self,
         header: CommonHeader,

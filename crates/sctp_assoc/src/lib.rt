@@ -32,9 +32,9 @@
 //!    cannot be read: it is no SCTP packet, or there was no memory for it.
 //! 3. Call `poll` until it answers None. On [`StreamEvent::Readable`] read that stream until `read` answers None.
 //!    From [`Event::Connected`] on streams can be written.
-//! 4. Call `poll_transmit` until it answers None, and send each of the datagrams that it answers. Where it gives messages
-//!    up, a stream may fall to its low mark, and with a SHUTDOWN COMPLETE the association closes: the next turn's `poll`
-//!    tells, or one right behind it.
+//! 4. Call `poll_transmit` until it answers None, and send each of the datagrams that it answers. Where it gives
+//!    messages up, a stream may fall to its low mark, and with a SHUTDOWN COMPLETE the association closes: the next
+//!    turn's `poll` tells, or one right behind it.
 //! 5. Sleep until the moment that `poll_timeout` answers, or until a datagram comes.
 //!
 //! A new client begins with step 4, since its INIT waits there. After a write outside of the loop, go on with step 4.
@@ -51,10 +51,11 @@
 //! What may take memory answers a `Result`, and says [`Error::ErrNoMemory`] where it gets none. What that leaves
 //! depends on the call:
 //!
-//! - `handle_event`, `handle_timeout`, `poll_transmit` and `close`, and a `read` or `read_sctp` of a stream that leaves
-//!   the receive buffer exhausted, leave the association failed ([`Association::is_failed`]).
-//!   No timer runs, and each later call that answers a `Result` answers [`Error::ErrAssociationFailed`]. The
-//!   questions about the state answer what they answered before the call.
+//! - `handle_event`, `handle_timeout`, `poll_transmit` and `close` leave the association failed
+//!   ([`Association::is_failed`]), and so do `stop` and `close` of a [`Stream`] whose read half was open, and a `read`
+//!   or `read_sctp` that leaves the receive buffer exhausted, or of a stream with a generation that the peer ended.
+//!   No timer runs, and each later call that answers a `Result` answers [`Error::ErrAssociationFailed`]. The questions
+//!   about its state, its side, its addresses and its counts answer what they answered before the call.
 //! - Any other call changed nothing, and may be made again.
 //!
 //! A call that answers another error changed nothing.
@@ -62,8 +63,9 @@
 //! # Faults
 //!
 //! A datagram that does not decode changes nothing, nor does a chunk of a handshake or of a shutdown that comes out of
-//! its state, but for an INIT. A *fault* is a chunk that no peer should send: an ABORT, a SACK of a TSN that was not
-//! sent, an INIT once the association is established, a chunk that is not processed here.
+//! its state, but for two: an INIT, and a COOKIE ECHO with this side's cookie, which is acknowledged again. A *fault*
+//! is a chunk that ends the association: an ABORT, which a peer may well send, and what none should send: a SACK of a
+//! TSN that was not sent, an INIT once the association is established, a chunk that is not processed here.
 //! A fault ends the processing of its packet. If the association is open (in any state but Closed), the fault also
 //! closes it: all timers stop, no packet waits any more, each live stream ends with its last counters
 //! ([`Event::DataChannelStatsFinal`]), and [`Event::AssociationLost`] tells it. Only a failed handshake that nobody was

@@ -32,8 +32,8 @@ use sctp_wire_queues::{
 use std::alloc::AllocError;
 
 impl Association {
-    // RE-CONFIG: its parameters in order (RFC 6525 section 3.1). One that is neither a request to reset outgoing streams
-    // nor a response is a fault.
+    // RE-CONFIG: its parameters in order (RFC 6525 section 3.1). One that is neither a request to reset outgoing
+    // streams nor a response is a fault.
     #[cold]
     #[inline(never)]
     #[tactic(auto, unfolding(crate::specs::Resets::on_reconfig))]
@@ -208,7 +208,8 @@ impl Association {
         self.resets.apply_skips(&mut self.streams, &mut self.events)
     }
 
-    // Applies the skips that were kept for the generation of a live stream that is read now. Nearly always none is kept.
+    // Applies the skips that were kept for the generation of a live stream that is read now. Nearly always none is
+    // kept.
     #[tactic(auto, using(crate::proofs::SettlesPlainly::skips_apply_plainly))]
     pub(crate) fn apply_skips_of(&mut self, id: StreamId) -> Result<(), AllocError>
         ensures exact { OnOk result (self.new ≡ skips_applied_of id self.old) }

@@ -8,8 +8,8 @@ use bytes::Bytes;
 
 impl Association {
     /// Carries out the calls, in order, and answers one reply for each; a call that is refused is answered by a reply,
-    /// too. Packets that go out are put behind `packets`. Its one error is `ErrNoMemory`, where there is no room for the
-    /// replies: it comes before the first call, with nothing changed.
+    /// too. Packets that go out are put behind `packets`. Its one error is `ErrNoMemory`, where there is no room for
+    /// the replies: it comes before the first call, with nothing changed.
     ///
     /// This is all that one side does, against any peer at all: the calls, with their replies and packets, are a run of
     /// the abstract association, from what is past on which the association stands. (A constructor says on what it

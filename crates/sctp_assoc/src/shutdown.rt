@@ -102,8 +102,8 @@ impl Association {
         Flow::Next(trigger)
     }
 
-    // SHUTDOWN ACK: neither side has anything left to send. SHUTDOWN COMPLETE is due, and the timer of an answer stops. A
-    // SHUTDOWN or SHUTDOWN ACK that is due already still goes out first, and starts it anew.
+    // SHUTDOWN ACK: neither side has anything left to send. SHUTDOWN COMPLETE is due, and the timer of an answer stops.
+    // A SHUTDOWN or SHUTDOWN ACK that is due already still goes out first, and starts it anew.
     pub(crate) fn on_shutdown_ack(&mut self, trigger: AckTrigger) -> Flow
         ensures { on_shutdown_ack self.old trigger ≡ (self.new, result) }
     {

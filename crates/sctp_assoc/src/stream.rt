@@ -270,8 +270,8 @@ impl<'a> Stream<'a> {
     }
 
     /// Bytes that were accepted on this generation of the stream and are not released. A SACK releases those of the
-    /// DATA that it acknowledges, by its cumulative TSN ack or by a gap ack block, and `poll_transmit` those of messages
-    /// that it gives up. Refused, with nothing changed: `ErrAssociationFailed`, `ErrStreamClosed`.
+    /// DATA that it acknowledges, by its cumulative TSN ack or by a gap ack block, and `poll_transmit` those of
+    /// messages that it gives up. Refused, with nothing changed: `ErrAssociationFailed`, `ErrStreamClosed`.
     pub fn buffered_amount(&self) -> Result<usize, Error>
         ensures { result ≡ buffered_of (lent self.now) (id_of self.now) }
     {
