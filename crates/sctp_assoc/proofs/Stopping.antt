@@ -16,7 +16,7 @@ use Rattle.sctp_assoc.specs.Calls.{RefusesStop, adjusted, holds_at, is_establish
 use Rattle.sctp_assoc.specs.Calls.{stop_takes_memory, stopped_open, without_read_half_of}
 use Rattle.sctp_assoc.specs.Closing.{is_exhausted}
 use Rattle.sctp_assoc.specs.Resets.{with_beside}
-use Rattle.sctp_assoc.specs.declared.effects.StateAnswers.{StateAnswers}
+use Rattle.sctp_assoc.specs.declared.effects.Answers.{Answers}
 use Rattle.sctp_assoc.specs.Shown.{HasFailed, Shown, answers_of}
 use Rattle.sctp_assoc.proofs.StreamReads.{found_again}
 
@@ -72,7 +72,7 @@ stop_fails a s b id error free readable is fails =
       free,
       readable,
       fails.0,
-      subst (λ (z : StateAnswers). HasFailed z b) (ap answers_of is ∙ stopped_answers a id) fails.2,
+      subst (λ (z : Answers). HasFailed z b) (ap answers_of is ∙ stopped_answers a id) fails.2,
     )
 
 pub stop_refusal_stays : (a : Shown) (id : ℕ)

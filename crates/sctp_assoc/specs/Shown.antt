@@ -18,7 +18,7 @@ use Rattle.sctp_inbound.specs.declared.receiver.Receiver.{Receiver}
 use Rattle.sctp_outbound.specs.declared.sender.Sender.{Sender}
 use Rattle.sctp_resets.specs.Resets.{ResetsView}
 use Rattle.sctp_assoc.specs.declared.control.Control.{Control}
-use Rattle.sctp_assoc.specs.declared.effects.StateAnswers.{StateAnswers}
+use Rattle.sctp_assoc.specs.declared.effects.Answers.{Answers}
 use Rattle.sctp_assoc.specs.declared.shutdown.ShutdownDue.{ShutdownDue}
 
 pub record Shown : Type 0 where
@@ -69,8 +69,8 @@ all_stopped t =
     with_stopped names.Ack (with_stopped names.Reconfig (with_stopped names.T3RTX
     (with_stopped names.T2Shutdown (with_stopped names.T1Cookie (with_stopped names.T1Init t)))))
 
--- what the questions about an association answer
-abbrev pub answers_of : Shown → StateAnswers
+-- what the questions about an association's state, its side, its addresses and its counts answer
+abbrev pub answers_of : Shown → Answers
 answers_of a = record {
   side = a.side;
   remote_addr = a.remote_addr;
@@ -81,15 +81,8 @@ answers_of a = record {
   stats = a.counts;
 }
 
--- a call found no memory in its middle: no timer runs on, and the questions about the association answer what they
--- answered before it
-pub record HasFailed (before : StateAnswers) (a : Shown) : Type 0 where
+-- a call found no memory in its middle: no timer runs on, and these questions answer what they answered before it
+pub record HasFailed (before : Answers) (a : Shown) : Type 0 where
   pub marked : a.failed ≡ true
-  pub side_stays : a.side ≡ before.side
-  pub remote_addr_stays : a.remote_addr ≡ before.remote_addr
-  pub local_ip_stays : a.local_ip ≡ before.local_ip
-  pub state_stays : a.state ≡ before.state
-  pub loss_stays : a.lost ≡ before.lost
-  pub handshaking_stays : a.handshake.completed ≡ before.completed
-  pub counts_stay : a.counts ≡ before.stats
+  pub answers : answers_of a ≡ before
   pub disarmed : a.timers ≡ all_stopped a.timers

@@ -320,8 +320,9 @@ impl Association {
     /// until all that came before it was read, and with it most later events of that stream (RFC 8831 section 6.7);
     /// events of other streams pass it. That the handshake failed is told where no other event is ready, as
     /// `Event::HandshakeFailed`, once for each of its timers that gave up; it may follow `Event::Connected`. Call it
-    /// until it answers None: after a constructor, `handle_event`, `handle_timeout` and `poll_transmit`, and after
-    /// reads. Its one error is `ErrAssociationFailed`; the events that waited are not told then.
+    /// until it answers None: after a constructor, and after each turn of datagrams, timers, calls of streams and polls
+    /// for packets, any of which may bring an event or make one ready. Its one error is `ErrAssociationFailed`; the
+    /// events that waited are not told then.
     #[tactic(auto, using(crate::proofs::CallsLeadOn::poll_leads_on))]
     pub fn poll(&mut self) -> Result<Option<Event>, Error>
         ensures failed { IsErrOf result Error.ErrAssociationFailed ↔ (self.old.failed ≡ true) }

@@ -19,9 +19,9 @@ use std::net::{IpAddr, SocketAddr};
 /// The code of the error cause Out of Resource (RFC 4960 section 3.3.10).
 const OUT_OF_RESOURCE: u16 = 4;
 
-/// What the questions about an association answered before a call.
+/// What the questions about an association's state, its side, its addresses and its counts answered before a call.
 #[derive(Clone, Copy, Debug)]
-pub(crate) struct StateAnswers {
+pub(crate) struct Answers {
     pub(crate) side: Side,
     pub(crate) remote_addr: SocketAddr,
     pub(crate) local_ip: Option<IpAddr>,
@@ -51,8 +51,7 @@ impl Association {
         self.events.push(Event::AssociationLost { reason })
     }
 
-    // Closes it by this reason. Where memory is refused it fails, and the questions about it answer what they answered
-    // before.
+    // Closes it by this reason. Where memory is refused it fails, and these questions answer what they answered before.
     pub(crate) fn close_or_fail(&mut self, reason: AssociationError) -> Result<(), Error>
         ensures ok { OnOk result (self.new ≡ closed_by self.old reason) }
         ensures err { IfErr result (λ e. (e ≡ Error.ErrNoMemory) × (is_closed_state self.old.state ≡ false)
@@ -86,8 +85,9 @@ impl Association {
         self.queue_control(chunk)
     }
 
-    // Marks the association failed: no timer runs on, and the questions about it go on to answer as before.
-    pub(crate) fn fail(&mut self, before: StateAnswers)
+    // Marks the association failed: no timer runs on, and the questions about its state, its side, its addresses and its
+    // counts go on to answer as before.
+    pub(crate) fn fail(&mut self, before: Answers)
         ensures { HasFailed before self.new }
     {
         self.side = before.side;
@@ -101,10 +101,10 @@ impl Association {
         stop_all(&mut self.timers);
     }
 
-    pub(crate) fn answers(&self) -> StateAnswers
+    pub(crate) fn answers(&self) -> Answers
         ensures { result ≡ answers_of self.now }
     {
-        StateAnswers {
+        Answers {
             side: self.side,
             remote_addr: self.remote_addr,
             local_ip: self.local_ip,

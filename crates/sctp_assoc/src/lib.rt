@@ -64,8 +64,8 @@
 //!
 //! A datagram that does not decode changes nothing, nor does a chunk of a handshake or of a shutdown that comes out of
 //! its state, but for two: an INIT, and a COOKIE ECHO with this side's cookie, which is acknowledged again. A *fault*
-//! is a chunk that ends the association: an ABORT, which a peer may well send, and what none should send: a SACK of a
-//! TSN that was not sent, an INIT once the association is established, a chunk that is not processed here.
+//! is a chunk that ends an open association: an ABORT, which a peer may well send, and what none should send: a SACK of
+//! a TSN that was not sent, an INIT once the association is established, a chunk that is not processed here.
 //! A fault ends the processing of its packet. If the association is open (in any state but Closed), the fault also
 //! closes it: all timers stop, no packet waits any more, each live stream ends with its last counters
 //! ([`Event::DataChannelStatsFinal`]), and [`Event::AssociationLost`] tells it. Only a failed handshake that nobody was

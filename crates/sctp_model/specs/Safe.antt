@@ -1,6 +1,7 @@
--- What is promised of one direction: what is read was accepted, whole, at most once and in order; on reliable streams,
--- what was or can be read at an open receiver is the longest accepted front whose pieces were all taken in; and no byte
--- is released before it was.
+-- What is promised of one direction: what is read was accepted, whole, at most once and in order. On reliable streams,
+-- what was or can be read at an open receiver is all that was accepted and taken in, an ordered message once all ordered
+-- ones before it were (on ordered streams the longest accepted front whose pieces were all taken in), and no more bytes
+-- are released than were taken in.
 use Rattle.std.specs.Prelude.{ℕ, suc, ◌+◌, ◌*◌, ◌^◌, ◌<◌, ◌≤◌, ◌≡◌, Bool, true, false, ⊤, List, [], ◌∷◌, ◌++◌, length}
 use Rattle.std.specs.Prelude.{map, filter, take, drop, if◌then◌else◌}
 use Rattle.std.specs.List.{AllByRecursion}

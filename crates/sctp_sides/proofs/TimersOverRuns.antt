@@ -82,7 +82,12 @@ pub record Fell (a b : Shown) : Type 0 where
   pub timers : b.timers ≡ all_stopped b.timers
 
 pub fell : (a b : Shown) → FailsFrom a b → Fell a b
-fell a b h = record { failed = h.marked; lost = h.loss_stays; state = h.state_stays; timers = h.disarmed }
+fell a b h = record {
+  failed = h.marked;
+  lost = ap (λ z. z.lost) h.answers;
+  state = ap (λ z. z.state) h.answers;
+  timers = h.disarmed;
+}
 
 fell_stopped : (a b : Shown) → Fell a b → IsNoneArmed b.timers
 fell_stopped a b h timer = ap (λ (t : Timers). moment_of timer t) h.timers ∙ none_armed b.timers timer
