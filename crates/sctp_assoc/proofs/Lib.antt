@@ -36,7 +36,7 @@ pub mod RequestsGiven
 mod SacksTell
 mod SettlesPlainly
 mod SkipsTold
-mod Stopping
+pub mod Stopping
 pub mod StopsLeadOn
 pub mod StreamReads
 pub mod StreamsFound

@@ -5,6 +5,7 @@ pub mod BetweenChunks
 pub mod BetweenDirections
 pub mod Callers
 pub mod CallsAreSteps
+pub mod CloseStreamCall
 pub mod Counted
 pub mod OutgoingData
 pub mod PastSpans

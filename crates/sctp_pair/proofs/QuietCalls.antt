@@ -235,12 +235,13 @@ pub record IsUnseen (x : Surroundings) (a : Shown) (acts : List Act) (b : Shown)
   pub incoming : (h : History) → FitsIncoming (receiving (parts a h)) x.coming
       → FitsIncoming (receiving (done_all acts (parts a h))) x.coming
 
-pub unseen_settles : {x : Surroundings} {a b : Shown} (acts : List Act) → IsUnseen x a acts b → a.failed ≡ false
-    → Faces x a → SettlesQuietly x b
-unseen_settles {x} {a} {b} acts u working f =
-    by_working (SettlesQuietly x b) working f
+-- it stands between the same directions then
+pub unseen_stands : {x : Surroundings} {a b : Shown} (acts : List Act) → IsUnseen x a acts b → a.failed ≡ false
+    → Faces x a → StandsAt x b
+unseen_stands {x} {a} {b} acts u working f =
+    by_working (StandsAt x b) working f
     (λ s. let m = u.leads s.past s.binds in
-    still f (at_same a b x.here u.same f.at) (inl (open_on x acts s record {
+    inl (open_on x acts s record {
       past2 = m.0;
       leads = m.1;
       nobody = u.nobody;
@@ -250,8 +251,13 @@ unseen_settles {x} {a} {b} acts u working f =
       size = refl;
       outgoing = u.outgoing s.past s.between.outgoing;
       incoming = u.incoming s.past s.between.incoming;
-    })))
-    (λ s. still f (at_same a b x.here u.same f.at) (inr (inl (closed_on u.same (u.none s.no_reset) (u.empty s.nothing_left) s))))
+    }))
+    (λ s. inr (inl (closed_on u.same (u.none s.no_reset) (u.empty s.nothing_left) s)))
+
+pub unseen_settles : {x : Surroundings} {a b : Shown} (acts : List Act) → IsUnseen x a acts b → a.failed ≡ false
+    → Faces x a → SettlesQuietly x b
+unseen_settles {x} {a} {b} acts u working f =
+    still f (at_same a b x.here u.same f.at) (unseen_stands acts u working f)
 
 -- the same of a call without acts that leaves the streams as they are
 pub stage_settles : {x : Surroundings} {a b : Shown} → KeepsTheStage a b × (b.streams ≡ a.streams)

@@ -24,7 +24,7 @@ use Rattle.sctp_pair.specs.declared.step.Step.{Step}
 use Rattle.sctp_pair.specs.declared.step.Step.TheVariants as steps
 use Rattle.sctp_pair.specs.Ends.{Ends, end_of}
 use Rattle.sctp_pair.specs.Fits.{EndsInOrder}
-use Rattle.sctp_assoc.specs.Replies.{AcceptsStream, Buffers, ClosesOne, Expires, Finds}
+use Rattle.sctp_assoc.specs.Replies.{AcceptsStream, Buffers, ClosesOne, ClosesStream, Expires, Finds}
 use Rattle.sctp_pair.specs.Steps.{AtSide, ComesTo, Delivers}
 use Rattle.sctp_assoc.specs.Replies.{GivesOut, Limits, Lists, Measures, Opens, PollsEndpointEvent, PollsEvent, Reads}
 use Rattle.sctp_assoc.specs.Replies.{Sets, ShowsOrRefuses, ShutsDown, Stops, TakesIn, Writes, WritesFirst, packet_in}
@@ -83,7 +83,15 @@ stops_end a b id (replies.Refused n) (inl refused) = same_ends refused.1
 stops_end a b id (replies.Refused n) (inr fails) = λ e. failed_ends b fails.2.2.marked
 stops_end a b id r h = absurd h
 
-sets_end : (a b : Shown) (id : ℕ) (setting : Setting) (r : Reply) → Sets a id setting r b → EndsInOrder a
+closes_stream_end : (a b : Shown) (id : ℕ) (r : Reply) → ClosesStream a id r b → EndsInOrder a → EndsInOrder b
+closes_stream_end a b id replies.Done h =
+    made_ends (Call.CloseStream id) a b tt (sym h.1)
+    (λ works. (found_streams_are_live a id (found_none _ _ h.0)).working)
+closes_stream_end a b id (replies.Refused n) (inl refused) = same_ends refused.1
+closes_stream_end a b id (replies.Refused n) (inr fails) = λ e. failed_ends b fails.2.2.marked
+closes_stream_end a b id r h = absurd h
+
+pub sets_end : (a b : Shown) (id : ℕ) (setting : Setting) (r : Reply) → Sets a id setting r b → EndsInOrder a
     → EndsInOrder b
 sets_end a b id setting replies.Done h =
     made_ends (Call.Set id setting) a b tt (sym h.1) (λ works. (found_streams_are_live a id h.0).working)
@@ -225,6 +233,8 @@ module _ (r : Reply) (p q : Ends) (x : Side2) where
   step_ends (steps.ReadSctp side id) h = at_side side x p q (λ a b. Reads a id r b) (λ a b c. reads_end a b id r c) h
   step_ends (steps.Finish side id) h = setting_at side id settings.WriteHalfClosed h
   step_ends (steps.Stop side id) h = at_side side x p q (λ a b. Stops a id r b) (λ a b c. stops_end a b id r c) h
+  step_ends (steps.CloseStream side id) h =
+      at_side side x p q (λ a b. ClosesStream a id r b) (λ a b c. closes_stream_end a b id r c) h
   step_ends (steps.SetReliabilityParams side id unordered kind value) h =
       setting_at side id (settings.Reliability (params_of unordered kind value)) h
   step_ends (steps.SetDefaultPayloadType side id kind) h = setting_at side id (settings.DefaultPayloadType kind) h
@@ -262,6 +272,10 @@ module _ (r : Reply) (p q : Ends) (x : Side2) where
   step_ends (steps.IsDrained side) h = question side _ (λ a b c. c.1) h
   step_ends (steps.IsFailed side) h = question side _ (λ a b c. c.1) h
   step_ends (steps.Rtt side) h = question side (λ a b. Measures a r b) (λ a b c. measures_same a r b c) h
+  step_ends (steps.Stats side) h = question side _ (λ a b c. c.1) h
+  step_ends (steps.Side side) h = question side _ (λ a b c. c.1) h
+  step_ends (steps.RemoteAddr side) h = question side _ (λ a b c. c.1) h
+  step_ends (steps.LocalIp side) h = question side _ (λ a b c. c.1) h
 
 pub shutdowns_end_in_order : (step : Step) (r : Reply) (p q : Ends) (x : Side2) → Steps step p r q
     → EndsInOrder (end_of x p) → EndsInOrder (end_of x q)

@@ -22,7 +22,8 @@ use Rattle.sctp_pair.specs.declared.step.Step.TheVariants as steps
 use Rattle.sctp_pair.specs.Ends.{Ends, end_of, packets_of}
 use Rattle.sctp_assoc.specs.Replies.{Buffers, Expires, Finds, Measures, Opens, Reads}
 use Rattle.sctp_pair.specs.Steps.{AtSide, ComesTo, Delivers, SendsAt}
-use Rattle.sctp_assoc.specs.Replies.{AcceptsStream, ClosesOne, Limits, Lists, Sets, ShowsOrRefuses, PollsEvent}
+use Rattle.sctp_assoc.specs.Replies.{AcceptsStream, ClosesOne, ClosesStream, Limits, Lists, Sets, ShowsOrRefuses}
+use Rattle.sctp_assoc.specs.Replies.{PollsEvent}
 use Rattle.sctp_pair.specs.Steps.{Steps}
 use Rattle.sctp_assoc.specs.Replies.{PollsEndpointEvent, ShutsDown, Stops, Writes}
 use Rattle.sctp_assoc.specs.Replies.{WritesFirst}
@@ -33,7 +34,8 @@ use Rattle.sctp_pair.specs.World.{EndsSpan, is_loose, is_side, loose_after, loos
 use Rattle.sctp_fit.specs.Incoming.{tsn_before}
 use Rattle.sctp_pair.specs.World.{HasData, HasForward, World, other_side, packet_brought, packet_of_bytes}
 use Rattle.sctp_pair.specs.Fits.{AreSaid, Fits, LeadsSafely}
-use Rattle.sctp_pair.proofs.BetweenDirections.{Faces, None_brought, Settles, SettlesQuietly, Surroundings}
+use Rattle.sctp_pair.proofs.BetweenDirections.{Faces, None_brought, None_ended, Settles, SettlesEnding}
+use Rattle.sctp_pair.proofs.BetweenDirections.{SettlesQuietly, Surroundings}
 use Rattle.sctp_pair.proofs.BetweenDirections.{nothing_added, nothing_read}
 use Rattle.sctp_pair.proofs.CallsAreSteps.{IsCallAt, IsCallEnding, around_a, around_b, faces_a, faces_b, settled_a, settled_b}
 use Rattle.sctp_pair.proofs.AcceptedAndRead.{IsQuiet, quiet_call, read_call, write_call}
@@ -44,6 +46,7 @@ use Rattle.sctp_pair.proofs.PollCall.{poll_settles}
 use Rattle.sctp_pair.proofs.ReadCall.{read_by, reads_settle}
 use Rattle.sctp_pair.proofs.QuietCalls.{opens_settle, same_settles}
 use Rattle.sctp_pair.proofs.StreamCalls.{accepts_settle, closes_settle, limits_settle, sets_settle}
+use Rattle.sctp_pair.proofs.CloseStreamCall.{closes_stream_settle}
 use Rattle.sctp_pair.proofs.StopCall.{Ended_by, stops_settle}
 use Rattle.sctp_pair.proofs.StreamCalls.{IsCovered, reliability_settles}
 use Rattle.sctp_pair.proofs.TimedCalls.{drains_settle, expires_settle, shuts_down_settle, tells_settle}
@@ -106,42 +109,42 @@ covered_at side w id unordered kind value replies.Done =
     (set_or_loose unordered kind value)
 covered_at side w id unordered kind value r = tt
 
--- the span that a stop ends is that of its stream
-ends_by : (r : Reply) (side : Side2) (id s : ℕ) → Ended_by r id s → EndsSpan (steps.Stop side id) r s
-ends_by replies.Done side id s e = e
-ends_by r side id s e = absurd e
+-- the span that a stop ends is that of its stream, and so is the one that a close of a stream ends
+stop_ends : (r : Reply) (side : Side2) (id s : ℕ) → Ended_by r id s → EndsSpan (steps.Stop side id) r s
+stop_ends replies.Done side id s e = e
+stop_ends r side id s e = absurd e
+
+close_ends : (r : Reply) (side : Side2) (id s : ℕ) → Ended_by r id s → EndsSpan (steps.CloseStream side id) r s
+close_ends replies.Done side id s e = e
+close_ends r side id s e = absurd e
 
 -- From the pair of the world, which fits it, a step with this reply leads to q.
 module _ (q : Ends) (r : Reply) (w : World) (fits : Fits w.ends w) where
-  -- A stop neither writes nor reads, and may end the span of its stream.
-  stop_call : (side : Side2) (id initial : ℕ)
-      → IsCallEnding (Ended_by r id) (steps.Stop side id) r side w initial nothing_added nothing_read None_brought
-  stop_call side id initial =
-      let quiet = quiet_call (steps.Stop side id) r side w initial (λ y s. (refl, refl)) in
-      record {
-        adds = quiet.adds;
-        reads = quiet.reads;
-        brings = quiet.brings;
-        passes = quiet.passes;
-        adds_alone = quiet.adds_alone;
-        reads_alone = quiet.reads_alone;
-        ends = ends_by r side id;
-      }
+  -- A change of one side's association, by which these spans may end, leads safely where it settles and is what the
+  -- step does.
+  ending_leads : (Ended : ℕ → Type 0) (side : Side2) (step : Step) (Changes : Shown → Shown → Type 0)
+      (Added : Shown → ℕ → List Message) (Read : ℕ → Option letters.ReceivedMessage)
+      → ((x : Surroundings) (a b : Shown) → Changes a b → Faces x a
+      → SettlesEnding Ended x b (Added a) Read None_brought)
+      → IsCallEnding Ended step r side w (initial_to side w) (Added (end_of side w.ends)) Read None_brought
+      → AtSide side w.ends Changes q → Steps step w.ends r q → LeadsSafely step r w q
+  ending_leads Ended sides.A step Changes Added Read settle call (h, e) ends =
+      settled_a step r w q [] fits (ap (λ (z : Ends). z.b) e)
+      (ap (λ (z : Ends). z.packets_a) e ∙ sym (append-nil w.ends.packets_a)) (ap (λ (z : Ends). z.packets_b) e) ends
+      (settle (around_a step r w fits) w.ends.a q.a h (faces_a step r w fits)) tt call
+  ending_leads Ended sides.B step Changes Added Read settle call (h, e) ends =
+      settled_b step r w q [] fits (ap (λ (z : Ends). z.a) e)
+      (ap (λ (z : Ends). z.packets_b) e ∙ sym (append-nil w.ends.packets_b)) (ap (λ (z : Ends). z.packets_a) e) ends
+      (settle (around_b step r w fits) w.ends.b q.b h (faces_b step r w fits)) tt call
 
-  -- A change of one side's association leads safely where it settles and is what the step does.
+  -- the same of one by which none ends
   change_leads : (side : Side2) (step : Step) (Changes : Shown → Shown → Type 0) (Added : Shown → ℕ → List Message)
       (Read : ℕ → Option letters.ReceivedMessage)
       → ((x : Surroundings) (a b : Shown) → Changes a b → Faces x a → Settles x b (Added a) Read None_brought)
       → IsCallAt step r side w (initial_to side w) (Added (end_of side w.ends)) Read None_brought
       → AtSide side w.ends Changes q → Steps step w.ends r q → LeadsSafely step r w q
-  change_leads sides.A step Changes Added Read settle call (h, e) ends =
-      settled_a step r w q [] fits (ap (λ (z : Ends). z.b) e)
-      (ap (λ (z : Ends). z.packets_a) e ∙ sym (append-nil w.ends.packets_a)) (ap (λ (z : Ends). z.packets_b) e) ends
-      (settle (around_a step r w fits) w.ends.a q.a h (faces_a step r w fits)) tt call
-  change_leads sides.B step Changes Added Read settle call (h, e) ends =
-      settled_b step r w q [] fits (ap (λ (z : Ends). z.a) e)
-      (ap (λ (z : Ends). z.packets_b) e ∙ sym (append-nil w.ends.packets_b)) (ap (λ (z : Ends). z.packets_a) e) ends
-      (settle (around_b step r w fits) w.ends.b q.b h (faces_b step r w fits)) tt call
+  change_leads side step Changes Added Read settle call h ends =
+      ending_leads None_ended side step Changes Added Read settle call h ends
 
   -- the same of one that neither writes nor reads
   quiet_leads : (side : Side2) (step : Step) (Changes : Shown → Shown → Type 0)
@@ -157,6 +160,24 @@ module _ (q : Ends) (r : Reply) (w : World) (fits : Fits w.ends w) where
       → Steps step w.ends r q → LeadsSafely step r w q
   same_leads side step Changes stays quiet h ends =
       quiet_leads side step Changes (λ x a b c f. same_settles (stays a b c) f) quiet h ends
+
+  -- A step that neither writes nor reads, and may end the span of this stream, leads safely.
+  stopping_leads : (id : ℕ) (side : Side2) (step : Step) (Changes : Shown → Shown → Type 0)
+      → ((x : Surroundings) (a b : Shown) → Changes a b → Faces x a
+      → SettlesEnding (Ended_by r id) x b nothing_added nothing_read None_brought)
+      → IsQuiet step r w → ((s : ℕ) → Ended_by r id s → EndsSpan step r s)
+      → AtSide side w.ends Changes q → Steps step w.ends r q → LeadsSafely step r w q
+  stopping_leads id side step Changes settle is_quiet ends h leads =
+      let quiet = quiet_call step r side w (initial_to side w) is_quiet in
+      ending_leads (Ended_by r id) side step Changes (λ a. nothing_added) nothing_read settle record {
+        adds = quiet.adds;
+        reads = quiet.reads;
+        brings = quiet.brings;
+        passes = quiet.passes;
+        adds_alone = quiet.adds_alone;
+        reads_alone = quiet.reads_alone;
+        ends = ends;
+      } h leads
 
   -- A poll for packets leads safely.
   send_leads : (side : Side2) (now : ℕ) → SendsAt side w.ends now r q
@@ -227,18 +248,6 @@ module _ (q : Ends) (r : Reply) (w : World) (fits : Fits w.ends w) where
       (faces_b step r w fits)) tt
       (quiet_call step r sides.B w w.initial_a (λ y s. (refl, refl)))
 
-  -- A stop leads safely.
-  stop_leads : (side : Side2) (id : ℕ) → AtSide side w.ends (λ a b. Stops a id r b) q
-      → LeadsSafely (steps.Stop side id) r w q
-  stop_leads sides.A id (h, e) =
-      settled_a (steps.Stop sides.A id) r w q [] fits (ap (λ (z : Ends). z.b) e)
-      (ap (λ (z : Ends). z.packets_a) e ∙ sym (append-nil w.ends.packets_a)) (ap (λ (z : Ends). z.packets_b) e) (h, e)
-      (stops_settle id r h (faces_a (steps.Stop sides.A id) r w fits)) tt (stop_call sides.A id w.initial_b)
-  stop_leads sides.B id (h, e) =
-      settled_b (steps.Stop sides.B id) r w q [] fits (ap (λ (z : Ends). z.a) e)
-      (ap (λ (z : Ends). z.packets_b) e ∙ sym (append-nil w.ends.packets_b)) (ap (λ (z : Ends). z.packets_a) e) (h, e)
-      (stops_settle id r h (faces_b (steps.Stop sides.B id) r w fits)) tt (stop_call sides.B id w.initial_a)
-
   -- each step
   step_at : (step : Step) → Steps step w.ends r q → LeadsSafely step r w q
   step_at (steps.OpenStream side id kind) h =
@@ -280,7 +289,12 @@ module _ (q : Ends) (r : Reply) (w : World) (fits : Fits w.ends w) where
   step_at (steps.Finish side id) h =
       quiet_leads side (steps.Finish side id) (λ a b. Sets a id settings.WriteHalfClosed r b)
       (λ x a b c. sets_settle id settings.WriteHalfClosed r (λ s n. n) c) (λ y s. (refl, refl)) h h
-  step_at (steps.Stop side id) h = stop_leads side id h
+  step_at (steps.Stop side id) h =
+      stopping_leads id side (steps.Stop side id) (λ a b. Stops a id r b) (λ x a b c. stops_settle id r c)
+      (λ y s. (refl, refl)) (stop_ends r side id) h h
+  step_at (steps.CloseStream side id) h =
+      stopping_leads id side (steps.CloseStream side id) (λ a b. ClosesStream a id r b)
+      (λ x a b c. closes_stream_settle id r c) (λ y s. (refl, refl)) (close_ends r side id) h h
   step_at (steps.SetReliabilityParams side id unordered kind value) h = set_leads side id unordered kind value h
   step_at (steps.SetDefaultPayloadType side id kind) h =
       quiet_leads side (steps.SetDefaultPayloadType side id kind)
@@ -365,6 +379,14 @@ module _ (q : Ends) (r : Reply) (w : World) (fits : Fits w.ends w) where
   step_at (steps.Rtt side) h =
       same_leads side (steps.Rtt side) (λ a b. Measures a r b) (λ a b c. measures_same a r b c)
       (λ y s. (refl, refl)) h h
+  step_at (steps.Stats side) h =
+      same_leads side (steps.Stats side) _ (λ a b c. c.1) (λ y s. (refl, refl)) h h
+  step_at (steps.Side side) h =
+      same_leads side (steps.Side side) _ (λ a b c. c.1) (λ y s. (refl, refl)) h h
+  step_at (steps.RemoteAddr side) h =
+      same_leads side (steps.RemoteAddr side) _ (λ a b c. c.1) (λ y s. (refl, refl)) h h
+  step_at (steps.LocalIp side) h =
+      same_leads side (steps.LocalIp side) _ (λ a b c. c.1) (λ y s. (refl, refl)) h h
 
 -- From each world in which a pair stands, a step leads to a next one; where that is within the limits, the pair stands
 -- in it, and it is safe.

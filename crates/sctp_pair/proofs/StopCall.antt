@@ -38,7 +38,7 @@ use Rattle.sctp_pair.proofs.WriteCall.{first_none}
 use Rattle.sctp_pair.proofs.HandshakeStages.{at_same, stays_put}
 
 -- A call that ends no span is one that may end some.
-quietly : {Ended : ℕ → Type 0} {x : Surroundings} {b : Shown} → SettlesQuietly x b
+pub quietly : {Ended : ℕ → Type 0} {x : Surroundings} {b : Shown} → SettlesQuietly x b
     → SettlesEnding Ended x b nothing_added nothing_read None_brought
 quietly {Ended} {x} s = record {
   out2 = s.out2;
@@ -79,7 +79,7 @@ quietly {Ended} {x} s = record {
 -- The span of one stream ends
 
 -- this stream
-abbrev That : ℕ → ℕ → Type 0
+abbrev pub That : ℕ → ℕ → Type 0
 That id s = (id == s) ≡ true
 
 -- a stream is past its span then where it was, or is that one
@@ -328,20 +328,25 @@ abbrev pub Ended_by : Reply → ℕ → ℕ → Type 0
 Ended_by replies.Done id s = That id s
 Ended_by r id s = ⊥
 
--- A stop ends the span of its stream, if it ends one. A closed association stops nothing.
-pub stops_settle : {x : Surroundings} {a b : Shown} (id : ℕ) (r : Reply) → Stops a id r b → Faces x a
-    → SettlesEnding (Ended_by r id) x b nothing_added nothing_read None_brought
-stops_settle {x} {a} id replies.Done h f =
-    let unrefused = first_none (stream_refusal a id) (stop_refusal a id) h.0 in
+-- A stop that is not refused ends the span of its stream, if it ends one. A closed association stops nothing.
+pub stopped_settles : {x : Surroundings} {a : Shown} (id : ℕ) → stop_refusal a id ≡ None → Faces x a
+    → SettlesEnding (That id) x (stopped a id) nothing_added nothing_read None_brought
+stopped_settles {x} {a} id unrefused f =
     let working = works_where_unrefused a.failed (stop_refusal_at a id (stream_at a.streams id)) unrefused in
     let Settled : Shown → Type 0 = λ (z : Shown). SettlesEnding (That id) x z nothing_added nothing_read None_brought in
-    subst Settled (sym h.1)
-    (by_working (Settled (stopped a id)) working f
+    by_working (Settled (stopped a id)) working f
     (λ s. stop_open id f s)
     (λ s. ⊎_elim
     (λ (same : stopped a id ≡ a). quietly (same_settles same f))
     (λ (e : is_established a.state ≡ true). absurd (true≢false (sym e ∙ s.unestablished)))
-    (stops_are_in_established a id s.no_reset unrefused)))
+    (stops_are_in_established a id s.no_reset unrefused))
+
+-- A stop settles so, or is refused.
+pub stops_settle : {x : Surroundings} {a b : Shown} (id : ℕ) (r : Reply) → Stops a id r b → Faces x a
+    → SettlesEnding (Ended_by r id) x b nothing_added nothing_read None_brought
+stops_settle {x} {a} id replies.Done h f =
+    subst (λ (z : Shown). SettlesEnding (That id) x z nothing_added nothing_read None_brought) (sym h.1)
+    (stopped_settles id (first_none (stream_refusal a id) (stop_refusal a id) h.0) f)
 stops_settle id (replies.Refused n) (inl refused) f = quietly (same_settles refused.1 f)
 stops_settle id (replies.Refused n) (inr fails) f = quietly (fails_settle fails.2.2.marked f)
 stops_settle id r h f = absurd h

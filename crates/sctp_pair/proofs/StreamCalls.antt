@@ -36,25 +36,33 @@ use Rattle.sctp_assoc.specs.declared.call.Reply.TheVariants as replies
 use Rattle.sctp_assoc.specs.Replies.{AcceptsStream, ClosesOne, Limits, Sets}
 use Rattle.sctp_pair.proofs.BetweenDirections.{KeepsOrder, orderly_acts_keep_order}
 use Rattle.sctp_pair.proofs.BetweenDirections.{Faces, SettlesQuietly, Surroundings}
-use Rattle.sctp_pair.proofs.QuietCalls.{by_working, idle_settles, refused_call_settles, same_settles}
+use Rattle.sctp_pair.proofs.QuietCalls.{IsUnseen, by_working, idle_settles, refused_call_settles, same_settles}
 use Rattle.sctp_pair.proofs.QuietCalls.{settles_by_receiver, unseen_settles}
 
 -- Something is set on a stream
 
-module _ (x : Surroundings) (a : Shown) (id : ℕ) (setting : Setting) (f : Faces x a) where
-  adjusted_settles : KeepsOrder x.loose (Act.Adjusted id setting) → stream_refusal a id ≡ None
-      → SettlesQuietly x (adjusted a id setting)
-  adjusted_settles orderly e = unseen_settles (Act.Adjusted id setting ∷ []) record {
-    same = the_same_status_is_the_same_stage a (adjusted a id setting) (settings_keep_the_status a id setting);
-    none = settings_begin_no_reset a id setting;
-    past = settings_reset_no_more a id setting;
-    empty = settings_hold_nothing a id setting;
-    leads = setting_leads_on a (adjusted a id setting) id setting refl;
-    nobody = (tt, tt);
-    orderly = (orderly, tt);
-    outgoing = λ h. settings_are_no_events (parts a h) id setting x.out;
-    incoming = λ h. own_acts_leave_what_comes (Act.Adjusted id setting) (parts a h) x.coming tt;
-  } (found_streams_are_live a id e).working f
+-- the directions do not see it
+pub adjusted_unseen : (x : Surroundings) (a : Shown) (id : ℕ) (setting : Setting)
+    → KeepsOrder x.loose (Act.Adjusted id setting)
+    → IsUnseen x a (Act.Adjusted id setting ∷ []) (adjusted a id setting)
+adjusted_unseen x a id setting orderly = record {
+  same = the_same_status_is_the_same_stage a (adjusted a id setting) (settings_keep_the_status a id setting);
+  none = settings_begin_no_reset a id setting;
+  past = settings_reset_no_more a id setting;
+  empty = settings_hold_nothing a id setting;
+  leads = setting_leads_on a (adjusted a id setting) id setting refl;
+  nobody = (tt, tt);
+  orderly = (orderly, tt);
+  outgoing = λ h. settings_are_no_events (parts a h) id setting x.out;
+  incoming = λ h. own_acts_leave_what_comes (Act.Adjusted id setting) (parts a h) x.coming tt;
+}
+
+adjusted_settles : (x : Surroundings) (a : Shown) (id : ℕ) (setting : Setting) → Faces x a
+    → KeepsOrder x.loose (Act.Adjusted id setting) → stream_refusal a id ≡ None
+    → SettlesQuietly x (adjusted a id setting)
+adjusted_settles x a id setting f orderly e =
+    unseen_settles (Act.Adjusted id setting ∷ []) (adjusted_unseen x a id setting orderly)
+    (found_streams_are_live a id e).working f
 
 -- What is set on a live stream, but for its order and reliability, is nothing to the directions.
 pub sets_settle : {x : Surroundings} {a b : Shown} (id : ℕ) (setting : Setting) (r : Reply)

@@ -113,7 +113,7 @@ stays_in_order (a ∷ ss) (r ∷ rs) x s = not (loosens a r x s) && stays_in_ord
 stays_in_order [] rs x s = true
 stays_in_order (a ∷ ss) [] x s = true
 
--- no step stopped stream s, at either side
+-- no step stopped stream s or closed it, at either side
 abbrev pub stays_in_span : List Step → List Reply → ℕ → Bool
 stays_in_span (a ∷ ss) (r ∷ rs) s = not (ends_span a r s) && stays_in_span ss rs s
 stays_in_span [] rs s = true

@@ -7,8 +7,9 @@ use Rattle.sctp_assoc.specs.declared.call.Reply.{Reply}
 use Rattle.sctp_assoc.specs.declared.call.Reply.TheVariants as replies
 use Rattle.sctp_assoc.specs.Calls.{deadline_of, first_filled, has_begun_closing, is_writable}
 use Rattle.sctp_assoc.specs.Closing.{is_closed_state}
-use Rattle.sctp_assoc.specs.Replies.{AcceptsStream, Buffers, ClosesOne, Expires, Finds, GivesOut, Limits, Lists}
-use Rattle.sctp_assoc.specs.Replies.{Measures, OnlyAnswers, Opens, PollsEndpointEvent, PollsEvent, Reads, Sets}
+use Rattle.sctp_assoc.specs.Replies.{AcceptsStream, Buffers, ClosesOne, ClosesStream, Expires, Finds, GivesOut}
+use Rattle.sctp_assoc.specs.Replies.{Limits, Lists, Measures, OnlyAnswers, Opens, PollsEndpointEvent, PollsEvent}
+use Rattle.sctp_assoc.specs.Replies.{Reads, Sets}
 use Rattle.sctp_assoc.specs.Replies.{ShowsOrRefuses, ShutsDown, Stops, TakesIn, Writes, WritesFirst}
 use Rattle.sctp_assoc.specs.Shown.{Shown}
 use Rattle.sctp_pair.specs.declared.step.Side2.{Side2}
@@ -60,6 +61,7 @@ Steps (steps.Read side id) p r q = AtSide side p (λ a b. Reads a id r b) q
 Steps (steps.ReadSctp side id) p r q = AtSide side p (λ a b. Reads a id r b) q
 Steps (steps.Finish side id) p r q = AtSide side p (λ a b. Sets a id settings.WriteHalfClosed r b) q
 Steps (steps.Stop side id) p r q = AtSide side p (λ a b. Stops a id r b) q
+Steps (steps.CloseStream side id) p r q = AtSide side p (λ a b. ClosesStream a id r b) q
 Steps (steps.SetReliabilityParams side id unordered kind value) p r q =
     AtSide side p (λ a b. Sets a id (settings.Reliability (params_of unordered kind value)) r b) q
 Steps (steps.SetDefaultPayloadType side id kind) p r q =
@@ -96,6 +98,10 @@ Steps (steps.IsClosing side) p r q = AtSide side p (λ a b. OnlyAnswers a (repli
 Steps (steps.IsDrained side) p r q = AtSide side p (λ a b. OnlyAnswers a (replies.State a.lost) r b) q
 Steps (steps.IsFailed side) p r q = AtSide side p (λ a b. OnlyAnswers a (replies.State a.failed) r b) q
 Steps (steps.Rtt side) p r q = AtSide side p (λ a b. Measures a r b) q
+Steps (steps.Stats side) p r q = AtSide side p (λ a b. OnlyAnswers a (replies.Stats a.counts) r b) q
+Steps (steps.Side side) p r q = AtSide side p (λ a b. OnlyAnswers a (replies.Side a.side) r b) q
+Steps (steps.RemoteAddr side) p r q = AtSide side p (λ a b. OnlyAnswers a (replies.RemoteAddr a.remote_addr) r b) q
+Steps (steps.LocalIp side) p r q = AtSide side p (λ a b. OnlyAnswers a (replies.LocalIp a.local_ip) r b) q
 
 -- What steps write and read.
 

@@ -153,10 +153,12 @@ HasForward (Some packet) t =
     ⊎ ((k : ℕ) × (c : ChunkIForwardTsn) × (slice_get packet.chunks k ≡ Some (chunks.IForwardTsn c))
     × (c.new_cumulative_tsn ≡ t))
 
--- A step with this reply may end the span of stream s: it stops the stream, at either end. What resets and retires a
--- stream follows a stop of it (a loss is no such end: it closes the receiver).
+-- A step with this reply may end the span of stream s: it stops the stream, at either end, and so does a step that
+-- closes both halves of it. What resets and retires a stream follows a stop of it (a loss is no such end: it closes the
+-- receiver).
 abbrev pub ends_span : Step → Reply → ℕ → Bool
 ends_span (steps.Stop side id) replies.Done s = id == s
+ends_span (steps.CloseStream side id) replies.Done s = id == s
 ends_span step reply s = false
 
 abbrev pub EndsSpan : Step → Reply → ℕ → Type 0
@@ -188,8 +190,8 @@ pub record IsDirectionStep (step : Step) (reply : Reply) (sender receiver : Side
   pub no_more : IsOpen (end_of sender q) ⊎ (after.sender.plan.places ≡ before.sender.plan.places)
   -- the payload size, by which messages are cut, stays
   pub size : after.sender.plan.size ≡ before.sender.plan.size
-  -- a stream's span ends only where the step stops the stream, at either end (RFC 6525 section 5), and does not begin
-  -- again
+  -- a stream's span ends only where the step stops or closes the stream, at either end (RFC 6525 section 5), and does
+  -- not begin again
   pub span : (s : ℕ) → after.over s ≡ true → (before.over s ≡ true) ⊎ EndsSpan step reply s
   pub span_over : (s : ℕ) → before.over s ≡ true → after.over s ≡ true
   -- what the receiver passed over moves only to the new cumulative TSN of a FORWARD TSN in the packet that the step

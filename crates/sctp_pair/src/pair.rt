@@ -247,11 +247,12 @@ impl Pair {
     /// as its streams are read and its packets acknowledged. It is enough, too, that each side accepts fewer than
     /// 16,384 pieces in all.
     ///
-    /// This is said of streams that no `Stop`, at either side, was answered `Done` for. On each of them that no
-    /// `SetReliabilityParams` of the writer's side had send other messages than ordered, reliable ones, the messages
-    /// that one side's reads answered are, in order, a prefix of those that the other side's accepted writes gave
-    /// (`front`). On every one of them, each message is one of those, whole, and none comes twice (`written`). Nothing
-    /// is read on them at a side before the first delivery to it that is answered `Done` (`undelivered`).
+    /// This is said of streams that no `Stop` and no `CloseStream`, at either side, was answered `Done` for. On each
+    /// of them that no `SetReliabilityParams` of the writer's side had send other messages than ordered, reliable
+    /// ones, the messages that one side's reads answered are, in order, a prefix of those that the other side's
+    /// accepted writes gave (`front`). On every one of them, each message is one of those, whole, and none comes twice
+    /// (`written`). Nothing is read on them at a side before the first delivery to it that is answered `Done`
+    /// (`undelivered`).
     ///
     /// More is said over worlds, which docs/MODEL.md has in words. From each world that the pair fits, the steps lead
     /// from world to world, in each of which the pair stands. As long as each so far is within the limits, it is safe
@@ -350,6 +351,7 @@ impl Pair {
             Step::ReadSctp { side, id } => calls::read_sctp(self.end(*side), *id),
             Step::Finish { side, id } => calls::finish(self.end(*side), *id),
             Step::Stop { side, id } => calls::stop(self.end(*side), *id),
+            Step::CloseStream { side, id } => calls::close_stream(self.end(*side), *id),
             Step::SetReliabilityParams {
                 side,
                 id,
@@ -395,6 +397,10 @@ impl Pair {
             Step::PollEndpointEvent { side } => calls::poll_endpoint_event(self.end(*side)),
             Step::PollTimeout { side } => Reply::Timeout(self.association(*side).poll_timeout()),
             Step::Rtt { side } => Reply::Rtt(self.association(*side).rtt()),
+            Step::Stats { side } => Reply::Stats(self.association(*side).stats()),
+            Step::Side { side } => Reply::Side(self.association(*side).side()),
+            Step::RemoteAddr { side } => Reply::RemoteAddr(self.association(*side).remote_addr()),
+            Step::LocalIp { side } => Reply::LocalIp(self.association(*side).local_ip()),
             Step::IsHandshaking { side } => Reply::State(self.association(*side).is_handshaking()),
             Step::IsClosed { side } => Reply::State(self.association(*side).is_closed()),
             Step::IsClosing { side } => Reply::State(self.association(*side).is_closing()),

@@ -92,6 +92,12 @@ pub enum Step {
         side: Side2,
         id: StreamId,
     },
+    /// `Stream::close`, of both halves. From then on nothing is promised of the stream, at either side, as after a
+    /// `Stop`. Its reply is `Done`.
+    CloseStream {
+        side: Side2,
+        id: StreamId,
+    },
     /// `Stream::set_reliability_params`: whether messages that are written from now on are sent unordered, and how long
     /// each is tried. Its reply is `Done`.
     SetReliabilityParams {
@@ -219,6 +225,22 @@ pub enum Step {
     },
     /// `Association::rtt`, the retransmission timeout. Its reply is `Rtt`.
     Rtt {
+        side: Side2,
+    },
+    /// `Association::stats`. Its reply is `Stats`.
+    Stats {
+        side: Side2,
+    },
+    /// `Association::side`: whether this side of the pair is a client or a server. Its reply is `Side`.
+    Side {
+        side: Side2,
+    },
+    /// `Association::remote_addr`. Its reply is `RemoteAddr`.
+    RemoteAddr {
+        side: Side2,
+    },
+    /// `Association::local_ip`. Its reply is `LocalIp`.
+    LocalIp {
         side: Side2,
     },
 }
