@@ -18,7 +18,7 @@ use Rattle.sctp_sides.proofs.TimersOverRuns.{Works, accepted_works}
 
 -- An association that failed stays so.
 
-carried_out_fails : (call : Call) (told : List Event) (a b : Shown) → carried_out call a ≡ (b, told) → Works call a
+pub carried_out_fails : (call : Call) (told : List Event) (a b : Shown) → carried_out call a ≡ (b, told) → Works call a
     → a.failed ≡ true → b.failed ≡ true
 carried_out_fails call told a b there (inl works) failed = absurd (false≢true (sym works ∙ failed))
 carried_out_fails call told a b there (inr (event, still)) failed =

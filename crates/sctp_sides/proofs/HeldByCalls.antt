@@ -39,7 +39,7 @@ module _ (P : ChunkPayloadData → Type 0) where
   written_held_at None a id named bytes = stays_held P a
   written_held_at (Some s) a id named bytes =
       streams_held P a (written_under (type_on s named) s a id bytes)
-      (λ h. changed_holds P (λ t. accepted_by t (type_on s named) (length bytes)) (λ t held. held) a.streams id
+      (λ h. changed_holds P (λ t. accepted_by t (type_on s named) (length bytes)) (λ k t held. held) a.streams id
       h.streams)
       refl
 
@@ -48,13 +48,13 @@ module _ (P : ChunkPayloadData → Type 0) where
   written_held a id named bytes = written_held_at (stream_at a.streams id) a id named bytes
 
   -- no setting changes what waits to be read of a stream
-  set_holds : (setting : Setting) (s : StreamView) → HoldsOnly P s.reassembly
-      → HoldsOnly P (with_setting s setting).reassembly
-  set_holds (settings.DefaultPayloadType kind) s h = h
-  set_holds (settings.Reliability params) s h = h
-  set_holds (settings.LowMark bytes) s h = h
-  set_holds (settings.HighMark bytes) s h = h
-  set_holds settings.WriteHalfClosed s h = h
+  set_holds : (setting : Setting) (id : ℕ) (s : StreamView) → HoldsOnly P id s.reassembly
+      → HoldsOnly P id (with_setting s setting).reassembly
+  set_holds (settings.DefaultPayloadType kind) id s h = h
+  set_holds (settings.Reliability params) id s h = h
+  set_holds (settings.LowMark bytes) id s h = h
+  set_holds (settings.HighMark bytes) id s h = h
+  set_holds settings.WriteHalfClosed id s h = h
 
   pub adjusted_held : (a : Shown) (id : ℕ) (setting : Setting) → KeepsHeld P a (adjusted a id setting)
   adjusted_held a id setting =
@@ -115,13 +115,13 @@ module _ (P : ChunkPayloadData → Type 0) where
         (record { streams = (read_in_holds P a.streams id h.streams).0; kept = h.kept });
   }
 
-  read_gives_if : (x : StreamMap × Option ReceivedMessage) (a : Shown) (id : ℕ) → IsMadeOfWhereThere P x.1
-      → IsMadeOfWhereThere P (after_read a id x).1
+  read_gives_if : (x : StreamMap × Option ReceivedMessage) (a : Shown) (id : ℕ) → IsMadeOfWhereThere P id x.1
+      → IsMadeOfWhereThere P id (after_read a id x).1
   read_gives_if (streams, None) a id made = made
   read_gives_if (streams, Some message) a id made = made
 
   -- a message that is read was held
-  pub read_gives : (a : Shown) (id : ℕ) → SideHoldsOnly P a → IsMadeOfWhereThere P (read_from_stream a id).1
+  pub read_gives : (a : Shown) (id : ℕ) → SideHoldsOnly P a → IsMadeOfWhereThere P id (read_from_stream a id).1
   read_gives a id h = read_gives_if (read_in a.streams id) a id (read_in_holds P a.streams id h.streams).1
 
   -- Stops
@@ -129,7 +129,7 @@ module _ (P : ChunkPayloadData → Type 0) where
   half_held : (a : Shown) (id : ℕ) → KeepsHeld P a (without_read_half_of a id)
   half_held a id =
       streams_held P a (without_read_half_of a id)
-      (λ h. changed_holds P (λ s. with_halves s (without_read_half s.halves)) (λ s held. held) a.streams id h.streams)
+      (λ h. changed_holds P (λ s. with_halves s (without_read_half s.halves)) (λ k s held. held) a.streams id h.streams)
       refl
 
   stopped_held_if : (retires : Bool) (b : Shown) (id : ℕ)

@@ -140,17 +140,18 @@ module _ (P : ChunkPayloadData → Type 0) where
       (told_keeps (is_readable_in streams piece.stream_identifier) kept b piece.stream_identifier refl)
 
   taken_unless_keeps : (refusal : Option Error) (a : Shown) (piece : ChunkPayloadData) → P piece
+      → refusal_in a.streams piece.stream_identifier piece a.receiver.max_receive_message_size ≡ refusal
       → KeepsHeld P a (taken_unless refusal a piece).0
-  taken_unless_keeps (Some fault) a piece came = stays_held P a
-  taken_unless_keeps None a piece came =
+  taken_unless_keeps (Some fault) a piece came refused = stays_held P a
+  taken_unless_keeps None a piece came accepted =
       message_keeps a piece (pushed_in a.streams piece.stream_identifier piece)
-      (λ h. pushed_in_holds P a.streams piece.stream_identifier piece h.streams came)
+      (λ h. pushed_in_holds P a.streams piece a.receiver.max_receive_message_size h.streams came accepted)
 
   taken_in_keeps : (a : Shown) (piece : ChunkPayloadData) → P piece → KeepsHeld P a (taken_in a piece).0
   unfolding taken_in
   taken_in_keeps a piece came =
       taken_unless_keeps (refusal_in a.streams piece.stream_identifier piece a.receiver.max_receive_message_size) a
-      piece came
+      piece came refl
 
   then_skips_keep : (x : Shown × Option Error) (id : ℕ) → KeepsHeld P x.0 (then_skips x id).0
   then_skips_keep (a, None) id = skips_applied_of_keep id a
@@ -336,7 +337,7 @@ module _ (P : ChunkPayloadData → Type 0) where
       rw e (record { holds = λ h. with_skip_holds P a.resets a.streams id ssn tsn h })
   skip_keeps_if false tsn id ssn a e =
       rw e (streams_held P a _
-      (λ h. changed_holds P (stream_skipped ssn) (λ s held. skipped_holds P s.reassembly ssn held) a.streams id
+      (λ h. changed_holds P (stream_skipped ssn) (λ k s held. skipped_holds P k s.reassembly ssn held) a.streams id
       h.streams)
       refl)
 

@@ -1,6 +1,6 @@
 -- What is so of each piece that waits to be read, on a live stream or for a generation that is not read yet, stays so
 -- whatever happens to resets.
-use Rattle.std.proofs.Common.{ℕ, zero, suc, ◌==◌, ◌&&◌, Bool, true, false, not, cond}
+use Rattle.std.proofs.Common.{◌≡◌, refl, ℕ, zero, suc, ◌==◌, ◌&&◌, Bool, true, false, not, cond}
 use Rattle.std.proofs.Common.{List, [], ◌∷◌, fold, filter, Option, Some, None, is_some, remove, slice_get}
 use Rattle.std.proofs.Common.{Result, Ok, Err}
 use Rattle.std.specs.List.{AllByRecursion}
@@ -92,12 +92,13 @@ module _ (P : ChunkPayloadData → Type 0) where
   given_holds : (limit : ℕ) (c : Channels) (there : Bool) (d : ChunkPayloadData) → ChannelsHoldOnly c → P d
       → ChannelsHoldOnly (given_where limit (c, there) d)
   given_holds limit c false d h one = h
-  given_holds limit c true d h one = by (refusal_in c.streams d.stream_identifier d limit)
+  given_holds limit c true d h one = by (refusal_in c.streams d.stream_identifier d limit) refl
     where
-      by : (o : Option Error) → ChannelsHoldOnly (given_unless o c d)
-      by (Some fault) = h
-      by None =
-          let pushed = pushed_in_holds P c.streams d.stream_identifier d h one in
+      by : (o : Option Error) → refusal_in c.streams d.stream_identifier d limit ≡ o
+          → ChannelsHoldOnly (given_unless o c d)
+      by (Some fault) refused = h
+      by None accepted =
+          let pushed = pushed_in_holds P c.streams d limit h one accepted in
           of_chosen ChannelsHoldOnly
           ((pushed_in c.streams d.stream_identifier d).1
           && is_readable_in (pushed_in c.streams d.stream_identifier d).0 d.stream_identifier) _ _ pushed pushed
@@ -125,7 +126,7 @@ module _ (P : ChunkPayloadData → Type 0) where
   tried_holds : (g : Skipping) (s : KeptSkip) → IsSkippingOnly g → IsSkippingOnly (skip_tried g s)
   tried_holds (g, m, told) s h = (
     changed_holds P (stream_skipped (end_of_skip s m))
-        (λ t held. skipped_holds P t.reassembly (end_of_skip s m) held) m s.id h.0,
+        (λ k t held. skipped_holds P k t.reassembly (end_of_skip s m) held) m s.id h.0,
     of_chosen KeepsOnly (reaches_its_ssn s m) g (with_kept_skip g s) h.1 h.1,
   )
 
@@ -246,7 +247,7 @@ module _ (P : ChunkPayloadData → Type 0) where
       changed b =
           of_chosen (λ (n : Answering). StreamsHoldOnly P n.streams) (b && is_read_half_closed a.streams id) _ _
           (without_stream_holds P a.streams id h)
-          (changed_holds P with_restarted_ssn (λ s held. held) a.streams id h)
+          (changed_holds P with_restarted_ssn (λ k s held. held) a.streams id h)
 
       by : (b : Bool)
           → StreamsHoldOnly P (complete_told b (ended_or_restarted b (record a { debts = d }) id) id).streams
@@ -353,7 +354,7 @@ module _ (P : ChunkPayloadData → Type 0) where
     write_half_holds : (closed : Bool) (m : StreamMap) → StreamsHoldOnly P m
         → StreamsHoldOnly P (with_write_half closed m id)
     write_half_holds true m h =
-        changed_holds P (λ s. with_setting s settings.WriteHalfClosed) (λ s held. held) m id h
+        changed_holds P (λ s. with_setting s settings.WriteHalfClosed) (λ k s held. held) m id h
     write_half_holds false m h = h
 
     skipped_over_holds : (s : Reading) → IsReadingOnly s → IsReadingOnly (skipped_over id s)
@@ -410,7 +411,7 @@ module _ (P : ChunkPayloadData → Type 0) where
       left = with_generations r (discarded r.generations id)
 
       emptied : StreamsHoldOnly P (changed_stream without_unread m id)
-      emptied = changed_holds P without_unread (λ s held. empty_holds P) m id h.streams
+      emptied = changed_holds P without_unread (λ k s held. empty_holds P k) m id h.streams
 
       kept_left : KeepsOnly (discarded r.generations id)
       kept_left = all_filtered P _ r.generations.deferred h.kept

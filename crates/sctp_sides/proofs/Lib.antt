@@ -55,6 +55,7 @@ mod PastPackets
 mod PeerRequestsInChunks
 mod PeerRequestsInPolls
 mod PeerRequestsOverRuns
+mod PiecesOfOne
 mod PollsInTime
 mod PollsLeave
 pub mod Proved
@@ -66,6 +67,7 @@ mod ResetsBeside
 mod ResetsNoMore
 mod Retries
 mod RetriesInPolls
+mod RunsListed
 mod SentCounts
 mod ShutdownCalls
 mod ShutdownEnds

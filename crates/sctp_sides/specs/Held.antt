@@ -1,8 +1,9 @@
--- What waits to be read of one side was made of nothing but DATA of which something is so: of the streams, and of what
--- is kept for generations that are not read yet.
-use Rattle.std.specs.Prelude.{◌≡◌, ℕ, true, List, Option, Some, None, ⊤}
+-- What waits to be read of one side was made of nothing but DATA of which something is so, each message of pieces of
+-- one message: on the streams, and in what is kept for generations that are not read yet.
+use Rattle.std.specs.Prelude.{◌≡◌, ℕ, true, false, List, [], ◌∷◌, Option, Some, None, ⊤}
 use Rattle.std.specs.List.{AllByRecursion}
 use Rattle.sctp_wire_types.specs.declared.chunk.ChunkPayloadData.{ChunkPayloadData}
+use Rattle.sctp_wire_types.specs.declared.ids.PayloadProtocolIdentifier.{PayloadProtocolIdentifier}
 use Rattle.sctp_receive_queues.specs.Messages.{ReceivedMessage, message_of}
 use Rattle.sctp_receive_queues.specs.Pieces.{is_complete}
 use Rattle.sctp_receive_queues.specs.Reassembly.{Group, Reassembly}
@@ -10,26 +11,82 @@ use Rattle.sctp_streams.specs.Stream.{StreamView}
 use Rattle.sctp_streams.specs.Streams.{StreamMap}
 use Rattle.sctp_resets.specs.Resets.{ResetsView}
 
--- a message is made of pieces of each of which this is so: from a first to a last, with TSNs that follow one another
-abbrev pub IsMadeOf : (ChunkPayloadData → Type 0) → ReceivedMessage → Type 0
-IsMadeOf P m =
-    (pieces : List ChunkPayloadData) × AllByRecursion P pieces × (is_complete pieces ≡ true) × (m ≡ message_of pieces)
+-- How a message stands among those of its stream (RFC 4960 section 6.6).
+pub data Order : Type 0 where
+  -- in order, by this stream sequence number
+  InOrder : ℕ → Order
+  -- in no order
+  OutOfOrder : Order
+
+-- A piece says this of its message. At the stream sequence number of a piece that is in no order nobody looks.
+abbrev pub HasOrder : Order → ChunkPayloadData → Type 0
+HasOrder (Order.InOrder number) piece = (piece.unordered ≡ false) × (piece.stream_sequence_number ≡ number)
+HasOrder Order.OutOfOrder piece = piece.unordered ≡ true
+
+-- P is so of a piece, and it is one of a message on this stream, of this order and this payload type. (All numbers of
+-- payload types that no application knows are one unknown type.)
+pub record IsPieceOf (P : ChunkPayloadData → Type 0) (id : ℕ) (order : Order) (kind : PayloadProtocolIdentifier)
+    (piece : ChunkPayloadData) : Type 0 where
+  pub is_so : P piece
+  pub stream : piece.stream_identifier ≡ id
+  pub stands : HasOrder order piece
+  pub typed : piece.payload_type ≡ kind
+
+-- none of these begins a message, and none ends one
+
+abbrev pub NoneBegins : List ChunkPayloadData → Type 0
+NoneBegins pieces = AllByRecursion (λ (p : ChunkPayloadData). p.beginning_fragment ≡ false) pieces
+
+abbrev pub NoneEnds : List ChunkPayloadData → Type 0
+NoneEnds pieces = AllByRecursion (λ (p : ChunkPayloadData). p.ending_fragment ≡ false) pieces
+
+-- none but the first begins a message
+abbrev pub OnlyTheFirstBegins : List ChunkPayloadData → Type 0
+OnlyTheFirstBegins [] = ⊤
+OnlyTheFirstBegins (p ∷ ps) = NoneBegins ps
+
+-- none but the last ends one
+abbrev pub OnlyTheLastEnds : List ChunkPayloadData → Type 0
+OnlyTheLastEnds [] = ⊤
+OnlyTheLastEnds (p ∷ []) = ⊤
+OnlyTheLastEnds (p ∷ q ∷ ps) = (p.ending_fragment ≡ false) × OnlyTheLastEnds (q ∷ ps)
+
+-- These are pieces of one message, all or some of them: of each P is so, they have stream, order and payload type in
+-- common, and no piece between others begins or ends a message.
+pub record ArePiecesOf (P : ChunkPayloadData → Type 0) (id : ℕ) (order : Order) (pieces : List ChunkPayloadData)
+    : Type 0 where
+  pub kind : PayloadProtocolIdentifier
+  pub each : AllByRecursion (λ (piece : ChunkPayloadData). IsPieceOf P id order kind piece) pieces
+  pub begun_first : OnlyTheFirstBegins pieces
+  pub ended_last : OnlyTheLastEnds pieces
+
+-- A message on this stream is made of pieces of each of which P is so, and of them all: the first one begins a message
+-- and the last one ends it, none between them does either, and each has the TSN after that of the piece in front of it.
+pub record IsMadeOf (P : ChunkPayloadData → Type 0) (id : ℕ) (m : ReceivedMessage) : Type 0 where
+  pub order : Order
+  pub pieces : List ChunkPayloadData
+  pub are : ArePiecesOf P id order pieces
+  pub complete : is_complete pieces ≡ true
+  pub same : m ≡ message_of pieces
 
 -- so is this one, if there is one
-abbrev pub IsMadeOfWhereThere : (ChunkPayloadData → Type 0) → Option ReceivedMessage → Type 0
-IsMadeOfWhereThere P None = ⊤
-IsMadeOfWhereThere P (Some m) = IsMadeOf P m
+abbrev pub IsMadeOfWhereThere : (ChunkPayloadData → Type 0) → ℕ → Option ReceivedMessage → Type 0
+IsMadeOfWhereThere P id None = ⊤
+IsMadeOfWhereThere P id (Some m) = IsMadeOf P id m
 
--- This is so of each piece that a stream holds, and of those of which its complete messages are made.
-pub record HoldsOnly (P : ChunkPayloadData → Type 0) (q : Reassembly) : Type 0 where
-  pub ordered : AllByRecursion (λ (g : Group). AllByRecursion P g.pieces) q.ordered
-  pub unordered : AllByRecursion (λ (run : List ChunkPayloadData). AllByRecursion P run) q.unordered
-  pub complete : AllByRecursion (λ (m : ReceivedMessage). IsMadeOf P m) q.complete
+-- P is so of each piece that this stream holds, and of those of which its complete messages are made. What it holds of
+-- one message, and a run of pieces in no order, are pieces of one message.
+pub record HoldsOnly (P : ChunkPayloadData → Type 0) (id : ℕ) (q : Reassembly) : Type 0 where
+  pub ordered : AllByRecursion (λ (g : Group). ArePiecesOf P id (Order.InOrder g.ssn) g.pieces) q.ordered
+  pub unordered :
+      AllByRecursion (λ (run : List ChunkPayloadData). ArePiecesOf P id Order.OutOfOrder run) q.unordered
+  pub complete : AllByRecursion (λ (m : ReceivedMessage). IsMadeOf P id m) q.complete
 
 abbrev pub StreamsHoldOnly : (ChunkPayloadData → Type 0) → StreamMap → Type 0
-StreamsHoldOnly P m = AllByRecursion (λ (e : ℕ × StreamView). HoldsOnly P e.1.reassembly) m.by_id
+StreamsHoldOnly P m = AllByRecursion (λ (e : ℕ × StreamView). HoldsOnly P e.0 e.1.reassembly) m.by_id
 
--- and of each piece that is kept for a generation that is not read yet
+-- and of each piece that is kept for a generation that is not read yet; which of them are pieces of one message is
+-- found when that generation is read, as of those that come then
 pub record IsHeldOnly (P : ChunkPayloadData → Type 0) (r : ResetsView) (m : StreamMap) : Type 0 where
   pub streams : StreamsHoldOnly P m
   pub kept : AllByRecursion P r.generations.deferred

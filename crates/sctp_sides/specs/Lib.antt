@@ -13,3 +13,4 @@ pub mod Repeats
 pub mod Witnesses
 pub mod Held
 pub mod Brought
+pub mod Runs

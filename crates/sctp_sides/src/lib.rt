@@ -58,6 +58,8 @@ ghost use Rattle.sctp_sides.specs.Repeats.{CompletedNumbersAreRepeats, Completed
 ghost use Rattle.sctp_sides.specs.Repeats.{KeptDataReachesNoStream, LaterDataStaysOut, OwnRequestsWait};
 ghost use Rattle.sctp_sides.specs.Repeats.{RepeatsAreOnlyAnswered, RepeatsEndNoGeneration};
 ghost use Rattle.sctp_sides.specs.Repeats.{RepeatsRetireNothing, RepeatsStayKnown};
+ghost use Rattle.sctp_sides.specs.Runs.{ListsHoldWhatCame, LostRunsEndClosed, RunsAreListsOfCalls};
+ghost use Rattle.sctp_sides.specs.Runs.{RunsTellFinalsOnce, RunsTellOneLoss};
 ghost use Rattle.sctp_sides.specs.Witnesses.{CookiesAreTimedInCookieEchoedAlone, CreatedSidesAreFresh};
 ghost use Rattle.sctp_sides.specs.Witnesses.{DelayedSacksAreTimed, EchoedCookiesAreTimed, FailedSidesWaitForNothing};
 ghost use Rattle.sctp_sides.specs.Witnesses.{FailuresStopTheTimers, InitsAreTimedInCookieWaitAlone};
@@ -161,10 +163,13 @@ pub fn data_is_taken_in()
     ensures no_other_kept { NothingElseIsKeptApart }
 {}
 
-/// Integrity: a message that is read was made of DATA chunks that came, from its first piece to its last, whatever the
-/// peer sends. All that waits to be read came, and complete messages that wait are made so, too.
+/// Integrity: a message that is read on a stream was made of DATA chunks that came, whatever the peer sends: of all
+/// pieces of one message on that stream, from the one that begins it to the one that ends it, each with the TSN after
+/// that of the one in front of it, in order under one stream sequence number or all in no order, and of one payload
+/// type. All that waits to be read came, and complete messages that wait are made so, too.
 pub fn what_is_read_came()
     ensures held { CallsHoldWhatCame }
+    ensures lists { ListsHoldWhatCame }
     ensures read { ReadsGiveWhatIsHeld }
 {}
 
@@ -308,6 +313,17 @@ pub fn at_most_one_loss()
     ensures created { CreatedSidesAreFresh }
     ensures joined { JoinedSidesAreFresh }
     ensures told { LossesAreToldOnce }
+{}
+
+/// Runs: whatever calls are carried out on an association by the contract of `Association::run`, they are a list of
+/// calls of one side, and the events that their replies tell are those that it tells. So what holds after every list of
+/// calls of one side holds of each such run: it tells of at most one loss, behind a loss the association is closed and
+/// waits for no moment, and last counters are told at most once.
+pub fn runs_are_lists_of_calls()
+    ensures calls { RunsAreListsOfCalls }
+    ensures losses { RunsTellOneLoss }
+    ensures lost { LostRunsEndClosed }
+    ensures finals { RunsTellFinalsOnce }
 {}
 
 /// Generations: over every list of calls that a side gets and that begins with no stream, each number that a stream was

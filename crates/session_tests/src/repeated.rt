@@ -24,41 +24,62 @@ fn parts_of(alloc: Global, text: &str) -> Result<(Option<Beginning>, Vec<Step>),
     Ok((beginning, steps))
 }
 
-// All replies, and then all packets of both sides, a line each.
-fn record_of(alloc: Global, text: &str) -> Result<String, Error> {
+// So many packets of each side are compared.
+const PACKETS: u64 = 100;
+
+// What a run of a session gave.
+#[derive(Debug, Drop)]
+struct Record {
+    // All replies, and then the packets of both sides, a line each.
+    text: String,
+    // Neither side gave out a packet that is not in the text.
+    is_whole: bool,
+}
+
+fn record_of(alloc: Global, text: &str) -> Result<Record, Error> {
     let (beginning, steps) = parts_of(alloc, text)?;
     match beginning {
         Some(beginning) => record_from(alloc, beginning, steps.as_slice()),
-        None => Ok(String::new(alloc)),
+        None => Ok(Record {
+            text: String::new(alloc),
+            is_whole: true,
+        }),
     }
 }
 
-fn record_from(alloc: Global, beginning: Beginning, steps: &[Step]) -> Result<String, Error> {
+fn record_from(alloc: Global, beginning: Beginning, steps: &[Step]) -> Result<Record, Error> {
     let mut pair = begun(alloc, beginning)?;
     record_on(alloc, &mut pair, steps)
 }
 
-fn record_on(alloc: Global, pair: &mut Pair, steps: &[Step]) -> Result<String, Error> {
-    let (mut record, _) = told(alloc, pair, steps)?;
-    push_packets(alloc, pair, Side2::A, &mut record)?;
-    push_packets(alloc, pair, Side2::B, &mut record)?;
-    Ok(record)
+fn record_on(alloc: Global, pair: &mut Pair, steps: &[Step]) -> Result<Record, Error> {
+    let (mut text, _) = told(alloc, pair, steps)?;
+    push_packets(alloc, pair, Side2::A, &mut text)?;
+    push_packets(alloc, pair, Side2::B, &mut text)?;
+    Ok(Record {
+        text,
+        is_whole: has_no_more(pair, Side2::A) && has_no_more(pair, Side2::B),
+    })
 }
 
-// At most the first hundred packets of a side; no session here has more.
 fn push_packets(
     alloc: Global,
     pair: &Pair,
     side: Side2,
-    record: &mut String,
+    text: &mut String,
 ) -> Result<(), AllocError> {
-    for number in 0..100 {
+    for number in 0..PACKETS {
         if let Some(packet) = pair.packet(side, number) {
-            record.push_str(hex::encode(alloc, packet.as_slice())?.as_str())?;
-            record.push_str("\n")?;
+            text.push_str(hex::encode(alloc, packet.as_slice())?.as_str())?;
+            text.push_str("\n")?;
         }
     }
     Ok(())
+}
+
+// Packets are numbered from 0, and none is left out.
+fn has_no_more(pair: &Pair, side: Side2) -> bool {
+    pair.packet(side, PACKETS).is_none()
 }
 
 #[test]
@@ -66,8 +87,12 @@ fn sessions_repeat_replies_and_packets(rt: HostRuntime) -> Result<(), Fail> {
     for text in stored() {
         let first = record_of(rt.alloc(), text)?;
         let second = record_of(rt.alloc(), text)?;
-        assert!(rt; !first.is_empty(), "nothing came of {text}");
-        assert!(rt; first.as_str() == second.as_str(), "another run of {text}");
+        assert!(rt; !first.text.is_empty(), "nothing came of {text}");
+        assert!(rt; first.is_whole && second.is_whole, "more packets in {text}");
+        assert!(rt;
+            first.text.as_str() == second.text.as_str(),
+            "another run of {text}"
+        );
     }
     Ok(())
 }

@@ -1,1 +1,2 @@
+pub mod LostRuns
 pub mod ReadMessages

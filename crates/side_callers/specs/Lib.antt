@@ -1,1 +1,2 @@
+pub mod Losing
 pub mod Reading

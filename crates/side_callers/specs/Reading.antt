@@ -30,11 +30,19 @@ abbrev pub data_delivered : Call → List ChunkPayloadData
 data_delivered (calls.HandleDatagram datagram remote now) = data_in (packet_in datagram)
 data_delivered call = []
 
--- Each message that was read was made of DATA that calls before the read delivered.
+-- a call is a read, of a stream of which this is so
+abbrev pub IsReadOn : (ℕ → Type 0) → Call → Type 0
+IsReadOn Is (calls.Read id) = Is id
+IsReadOn Is (calls.ReadSctp id) = Is id
+IsReadOn Is call = ⊥
+
+-- A call that was answered with a message is a read, and the message was made of DATA on its stream that calls before
+-- the read delivered: of all pieces of one message.
 abbrev pub ReadsGiveWhatCame : List Call → List Reply → Type 0
 ReadsGiveWhatCame made answers =
-    (index : ℕ) (message : ReceivedMessage) → slice_get answers index ≡ Some (replies.Read (Some message))
-    → IsMadeOf (IsAmong (flat_map data_delivered (take index made))) message
+    (index : ℕ) (call : Call) (message : ReceivedMessage) → slice_get made index ≡ Some call
+    → slice_get answers index ≡ Some (replies.Read (Some message))
+    → IsReadOn (λ id. IsMadeOf (IsAmong (flat_map data_delivered (take index made))) id message) call
 
 -- no stream is live, and nothing is kept for one
 pub record HoldsNothing (a : Shown) : Type 0 where

@@ -1,7 +1,10 @@
 // What is read came: against any peer at all, a read gives nothing that was not in a datagram that was delivered before.
+// And once it was read that the association was lost, nothing more is accepted.
 ghost use Rattle.std.specs.Prelude.{IfOk};
 ghost use Rattle.sctp_directions.specs.Acts.{History};
 ghost use Rattle.sctp_assoc.specs.Abstract.{StandsOn};
+ghost use Rattle.sctp_sides.specs.OneSide.{IsFresh};
+ghost use Rattle.side_callers.specs.Losing.{NothingIsAcceptedBehindALoss};
 ghost use Rattle.side_callers.specs.Reading.{HoldsNothing, ReadsGiveWhatCame};
 
 use bytes::Bytes;
@@ -12,15 +15,18 @@ use sctp_assoc::{
 use std::alloc::Global;
 use std::net::{IpAddr, SocketAddr};
 
-/// Carries out calls on an association. Where it holds nothing yet, and stands on some past, each message that is read
-/// was made of DATA chunks of datagrams that calls before the read delivered.
+/// Carries out calls on an association that stands on some past. Where it holds nothing yet, each message that is read
+/// on a stream was made of DATA chunks of datagrams that calls before the read delivered: of all pieces of one message
+/// on that stream. Where it is as a constructor leaves it, no write is accepted once its loss was read.
 pub fn run_and_read(
     association: &mut Association,
     calls: &[Call],
     packets: &mut Vec<Bytes>,
 ) -> Result<Vec<Reply>, Error>
-    ensures { IfOk result (λ replies. (h : History) → StandsOn association.old h → HoldsNothing association.old
+    ensures came { IfOk result (λ replies. (h : History) → StandsOn association.old h → HoldsNothing association.old
         → ReadsGiveWhatCame calls.now replies.items) }
+    ensures ended { IfOk result (λ replies. (h : History) → StandsOn association.old h → IsFresh association.old
+        → NothingIsAcceptedBehindALoss replies.items) }
 {
     association.run(calls, packets)
 }
@@ -39,7 +45,8 @@ pub fn run_new(
     now: Instant,
     calls: &[Call],
 ) -> Result<Vec<Reply>, Error>
-    ensures { IfOk result (λ replies. ReadsGiveWhatCame calls.now replies.items) }
+    ensures came { IfOk result (λ replies. ReadsGiveWhatCame calls.now replies.items) }
+    ensures ended { IfOk result (λ replies. NothingIsAcceptedBehindALoss replies.items) }
 {
     let mut association = Association::new(
         alloc,
@@ -68,7 +75,8 @@ pub fn run_joined(
     remote_init: &ChunkInit,
     calls: &[Call],
 ) -> Result<Vec<Reply>, Error>
-    ensures { IfOk result (λ replies. ReadsGiveWhatCame calls.now replies.items) }
+    ensures came { IfOk result (λ replies. ReadsGiveWhatCame calls.now replies.items) }
+    ensures ended { IfOk result (λ replies. NothingIsAcceptedBehindALoss replies.items) }
 {
     let mut association = Association::new_with_out_of_band_init(
         alloc,

@@ -1,14 +1,25 @@
 use Rattle.std.proofs.Common.{sym, subst}
 use Rattle.sctp_directions.specs.Acts.{begun}
+use Rattle.sctp_sides.specs.OneSide.{IsFresh}
+use Rattle.sctp_sides.proofs.Proved.{joined_sides_are_fresh}
 use Rattle.side_callers.specs.Reading.{HoldsNothing}
 use Rattle.side_callers.proofs.ReadMessages.{if_ok, joined_holds}
 use Rattle.side_callers.proofs.reading.run_joined.Goals as goal
 
--- the association stands on the past on which a constructor lets it begin, and holds nothing
-pub returns : goal.returns
-returns c =
+-- the association stands on the past on which a constructor lets it begin, holds nothing, and is fresh
+
+pub returns-clause-came : goal.returns-clause-came
+returns-clause-came c =
     let made = c.in_ok-association.ensures in
-    if_ok c.run_and_read.result _ _ c.run_and_read.ensures (λ replies gives. gives
+    if_ok c.run_and_read.result _ _ c.run_and_read.ensures.came (λ replies gives. gives
     (begun c.args.local_init.now.initial_tsn c.args.remote_init.now.initial_tsn) (λ works. made.begins)
     (subst HoldsNothing (sym made.joined) (joined_holds c.args.config.now c.args.max_payload_size c.args.remote_addr
     c.args.local_ip c.args.local_init.now c.args.remote_init.now)))
+
+pub returns-clause-ended : goal.returns-clause-ended
+returns-clause-ended c =
+    let made = c.in_ok-association.ensures in
+    if_ok c.run_and_read.result _ _ c.run_and_read.ensures.ended (λ replies ends. ends
+    (begun c.args.local_init.now.initial_tsn c.args.remote_init.now.initial_tsn) (λ works. made.begins)
+    (subst IsFresh (sym made.joined) (joined_sides_are_fresh c.args.config.now c.args.max_payload_size
+    c.args.remote_addr c.args.local_ip c.args.local_init.now c.args.remote_init.now)))

@@ -1,0 +1,91 @@
+-- A run of the contract of one association, as a list of calls of one side: by that each law of one side over every
+-- list of calls is one of whoever carries out calls by that contract.
+use Rattle.std.specs.Prelude.{◌≡◌, ◌≤◌, ℕ, true, false, List, [], ◌∷◌, Some, None}
+use Rattle.std.specs.List.{AllByRecursion, flat_map}
+use Rattle.sctp_wire_types.specs.declared.chunk.ChunkPayloadData.{ChunkPayloadData}
+use Rattle.sctp_streams.specs.declared.event.Event.{Event}
+use Rattle.sctp_streams.specs.declared.setting.Setting.TheVariants as settings
+use Rattle.sctp_streams.specs.Stream.{params_of}
+use Rattle.sctp_directions.specs.Acts.{History}
+use Rattle.sctp_assoc.specs.declared.call.Call.{Call}
+use Rattle.sctp_assoc.specs.declared.call.Call.TheVariants as calls
+use Rattle.sctp_assoc.specs.declared.call.Reply.{Reply}
+use Rattle.sctp_assoc.specs.declared.call.Reply.TheVariants as replies
+use Rattle.sctp_assoc.specs.Abstract.{RunsOn, StandsOn}
+use Rattle.sctp_assoc.specs.Calls.{first_filled}
+use Rattle.sctp_assoc.specs.Closing.{is_closed_state}
+use Rattle.sctp_assoc.specs.Replies.{packet_in}
+use Rattle.sctp_assoc.specs.Shown.{Shown}
+use Rattle.sctp_sides.specs.Brought.{CallBringsOnly, IsAmong, SideHoldsOnly}
+use Rattle.sctp_sides.specs.Generations.{HasNoGeneration, finals, times}
+use Rattle.sctp_sides.specs.OneSide as side
+use Rattle.sctp_sides.specs.OneSide.{IsFresh, told_by}
+use Rattle.sctp_sides.specs.Witnesses.{TellsOneLoss, WaitsForNothing}
+
+-- the call of one side that a call is; a question, which changes nothing and tells no event, is none
+abbrev pub side_calls_of : Call → List side.Call
+side_calls_of (calls.OpenStream id kind) = side.Call.OpenStream id kind ∷ []
+side_calls_of (calls.Write id bytes) = side.Call.Write id None bytes ∷ []
+side_calls_of (calls.WriteWithPpi id bytes kind) = side.Call.Write id (Some kind) bytes ∷ []
+side_calls_of (calls.WriteSctp id bytes kind) = side.Call.Write id (Some kind) bytes ∷ []
+side_calls_of (calls.WriteChunk id bytes) = side.Call.Write id None bytes ∷ []
+side_calls_of (calls.WriteChunks id buffers) = side.Call.Write id None (first_filled buffers.items) ∷ []
+side_calls_of (calls.Finish id) = side.Call.Set id settings.WriteHalfClosed ∷ []
+side_calls_of (calls.SetReliabilityParams id unordered kind value) =
+    side.Call.Set id (settings.Reliability (params_of unordered kind value)) ∷ []
+side_calls_of (calls.SetDefaultPayloadType id kind) = side.Call.Set id (settings.DefaultPayloadType kind) ∷ []
+side_calls_of (calls.SetBufferedAmountLowThreshold id bytes) = side.Call.Set id (settings.LowMark bytes) ∷ []
+side_calls_of (calls.SetBufferedAmountHighThreshold id bytes) = side.Call.Set id (settings.HighMark bytes) ∷ []
+side_calls_of calls.AcceptStream = side.Call.AcceptStream ∷ []
+side_calls_of (calls.SetMaxSendMessageSize size) = side.Call.SetMaxSendMessageSize size ∷ []
+side_calls_of calls.Shutdown = side.Call.Shutdown ∷ []
+side_calls_of calls.Close = side.Call.Close ∷ []
+side_calls_of (calls.Read id) = side.Call.Read id ∷ []
+side_calls_of (calls.ReadSctp id) = side.Call.Read id ∷ []
+side_calls_of calls.Poll = side.Call.Poll ∷ []
+side_calls_of calls.PollEndpointEvent = side.Call.PollEndpointEvent ∷ []
+side_calls_of (calls.PollTransmit now) = side.Call.PollTransmit now ∷ []
+side_calls_of (calls.HandleTimeout now) = side.Call.HandleTimeout now ∷ []
+side_calls_of (calls.HandleDatagram datagram remote now) = side.Call.HandleEvent (packet_in datagram) now ∷ []
+side_calls_of (calls.Stop id) = side.Call.Stop id ∷ []
+side_calls_of (calls.CloseStream id) = side.Call.CloseStream id ∷ []
+side_calls_of call = []
+
+-- the event that a reply tells, if it tells one
+abbrev pub told_in : Reply → List Event
+told_in (replies.Event event) = told_by event
+told_in reply = []
+
+-- Each run from a past on which the association stands is the list of these calls, one after another, and told these
+-- events.
+abbrev pub RunsAreListsOfCalls : Type 0
+RunsAreListsOfCalls = (made : List Call) (answers : List Reply) (a b : Shown) (packets more : List (List ℕ))
+    (h : History) → RunsOn made a packets answers b more → StandsOn a h
+    → side.IsRun (flat_map side_calls_of made) (flat_map told_in answers) a b
+
+-- this holds of the events that the replies of each run told, and of the association that it left of a fresh one
+abbrev pub OverEachRun : (List Event → Shown → Type 0) → Type 0
+OverEachRun Holds = (made : List Call) (answers : List Reply) (a b : Shown) (packets more : List (List ℕ))
+    (h : History) → RunsOn made a packets answers b more → StandsOn a h → IsFresh a
+    → Holds (flat_map told_in answers) b
+
+-- So each run tells of at most one loss,
+abbrev pub RunsTellOneLoss : Type 0
+RunsTellOneLoss = OverEachRun TellsOneLoss
+
+-- one behind which the association was lost left it closed, with no timer,
+abbrev pub LostRunsEndClosed : Type 0
+LostRunsEndClosed = OverEachRun (λ told b. b.lost ≡ true → (is_closed_state b.state ≡ true) × WaitsForNothing b)
+
+-- and where it begins with no stream, the last counters of a stream are told at most once.
+abbrev pub RunsTellFinalsOnce : Type 0
+RunsTellFinalsOnce = (made : List Call) (answers : List Reply) (a b : Shown) (packets more : List (List ℕ))
+    (h : History) → RunsOn made a packets answers b more → StandsOn a h → HasNoGeneration a
+    → (g : ℕ) → times g (finals (flat_map told_in answers)) ≤ 1
+
+-- What the association holds after a list of calls is made of DATA among these, where all that it held before and all
+-- that the calls bring is. Of one that failed nothing is read.
+abbrev pub ListsHoldWhatCame : Type 0
+ListsHoldWhatCame = (came : List ChunkPayloadData) (made : List side.Call) (told : List Event) (a b : Shown)
+    → side.IsRun made told a b → AllByRecursion (λ (call : side.Call). CallBringsOnly (IsAmong came) call) made
+    → (a.failed ≡ false → SideHoldsOnly (IsAmong came) a) → b.failed ≡ false → SideHoldsOnly (IsAmong came) b
