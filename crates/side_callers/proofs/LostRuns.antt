@@ -1,11 +1,10 @@
 -- A run in which the loss of the association was read accepts nothing behind that.
-use Rattle.std.proofs.Common.{◌≡◌, refl, sym, ap, ◌∙◌, subst, ℕ, zero, suc, ◌+◌, ◌<◌, ◌≤◌, arith, Bool, true, false}
-use Rattle.std.proofs.Common.{if◌then◌else◌, not, List, [], ◌∷◌, ◌++◌, Option, Some, None}
+use Rattle.std.proofs.Common.{◌≡◌, refl, sym, ap, ◌∙◌, subst, inl, inr, ℕ, zero, suc, ◌+◌, ◌<◌, ◌≤◌, arith, Bool, true}
+use Rattle.std.proofs.Common.{false, if◌then◌else◌, not, List, [], ◌∷◌, ◌++◌, Option, Some, None}
 use Rattle.std.specs.Prelude.{is_some, slice_get}
 use Rattle.std.proofs.lemmas.Bool.{false≢true, not-false, true≢false}
-use Rattle.std.proofs.lemmas.List.Sums.{sum_by-append, sum_by-cons}
+use Rattle.std.proofs.lemmas.List.Sums.{sum_by-append}
 use Rattle.sctp_wire_types.specs.declared.error.Error.{Error}
-use Rattle.sctp_wire_types.specs.declared.ids.PayloadProtocolIdentifier.{PayloadProtocolIdentifier}
 use Rattle.sctp_parts.specs.declared.state.AssociationState.{AssociationState}
 use Rattle.sctp_parts.specs.declared.state.AssociationState.TheVariants as states
 use Rattle.sctp_streams.specs.declared.event.AssociationError.{AssociationError}
@@ -22,7 +21,7 @@ use Rattle.sctp_assoc.specs.Abstract.{AbstractAssociation, IsRun, RunsOn, Stands
 use Rattle.sctp_assoc.specs.Calls.{first_refusal, is_established, refusal_to_write, state_refusal, stream_refusal}
 use Rattle.sctp_assoc.specs.Calls.{write_refusal, write_refusal_at}
 use Rattle.sctp_assoc.specs.Closing.{is_closed_state}
-use Rattle.sctp_assoc.specs.Replies.{Replies, ShowsOrRefuses, Writes}
+use Rattle.sctp_assoc.specs.Replies.{Replies, ShowsOrRefuses}
 use Rattle.sctp_assoc.specs.Shown.{Shown}
 use Rattle.sctp_sides.specs.Laws.{loss_of, losses}
 use Rattle.sctp_sides.specs.OneSide as side
