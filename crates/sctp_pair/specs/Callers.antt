@@ -119,8 +119,8 @@ stays_in_span (a ∷ ss) (r ∷ rs) s = not (ends_span a r s) && stays_in_span s
 stays_in_span [] rs s = true
 stays_in_span (a ∷ ss) [] s = true
 
--- On a stream that neither side stopped, and that the other side kept in order, what either side read is, message by
--- message and in order, a front of what the other side wrote on it.
+-- On a stream that neither side stopped (by a stop, or by a close of both halves), and that the other side kept in order,
+-- what either side read is, message by message and in order, a front of what the other side wrote on it.
 abbrev pub ReadsAreFronts : List Step → List Reply → Type 0
 ReadsAreFronts ss rs = (x : Side2) (s : ℕ) → stays_in_span ss rs s ≡ true → stays_in_order ss rs x s ≡ true
     → IsFrontOf (read_in ss rs (other_side x) s) (written_in ss rs x s)

@@ -153,9 +153,8 @@ HasForward (Some packet) t =
     ⊎ ((k : ℕ) × (c : ChunkIForwardTsn) × (slice_get packet.chunks k ≡ Some (chunks.IForwardTsn c))
     × (c.new_cumulative_tsn ≡ t))
 
--- A step with this reply may end the span of stream s: it stops the stream, at either end, and so does a step that
--- closes both halves of it. What resets and retires a stream follows a stop of it (a loss is no such end: it closes the
--- receiver).
+-- A step with this reply may end the span of stream s: a stop of the stream, or a close of both its halves, at either
+-- end. What resets and retires a stream follows one of these (a loss is no such end: it closes the receiver).
 abbrev pub ends_span : Step → Reply → ℕ → Bool
 ends_span (steps.Stop side id) replies.Done s = id == s
 ends_span (steps.CloseStream side id) replies.Done s = id == s

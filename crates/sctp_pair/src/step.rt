@@ -99,7 +99,7 @@ pub enum Step {
         id: StreamId,
     },
     /// `Stream::set_reliability_params`: whether messages that are written from now on are sent unordered, and how long
-    /// each is tried. Its reply is `Done`.
+    /// each is tried: `rel_val` retransmissions at most for `Rexmit`, `rel_val` ms for `Timed`. Its reply is `Done`.
     SetReliabilityParams {
         side: Side2,
         id: StreamId,

@@ -25,7 +25,7 @@ use Rattle.sctp_assoc.specs.Replies.{Reads, Replies, Sets, ShowsOrRefuses, Shuts
 use Rattle.sctp_assoc.specs.Replies.{WritesFirst, packet_in}
 use Rattle.sctp_assoc.specs.Shown.{Shown}
 use Rattle.sctp_sides.specs.OneSide as side
-use Rattle.sctp_sides.specs.OneSide.{Calls, call_refusal, carried_out, has_a_middle, with_told}
+use Rattle.sctp_sides.specs.OneSide.{Calls, IsFresh, call_refusal, carried_out, has_a_middle, with_told}
 use Rattle.sctp_sides.specs.Runs.{LostRunsEndClosed, OverEachRun, RunsAreListsOfCalls, RunsTellFinalsOnce}
 use Rattle.sctp_sides.specs.Runs.{RunsTellOneLoss, side_calls_of, told_in}
 use Rattle.sctp_sides.specs.Witnesses.{AfterEveryRun}
@@ -332,7 +332,7 @@ runs_are_lists_of_calls made answers a b packets more h run stands =
     let led = run.from h stands in run_listed made answers (abstract a h) (abstract b led.0) packets more led.1
 
 -- what holds after every list of calls of one side holds over each run
-pub laws_hold_over_runs : (Holds : List Event → Shown → Type 0) → AfterEveryRun Holds → OverEachRun Holds
+pub laws_hold_over_runs : (Holds : List Event → Shown → Type 0) → AfterEveryRun Holds → OverEachRun IsFresh Holds
 laws_hold_over_runs Holds law made answers a b packets more h run stands fresh =
     law (flat_map side_calls_of made) (flat_map told_in answers) a b fresh
     (runs_are_lists_of_calls made answers a b packets more h run stands)

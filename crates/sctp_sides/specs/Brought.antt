@@ -42,7 +42,7 @@ CallsHoldWhatCame = (came : List ChunkPayloadData) (call : Call) (a b : Shown) (
     → carried_out call a ≡ (b, told) → CallBringsOnly (IsAmong came) call → SideHoldsOnly (IsAmong came) a
     → SideHoldsOnly (IsAmong came) b
 
--- A message that is read on a stream was held: it is made of pieces among these, of all of one message on that stream.
+-- A message that is read on a stream is made of pieces among these: of all pieces of one message on that stream.
 abbrev pub ReadsGiveWhatIsHeld : Type 0
 ReadsGiveWhatIsHeld = (came : List ChunkPayloadData) (a : Shown) (id : ℕ) → SideHoldsOnly (IsAmong came) a
     → IsMadeOfWhereThere (IsAmong came) id (read_from_stream a id).1

@@ -1,5 +1,5 @@
--- What waits to be read of one side was made of nothing but DATA of which something is so, each message of pieces of
--- one message: on the streams, and in what is kept for generations that are not read yet.
+-- What waits to be read of one side was made of nothing but DATA of which something is so: on the streams each message
+-- of the pieces of one message, and in what is kept for generations that are not read yet each piece by itself.
 use Rattle.std.specs.Prelude.{◌≡◌, ℕ, true, false, List, [], ◌∷◌, Option, Some, None, ⊤}
 use Rattle.std.specs.List.{AllByRecursion}
 use Rattle.sctp_wire_types.specs.declared.chunk.ChunkPayloadData.{ChunkPayloadData}
@@ -18,13 +18,13 @@ pub data Order : Type 0 where
   -- in no order
   OutOfOrder : Order
 
--- A piece says this of its message. At the stream sequence number of a piece that is in no order nobody looks.
+-- A piece says this of its message. The receiver does not look at the stream sequence number of one in no order.
 abbrev pub HasOrder : Order → ChunkPayloadData → Type 0
 HasOrder (Order.InOrder number) piece = (piece.unordered ≡ false) × (piece.stream_sequence_number ≡ number)
 HasOrder Order.OutOfOrder piece = piece.unordered ≡ true
 
--- P is so of a piece, and it is one of a message on this stream, of this order and this payload type. (All numbers of
--- payload types that no application knows are one unknown type.)
+-- P is so of a piece, and it is one of a message on this stream, of this order and this payload type. (Numbers that name
+-- no payload type of RFC 8831 are one unknown type: the receiver does not tell them apart.)
 pub record IsPieceOf (P : ChunkPayloadData → Type 0) (id : ℕ) (order : Order) (kind : PayloadProtocolIdentifier)
     (piece : ChunkPayloadData) : Type 0 where
   pub is_so : P piece
@@ -52,7 +52,7 @@ OnlyTheLastEnds (p ∷ []) = ⊤
 OnlyTheLastEnds (p ∷ q ∷ ps) = (p.ending_fragment ≡ false) × OnlyTheLastEnds (q ∷ ps)
 
 -- These are pieces of one message, all or some of them: of each P is so, they have stream, order and payload type in
--- common, and no piece between others begins or ends a message.
+-- common, none but the first begins a message, and none but the last ends one.
 pub record ArePiecesOf (P : ChunkPayloadData → Type 0) (id : ℕ) (order : Order) (pieces : List ChunkPayloadData)
     : Type 0 where
   pub kind : PayloadProtocolIdentifier
@@ -60,8 +60,8 @@ pub record ArePiecesOf (P : ChunkPayloadData → Type 0) (id : ℕ) (order : Ord
   pub begun_first : OnlyTheFirstBegins pieces
   pub ended_last : OnlyTheLastEnds pieces
 
--- A message on this stream is made of pieces of each of which P is so, and of them all: the first one begins a message
--- and the last one ends it, none between them does either, and each has the TSN after that of the piece in front of it.
+-- A message on this stream is made of all pieces of one message, of each of which P is so: the first begins it and the
+-- last ends it, no other one begins or ends one, and each has the TSN after that of the one in front of it.
 pub record IsMadeOf (P : ChunkPayloadData → Type 0) (id : ℕ) (m : ReceivedMessage) : Type 0 where
   pub order : Order
   pub pieces : List ChunkPayloadData
@@ -85,8 +85,8 @@ pub record HoldsOnly (P : ChunkPayloadData → Type 0) (id : ℕ) (q : Reassembl
 abbrev pub StreamsHoldOnly : (ChunkPayloadData → Type 0) → StreamMap → Type 0
 StreamsHoldOnly P m = AllByRecursion (λ (e : ℕ × StreamView). HoldsOnly P e.0 e.1.reassembly) m.by_id
 
--- and of each piece that is kept for a generation that is not read yet; which of them are pieces of one message is
--- found when that generation is read, as of those that come then
+-- and of each piece that is kept for a generation that is not read yet; which of these belong to one message is looked
+-- at only when that generation is read
 pub record IsHeldOnly (P : ChunkPayloadData → Type 0) (r : ResetsView) (m : StreamMap) : Type 0 where
   pub streams : StreamsHoldOnly P m
   pub kept : AllByRecursion P r.generations.deferred

@@ -56,32 +56,32 @@ abbrev pub told_in : Reply → List Event
 told_in (replies.Event event) = told_by event
 told_in reply = []
 
--- Each run from a past on which the association stands is the list of these calls, one after another, and told these
--- events.
+-- Without its questions, a run from a past on which the association stands is a list of calls of one side, from the same
+-- association to the same, and tells the same events.
 abbrev pub RunsAreListsOfCalls : Type 0
 RunsAreListsOfCalls = (made : List Call) (answers : List Reply) (a b : Shown) (packets more : List (List ℕ))
     (h : History) → RunsOn made a packets answers b more → StandsOn a h
     → side.IsRun (flat_map side_calls_of made) (flat_map told_in answers) a b
 
--- this holds of the events that the replies of each run told, and of the association that it left of a fresh one
-abbrev pub OverEachRun : (List Event → Shown → Type 0) → Type 0
-OverEachRun Holds = (made : List Call) (answers : List Reply) (a b : Shown) (packets more : List (List ℕ))
-    (h : History) → RunsOn made a packets answers b more → StandsOn a h → IsFresh a
+-- this holds of the events that the replies of each run told, and of the association that it left, where the run began
+-- with one of which that is so
+abbrev pub OverEachRun : (Shown → Type 0) → (List Event → Shown → Type 0) → Type 0
+OverEachRun Begins Holds = (made : List Call) (answers : List Reply) (a b : Shown) (packets more : List (List ℕ))
+    (h : History) → RunsOn made a packets answers b more → StandsOn a h → Begins a
     → Holds (flat_map told_in answers) b
 
--- So each run tells of at most one loss,
+-- A run of a fresh association tells of at most one loss.
 abbrev pub RunsTellOneLoss : Type 0
-RunsTellOneLoss = OverEachRun TellsOneLoss
+RunsTellOneLoss = OverEachRun IsFresh TellsOneLoss
 
--- one behind which the association was lost left it closed, with no timer,
+-- Where it was lost, it is closed at the end and no timer runs.
 abbrev pub LostRunsEndClosed : Type 0
-LostRunsEndClosed = OverEachRun (λ told b. b.lost ≡ true → (is_closed_state b.state ≡ true) × WaitsForNothing b)
+LostRunsEndClosed =
+    OverEachRun IsFresh (λ told b. b.lost ≡ true → (is_closed_state b.state ≡ true) × WaitsForNothing b)
 
--- and where it begins with no stream, the last counters of a stream are told at most once.
+-- A run that begins with no stream tells the last counters of a stream at most once.
 abbrev pub RunsTellFinalsOnce : Type 0
-RunsTellFinalsOnce = (made : List Call) (answers : List Reply) (a b : Shown) (packets more : List (List ℕ))
-    (h : History) → RunsOn made a packets answers b more → StandsOn a h → HasNoGeneration a
-    → (g : ℕ) → times g (finals (flat_map told_in answers)) ≤ 1
+RunsTellFinalsOnce = OverEachRun HasNoGeneration (λ told b. (g : ℕ) → times g (finals told) ≤ 1)
 
 -- What the association holds after a list of calls is made of DATA among these, where all that it held before and all
 -- that the calls bring is. Of one that failed nothing is read.

@@ -315,10 +315,10 @@ pub fn at_most_one_loss()
     ensures told { LossesAreToldOnce }
 {}
 
-/// Runs: whatever calls are carried out on an association by the contract of `Association::run`, they are a list of
-/// calls of one side, and the events that their replies tell are those that it tells. So what holds after every list of
-/// calls of one side holds of each such run: it tells of at most one loss, behind a loss the association is closed and
-/// waits for no moment, and last counters are told at most once.
+/// Runs: from a past on which the association stands, the calls of a run, by the contract of `Association::run`, are a
+/// list of calls of one side, and the events that their replies tell are those that it tells. So a run of an association
+/// as a constructor leaves it tells of at most one loss, and where it was lost it is closed at the end and waits for no
+/// moment; and a run that begins with no stream tells last counters at most once.
 pub fn runs_are_lists_of_calls()
     ensures calls { RunsAreListsOfCalls }
     ensures losses { RunsTellOneLoss }

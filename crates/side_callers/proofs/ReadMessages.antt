@@ -185,23 +185,28 @@ IsReadBy call m pieces = IsReadOn (λ id. IsMadeOf (IsAmong pieces) id m) call
 
 run_came : (cs : List Call) (rs : List Reply) (came : List ChunkPayloadData) (s t : AbstractAssociation)
     (packets more : List (List ℕ)) → IsRun cs s packets rs t more → HoldsWhereItWorks came s.shown → (index : ℕ)
-    (call : Call) (m : ReceivedMessage) → slice_get cs index ≡ Some call
-    → slice_get rs index ≡ Some (replies.Read (Some m))
-    → IsReadBy call m (came ++ flat_map data_delivered (take index cs))
-run_came [] [] came s t packets more run held index call m at e = absurd (false≢true (ap is_some e))
-run_came [] (r ∷ rs) came s t packets more run held index call m at e = absurd run
-run_came (c ∷ cs) [] came s t packets more run held index call m at e = absurd run
-run_came (c ∷ cs) (r ∷ rs) came s t packets more (u, given, step, others) held zero call m at e =
-    let is : r ≡ replies.Read (Some m) = cc in
-    let called : c ≡ call = cc in
-    subst (λ (z : Call). IsReadBy z m (came ++ [])) called
-    (subst (IsReadBy c m) (sym (append-nil came))
-    (reading came s.shown u.shown packets given m held c
-    (subst (λ (z : Reply). Replies c s.shown packets z u.shown given) is step.replied)))
-run_came (c ∷ cs) (r ∷ rs) came s t packets more (u, given, step, others) held (suc index) call m at e =
-    subst (IsReadBy call m) (append_assoc came (data_delivered c) (flat_map data_delivered (take index cs)))
-    (run_came cs rs (came ++ data_delivered c) u t given more others
-    (step_holds c r came s u packets given step held) index call m at e)
+    (m : ReceivedMessage) → slice_get rs index ≡ Some (replies.Read (Some m))
+    → (call : Call) × (slice_get cs index ≡ Some call)
+    × IsReadBy call m (came ++ flat_map data_delivered (take index cs))
+run_came [] [] came s t packets more run held index m e = absurd (false≢true (ap is_some e))
+run_came [] (r ∷ rs) came s t packets more run held index m e = absurd run
+run_came (c ∷ cs) [] came s t packets more run held index m e = absurd run
+run_came (c ∷ cs) (r ∷ rs) came s t packets more (u, given, step, others) held zero m e =
+    let is : r ≡ replies.Read (Some m) = cc in (
+      c,
+      refl,
+      subst (IsReadBy c m) (sym (append-nil came))
+          (reading came s.shown u.shown packets given m held c
+          (subst (λ (z : Reply). Replies c s.shown packets z u.shown given) is step.replied)),
+    )
+run_came (c ∷ cs) (r ∷ rs) came s t packets more (u, given, step, others) held (suc index) m e =
+    let found =
+    run_came cs rs (came ++ data_delivered c) u t given more others
+    (step_holds c r came s u packets given step held) index m e in (
+      found.0,
+      found.1,
+      subst (IsReadBy found.0 m) (append_assoc came (data_delivered c) (flat_map data_delivered (take index cs))) found.2,
+    )
 
 nothing_held : (came : List ChunkPayloadData) (a : Shown) → HoldsNothing a → SideHoldsOnly (IsAmong came) a
 nothing_held came a none = record {

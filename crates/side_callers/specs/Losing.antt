@@ -1,4 +1,4 @@
--- What one association does no more once its loss was read, against any peer.
+-- What one association does no more once its loss was told, against any peer.
 use Rattle.std.specs.Prelude.{◌≡◌, ◌≢◌, ◌<◌, ℕ, List, slice_get, Some}
 use Rattle.sctp_streams.specs.declared.event.AssociationError.{AssociationError}
 use Rattle.sctp_streams.specs.declared.event.Event.TheVariants.{AssociationLost}

@@ -36,13 +36,13 @@ IsReadOn Is (calls.Read id) = Is id
 IsReadOn Is (calls.ReadSctp id) = Is id
 IsReadOn Is call = ⊥
 
--- A call that was answered with a message is a read, and the message was made of DATA on its stream that calls before
--- the read delivered: of all pieces of one message.
+-- Each message that was answered is the answer of a read, and was made of DATA on that stream that calls before the read
+-- delivered: of all pieces of one message.
 abbrev pub ReadsGiveWhatCame : List Call → List Reply → Type 0
 ReadsGiveWhatCame made answers =
-    (index : ℕ) (call : Call) (message : ReceivedMessage) → slice_get made index ≡ Some call
-    → slice_get answers index ≡ Some (replies.Read (Some message))
-    → IsReadOn (λ id. IsMadeOf (IsAmong (flat_map data_delivered (take index made))) id message) call
+    (index : ℕ) (message : ReceivedMessage) → slice_get answers index ≡ Some (replies.Read (Some message))
+    → (call : Call) × (slice_get made index ≡ Some call)
+    × IsReadOn (λ id. IsMadeOf (IsAmong (flat_map data_delivered (take index made))) id message) call
 
 -- no stream is live, and nothing is kept for one
 pub record HoldsNothing (a : Shown) : Type 0 where

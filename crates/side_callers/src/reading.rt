@@ -1,5 +1,5 @@
 // What is read came: against any peer at all, a read gives nothing that was not in a datagram that was delivered before.
-// And once it was read that the association was lost, nothing more is accepted.
+// And once it was told that the association was lost, nothing more is accepted.
 ghost use Rattle.std.specs.Prelude.{IfOk};
 ghost use Rattle.sctp_directions.specs.Acts.{History};
 ghost use Rattle.sctp_assoc.specs.Abstract.{StandsOn};
@@ -17,7 +17,7 @@ use std::net::{IpAddr, SocketAddr};
 
 /// Carries out calls on an association that stands on some past. Where it holds nothing yet, each message that is read
 /// on a stream was made of DATA chunks of datagrams that calls before the read delivered: of all pieces of one message
-/// on that stream. Where it is as a constructor leaves it, no write is accepted once its loss was read.
+/// on that stream. Where it is as a constructor leaves it, no write is accepted once its loss was told.
 pub fn run_and_read(
     association: &mut Association,
     calls: &[Call],
