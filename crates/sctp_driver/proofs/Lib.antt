@@ -1,5 +1,6 @@
 mod CutsLeft
 mod MadeDrivers
+mod NewMessages
 mod PollsAsked
 mod TimersMet
 mod Unchanged

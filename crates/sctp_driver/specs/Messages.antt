@@ -70,6 +70,16 @@ GivesAt (Some index) kept buffer answer left filled =
 abbrev pub Gives : ℕ → List KeptMessage → List ℕ → ReadAnswer → List KeptMessage → List ℕ → Type 0
 Gives id kept buffer answer left filled = GivesAt (index_of id kept) kept buffer answer left filled
 
+-- A message of a stream of which none is kept is given as it comes, and what is kept stays. Where the buffer is shorter
+-- it is kept behind the others.
+abbrev pub GivesNew : KeptMessage → List KeptMessage → List ℕ → ReadAnswer → List KeptMessage → List ℕ → Type 0
+GivesNew m kept buffer (answers.Message kind n) left filled =
+    (kind ≡ m.payload_type) × (n ≡ length m.bytes) × (n ≤ length buffer)
+    × (left ≡ kept) × (filled ≡ m.bytes ++ drop n buffer)
+GivesNew m kept buffer (answers.NoRoom n) left filled =
+    (n ≡ length m.bytes) × (length buffer < n) × (left ≡ kept ++ m ∷ []) × (filled ≡ buffer)
+GivesNew m kept buffer answers.Nothing left filled = ⊥
+
 -- the same of a driver, in which nothing but what is kept changes
 abbrev pub Reads : Driving → ℕ → List ℕ → ReadAnswer → Driving → List ℕ → Type 0
 Reads d id buffer answer e filled =

@@ -1,7 +1,8 @@
 // Messages that were taken out of the association and wait for a buffer that is long enough.
-ghost use Rattle.std.specs.Prelude.{◌≡◌, ◌++◌, ◌<◌, [], length, Err, IfOk, IfSome, OnErr, OnOk};
+ghost use Rattle.std.specs.Prelude.{◌≡◌, ◌++◌, ◌<◌, ◌∷◌, [], length, Err, IfOk, IfSome, OnErr, OnOk};
+ghost use Rattle.std.specs.VecDeque.{deque_capacity, deque_len};
 ghost use Rattle.sctp_receive_queues.specs.Messages.{bytes_left};
-ghost use Rattle.sctp_driver.specs.Messages.{Gives, index_of, kept_of, message_at, put_front};
+ghost use Rattle.sctp_driver.specs.Messages.{Gives, GivesNew, index_of, kept_of, message_at, put_front};
 ghost use Rattle.sctp_driver.specs.Messages.{without_message_of};
 
 use crate::sending::fill;
@@ -201,6 +202,38 @@ pub(crate) fn give(
         payload_type,
         length,
     })
+}
+
+/// Gives a message that was just read where the buffer has room for it, by one copy. Where it has none, or where memory
+/// is refused, the message is kept.
+pub(crate) fn give_new(
+    kept: &mut VecDeque<Kept>,
+    message: Kept,
+    buffer: &mut [u8],
+) -> Result<ReadAnswer, Error>
+    requires room { deque_len kept.old < deque_capacity kept.old }
+    ensures ok { IfOk result (λ answer. GivesNew message kept.old.items buffer.old answer kept.new.items buffer.new) }
+    ensures refused { OnErr result (result ≡ Err Error.ErrNoMemory) }
+    ensures held { OnErr result (kept.new.items ≡ kept.old.items ++ message ∷ []) }
+    ensures unfilled { OnErr result (buffer.new ≡ buffer.old) }
+{
+    let mut message = message;
+    let length = message.size();
+    if buffer.len() < length {
+        kept.push_back_reserved(message);
+        return Ok(ReadAnswer::NoRoom { length });
+    }
+    let payload_type = message.payload_type();
+    match message.copy_to(buffer) {
+        Ok(()) => Ok(ReadAnswer::Message {
+            payload_type,
+            length,
+        }),
+        Err(error) => {
+            kept.push_back_reserved(message);
+            Err(error)
+        }
+    }
 }
 
 fn size_at(kept: &VecDeque<Kept>, index: usize) -> usize

@@ -1,17 +1,17 @@
 // The calls of a driver's streams, each named by its identifier.
-ghost use Rattle.std.specs.Prelude.{◌≡◌, length, IfErr, IfOk, IfSome, IsErrOf, OnErr, OnOk, true};
+ghost use Rattle.std.specs.Prelude.{◌≡◌, length, IfErr, IfOk, IfSome, IsErrOf, None, OnErr, OnOk, true};
 ghost use Rattle.sctp_streams.specs.declared.setting.Setting.TheVariants as settings;
 ghost use Rattle.sctp_streams.specs.Stream.{params_of};
 ghost use Rattle.sctp_assoc.specs.Calls.{Refuses, RefusesOrLacksMemory, accepted_stream, adjusted, open_refusal};
 ghost use Rattle.sctp_assoc.specs.Calls.{opened, refusal_to_write, stop_takes_memory, stopped, stream_refusal};
 ghost use Rattle.sctp_assoc.specs.Calls.{written};
 ghost use Rattle.sctp_driver.specs.Driving.{RunsOutOfMemory, with_association};
-ghost use Rattle.sctp_driver.specs.Messages.{Reads, ReadFails, with_message};
+ghost use Rattle.sctp_driver.specs.Messages.{Reads, ReadFails, index_of, with_message};
 ghost use Rattle.sctp_driver.specs.Streams.{asked_of, buffered_on, refusal_to_stop, stream_closed, with_stopped};
 
 use crate::driver::Driver;
 use crate::lending;
-use crate::messages::{Kept, ReadAnswer, find, forget, give};
+use crate::messages::{Kept, ReadAnswer, find, forget, give, give_new};
 use sctp_assoc::{DataChannelStats, Error, PayloadProtocolIdentifier, ReliabilityType, StreamId};
 
 impl Driver {
@@ -81,24 +81,27 @@ impl Driver {
         ensures err { IfErr result (λ error. ReadFails self.old id error self.new) }
         ensures unfilled { OnErr result (buffer.new ≡ buffer.old) }
     {
-        self.take_out(id)?;
-        give(&mut self.kept, id, buffer)
+        match find(&self.kept, id) {
+            Some(_) => give(&mut self.kept, id, buffer),
+            None => self.read_next(id, buffer),
+        }
     }
 
-    // Takes the next message of a stream out of the association, unless one is kept already.
-    fn take_out(&mut self, id: StreamId) -> Result<(), Error>
-        ensures ok { OnOk result (self.new ≡ with_message self.old id) }
+    // Takes the next message of a stream, of which none is kept, out of the association.
+    fn read_next(&mut self, id: StreamId, buffer: &mut [u8]) -> Result<ReadAnswer, Error>
+        requires { index_of id self.old.kept ≡ None }
+        ensures ok { IfOk result
+            (λ answer. Reads (with_message self.old id) id buffer.old answer self.new buffer.new) }
         ensures err { IfErr result (λ error. ReadFails self.old id error self.new) }
+        ensures unfilled { OnErr result (buffer.new ≡ buffer.old) }
     {
-        if find(&self.kept, id).is_some() {
-            return Ok(());
-        }
         self.kept.reserve(1)?;
-        if let Some(message) = lending::read(&mut self.association, id)? {
-            self.kept
-                .push_back_reserved(Kept::new(self.alloc, id, message));
+        match lending::read(&mut self.association, id)? {
+            Some(message) => {
+                give_new(&mut self.kept, Kept::new(self.alloc, id, message), buffer)
+            }
+            None => Ok(ReadAnswer::Nothing),
         }
-        Ok(())
     }
 
     /// Closes the write half of a stream: from then on a write is refused as `ErrStreamClosed`. What was accepted goes
