@@ -10,3 +10,4 @@ pub mod GenerationsOver
 pub mod OwnOver
 pub mod KeptOver
 mod MarkedFinished
+pub mod FrontWaits

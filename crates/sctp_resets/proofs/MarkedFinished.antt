@@ -11,12 +11,11 @@ use Rattle.sctp_streams.specs.declared.event.Event.{Event}
 use Rattle.sctp_streams.specs.declared.event.Event.TheVariants as events
 use Rattle.sctp_generations.specs.Generations.{GenerationsView}
 use Rattle.sctp_generations.specs.Retiring.{count_at}
-use Rattle.sctp_reset_requests.specs.Debts.{DebtsView}
 use Rattle.sctp_resets.specs.declared.marks.Mark.{Mark}
 use Rattle.sctp_resets.specs.declared.marks.Mark.TheVariants as marks
 use Rattle.sctp_resets.specs.Marks.{AreMarked, Says, again, finished_marked_at, marked, marked_from, remainder_of}
 use Rattle.sctp_resets.specs.Marks.{tells_finished}
-use Rattle.sctp_resets.specs.Telling.{finished_in, has_unready, is_finished_of, is_held, next_told}
+use Rattle.sctp_resets.specs.Telling.{finished_in, has_unready, is_finished_of}
 
 and_false : (b : Bool) → (b && false) ≡ false
 and_false true = refl
@@ -213,18 +212,3 @@ module _ (g : GenerationsView) (ms : List Mark) (es : List Event) (first id : �
       (nat_lt index first && tells_finished id (slice_get es index))
       (nat_lt index (length es) && tells_finished id (slice_get es index)) some (said first)
       (sym (ap (finished_in id) whole) ∙ said (length es))
-
--- The first event
-
-pub front_is_told : (g : GenerationsView) (d : DebtsView) (es : List Event) (e : Event) → slice_get es 0 ≡ Some e
-    → is_held g d es 1 e ≡ false → next_told g d es ≡ Some 0
-front_is_told g d [] e at free = cc
-front_is_told g d (x ∷ es) e at free =
-    let same : x ≡ e = cc in
-    let here = subst (λ (y : Event). is_held g d (x ∷ es) 1 y ≡ false) (sym same) free in
-    rw here refl
-
-pub nothing_is_told : (g : GenerationsView) (d : DebtsView) (es : List Event) → slice_get es 0 ≡ None
-    → next_told g d es ≡ None
-nothing_is_told g d [] at = refl
-nothing_is_told g d (x ∷ es) at = cc

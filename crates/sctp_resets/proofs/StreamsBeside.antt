@@ -53,10 +53,10 @@ filtered_apart t f test (x ∷ xs) e =
     by true first others = both_false (is_eq (nat_cmp t (f x))) (has_id t (map f (filter test xs))) first others
     by false first others = others
 
--- One stream
+-- One entry
 
 module _ (t id : ℕ) (apart : is_eq (nat_cmp t id) ≡ false) where
-  set_apart : (s : StreamView) (es : List (ℕ × StreamView))
+  pub set_apart : {V : Type 0} (s : V) (es : List (ℕ × V))
       → lookup (is_at (nat_cmp t)) (set_value (is_at (nat_cmp id)) es s) ≡ lookup (is_at (nat_cmp t)) es
   set_apart s [] = refl
   set_apart s (e ∷ es) = by (is_eq (nat_cmp id e.0)) refl (set_apart s es)
@@ -68,7 +68,7 @@ module _ (t id : ℕ) (apart : is_eq (nat_cmp t id) ≡ false) where
       by true same more = rw (apart_there t id e.0 apart same) refl
       by false other more = ap (cond (is_eq (nat_cmp t e.0)) (Some e.1)) more
 
-  removed_apart : (es : List (ℕ × StreamView))
+  pub removed_apart : {V : Type 0} (es : List (ℕ × V))
       → lookup (is_at (nat_cmp t)) (remove_entry (is_at (nat_cmp id)) es) ≡ lookup (is_at (nat_cmp t)) es
   removed_apart [] = refl
   removed_apart (e ∷ es) = by (is_eq (nat_cmp id e.0)) refl (removed_apart es)

@@ -1,6 +1,6 @@
 -- The resets of an association (RFC 6525 section 5, RFC 8831 section 6.7).
-use Rattle.std.specs.Prelude.{ℕ, Bool, true, false, ◌==◌, ◌||◌, not, if◌then◌else◌, fold}
-use Rattle.std.specs.Prelude.{List, [], ◌∷◌, length, remove, slice_get, Option, Some, None, Result, Ok, Err}
+use Rattle.std.specs.Prelude.{ℕ, Bool, true, false, ◌≡◌, ◌==◌, ◌||◌, not, fold}
+use Rattle.std.specs.Prelude.{List, length, remove, slice_get, Option, Some, None, Result, Ok, Err}
 use Rattle.std.specs.List.{filter}
 use Rattle.sctp_wire_types.specs.declared.chunk.ChunkPayloadData.{ChunkPayloadData}
 use Rattle.sctp_wire_types.specs.declared.error.Error.{Error}
@@ -230,6 +230,11 @@ request_sent r q = with_own r (own.sent_first r.own q)
 
 abbrev pub with_asked : ResetsView → OwnView × Bool → ResetsView × Bool
 with_asked r (o, made) = (record r { own = o }, made)
+
+-- only this side's requests may have changed
+pub record OwnAlone (r s : ResetsView) : Type 0 where
+  pub debts : s.debts ≡ r.debts
+  pub generations : s.generations ≡ r.generations
 
 abbrev pub request_asked : ResetsView → Outbound → ResetsView × Bool
 request_asked r q = with_asked r (own.asked r.own q r.peer)

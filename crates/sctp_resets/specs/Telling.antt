@@ -1,13 +1,13 @@
 -- Which event is told next: Finished of a generation waits until that is read to its end (RFC 8831 section 6.7).
-use Rattle.std.specs.Prelude.{ℕ, suc, Bool, true, false, ◌&&◌, ◌+◌, ◌==◌, not, nat_lt, if◌then◌else◌}
-use Rattle.std.specs.Prelude.{List, [], ◌∷◌, take, length, Option, Some, None}
+use Rattle.std.specs.Prelude.{ℕ, Bool, true, false, ◌&&◌, ◌≡◌, ◌+◌, ◌<◌, ◌≤◌, ◌==◌, not, nat_lt, if◌then◌else◌}
+use Rattle.std.specs.Prelude.{List, [], ◌∷◌, take, length, slice_get, Option, Some, None}
 use Rattle.std.specs.List.{count_by}
 use Rattle.sctp_wire_types.specs.declared.event.StreamEvent.{StreamEvent}
 use Rattle.sctp_wire_types.specs.declared.event.StreamEvent.TheVariants as told
 use Rattle.sctp_streams.specs.declared.event.Event.{Event}
 use Rattle.sctp_streams.specs.declared.event.Event.TheVariants as events
 use Rattle.sctp_generations.specs.Generations.{GenerationsView}
-use Rattle.sctp_generations.specs.Retiring.{count_at}
+use Rattle.sctp_generations.specs.Retiring.{RetiringMap, count_at}
 use Rattle.sctp_reset_requests.specs.Debts.{DebtsView, awaits_end, end_told_of, told_of}
 
 abbrev pub finished_says : ℕ → StreamEvent → Bool
@@ -75,6 +75,40 @@ told_from g d es index (e ∷ rest) =
 -- the index of the event that is told next: the first one that does not wait
 abbrev pub next_told : GenerationsView → DebtsView → List Event → Option ℕ
 next_told g d es = told_from g d es 0 es
+
+-- these generations ended and are still read, and nothing came for those behind
+abbrev pub retiring_alone : RetiringMap → GenerationsView
+retiring_alone m = record { retiring = m; deferred = []; skips = [] }
+
+-- So many of the oldest events wait, where these generations ended and are still read, and this is owed of resets.
+pub record FrontWaits (m : RetiringMap) (d : DebtsView) (es : List Event) (waiting : ℕ) : Type 0 where
+  -- so many there are
+  pub within : waiting ≤ length es
+  -- each of them waits
+  pub held : (index : ℕ) (e : Event) → index < waiting → slice_get es index ≡ Some e
+      → is_held (retiring_alone m) d es (index + 1) e ≡ true
+
+-- the event is Finished of no stream
+abbrev pub tells_no_end : StreamEvent → Bool
+tells_no_end (told.Opened i) = true
+tells_no_end (told.Readable i) = true
+tells_no_end (told.Writable i) = true
+tells_no_end (told.Finished i) = false
+tells_no_end (told.ResetComplete i) = true
+tells_no_end (told.ResetFailed i reason) = true
+tells_no_end (told.Stopped i code) = true
+tells_no_end (told.BufferedAmountLow i) = true
+tells_no_end (told.BufferedAmountHigh i) = true
+tells_no_end told.Available = true
+
+-- nothing waits for the event: it is Finished of no stream
+abbrev pub holds_none_back : Event → Bool
+holds_none_back events.Connected = true
+holds_none_back (events.HandshakeFailed reason) = true
+holds_none_back (events.AssociationLost reason) = true
+holds_none_back (events.Stream e) = tells_no_end e
+holds_none_back (events.DataChannelStatsFinal stats) = true
+holds_none_back events.DatagramReceived = true
 
 abbrev pub debts_said : StreamEvent → DebtsView → DebtsView
 debts_said (told.Opened i) d = d

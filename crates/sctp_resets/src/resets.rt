@@ -5,11 +5,12 @@ ghost use Rattle.sctp_generations.specs.Generations.{has_skips};
 ghost use Rattle.sctp_reset_requests.specs.Own.{HasRoom};
 ghost use Rattle.sctp_reset_requests.specs.Peer.{is_one_due};
 ghost use Rattle.sctp_resets.specs.Channels.{channels};
+ghost use Rattle.sctp_resets.specs.Telling.{FrontWaits};
 ghost use Rattle.sctp_resets.specs.Resets.{no_resets, met_peer, is_blocked, is_retiring, is_hidden, refusal_of};
 ghost use Rattle.sctp_resets.specs.Resets.{with_deferred, with_skip, without_unordered, waiting_for, skips_done};
 ghost use Rattle.sctp_resets.specs.Resets.{skips_done_of, performed, settled, handled, responded, given_up, confirmed_by};
 ghost use Rattle.sctp_resets.specs.Resets.{read_out, stopped_reading, event_told, request_asked, request_sent};
-ghost use Rattle.sctp_resets.specs.Resets.{request_again, timer_expired, all_closed};
+ghost use Rattle.sctp_resets.specs.Resets.{request_again, timer_expired, all_closed, OwnAlone};
 
 use crate::answers::end_request;
 use crate::channels::{deliver_each, end_stream};
@@ -381,6 +382,7 @@ impl Resets {
         ensures again { IfOk result (λ param. request_again self.old ≡ (self.new, param)) }
         ensures room { IfOk result HasRoom }
         ensures grows { OnErr result (is_some self.old.own.active ≡ true) }
+        ensures apart { OwnAlone self.old self.new }
     {
         self.own.repeat(self.alloc)
     }
@@ -391,6 +393,7 @@ impl Resets {
         ensures exact { IfOk result (λ made. request_asked self.old queue.now ≡ (self.new, made)) }
         ensures grows { OnErr result (nat_lt 0 (length self.old.own.waiting) ≡ true) }
         ensures made { IfOk result (λ made. made ≡ true → nat_lt 0 (length self.old.own.waiting) ≡ true) }
+        ensures apart { OwnAlone self.old self.new }
     {
         let made = self.own.ask(self.alloc, queue, &self.peer)?;
         Ok(made)
@@ -404,6 +407,7 @@ impl Resets {
     ) -> Result<Option<ParamOutgoingResetRequest>, AllocError>
         ensures sent { IfOk result (λ param. request_sent self.old queue.now ≡ (self.new, param)) }
         ensures room { IfOk result HasRoom }
+        ensures apart { OwnAlone self.old self.new }
     {
         self.own.send_first(self.alloc, queue)
     }
@@ -473,13 +477,23 @@ impl Resets {
         end_stream(streams, events, id)
     }
 
-    /// Takes out the event that is told next. Where the first event waits, goes over all events once, and over those in
-    /// front of it; and for each of these over all once more where its stream has several events Finished, or another
-    /// stream with the same identifier mod 512 has one.
-    pub fn next_event(&mut self, events: &mut Events) -> Option<Event>
-        ensures { event_told self.old events.old ≡ (self.new, events.new, result) }
+    /// Takes out the event that is told next. `waiting` of the oldest events wait, and are not looked at again;
+    /// afterwards it says how many wait in front of all others. Where the event behind those that are known to wait does
+    /// so too, goes over all events once, and over those in front of the one that is told; and for each of these over
+    /// all once more where its stream has several events Finished, or another stream with the same identifier mod 512
+    /// has one.
+    #[tactic(auto, using(crate::proofs::FrontWaits::all_wait))]
+    pub fn next_event(&mut self, events: &mut Events, waiting: &mut usize) -> Option<Event>
+        requires { FrontWaits self.old.generations.retiring self.old.debts events.old waiting.old }
+        ensures told { event_told self.old events.old ≡ (self.new, events.new, result) }
+        ensures waits { FrontWaits self.new.generations.retiring self.new.debts events.new waiting.new }
     {
-        let index = next_told(&self.generations, &self.debts, events.as_queue())?;
+        let queue = events.as_queue();
+        let Some(index) = next_told(&self.generations, &self.debts, queue, *waiting) else {
+            *waiting = queue.len();
+            return None;
+        };
+        *waiting = index;
         let event = events.take(index)?;
         note_told(&mut self.debts, event);
         Some(event)

@@ -2,8 +2,8 @@
 ghost use Rattle.std.specs.Prelude.{◌≡◌, ◌&&◌, ◌+◌, nat_lt, slice_get, take};
 ghost use Rattle.std.specs.List.{count_by};
 ghost use Rattle.sctp_resets.specs.Marks.{AreMarked, tells_finished};
-ghost use Rattle.sctp_resets.specs.Telling.{debts_told, finished_in, has_unready, is_end_held, is_finished_of, is_held};
-ghost use Rattle.sctp_resets.specs.Telling.{is_told_held, next_told};
+ghost use Rattle.sctp_resets.specs.Telling.{FrontWaits, debts_told, finished_in, has_unready, is_end_held};
+ghost use Rattle.sctp_resets.specs.Telling.{is_finished_of, is_held, is_told_held, next_told};
 
 use crate::marks::{Mark, mark_all, mark_of};
 use sctp_generations::Generations;
@@ -152,51 +152,59 @@ fn is_end_held(
     !debts.awaits_end(id) && has_unready(generations, events, marks, first, id)
 }
 
-// The index of the event that is told next. Mostly that is the first one, which needs no marks.
-#[tactic(auto, using(crate::proofs::MarkedFinished::none_is_marked, crate::proofs::MarkedFinished::front_is_told, crate::proofs::MarkedFinished::nothing_is_told))]
+// The index of the event that is told next, where so many of the oldest wait. Mostly that is the first one behind these,
+// which needs no marks.
+#[tactic(auto, using(crate::proofs::MarkedFinished::none_is_marked))]
 pub(crate) fn next_told(
     generations: &Generations,
     debts: &Debts,
     events: &VecDeque<Event>,
+    waiting: usize,
 ) -> Option<usize>
+    requires { FrontWaits generations.now.retiring debts.now events.now.items waiting }
     ensures { result ≡ next_told generations.now debts.now events.now.items }
 {
-    let Some(event) = events.get(0) else {
+    let Some(event) = events.get(waiting) else {
         return None;
     };
-    if !is_held(generations, debts, events, &[], 1, *event) {
-        return Some(0);
+    if !is_held(generations, debts, events, &[], waiting + 1, *event) {
+        return Some(waiting);
     }
-    next_told_by_marks(generations, debts, events)
+    next_told_by_marks(generations, debts, events, waiting)
 }
 
-// The first event waits, and with it others, perhaps many: the events are gone over once to note where Finished stands,
-// and not once for each that waits. It stands apart, so that no other poll pays for the 8 KiB of marks.
+// One more event waits, and behind it others, perhaps many: all events are gone over once to note where Finished
+// stands, and not once for each that waits. It stands apart, so that no other poll pays for the 8 KiB of marks.
 #[cold]
 #[inline(never)]
 fn next_told_by_marks(
     generations: &Generations,
     debts: &Debts,
     events: &VecDeque<Event>,
+    waiting: usize,
 ) -> Option<usize>
+    requires { FrontWaits generations.now.retiring debts.now events.now.items waiting }
     ensures { result ≡ next_told generations.now debts.now events.now.items }
 {
     let mut marks = [Mark::Nowhere; 512];
     mark_all(&mut marks, events);
-    first_not_held(generations, debts, events, &marks)
+    first_not_held(generations, debts, events, &marks, waiting)
 }
 
-// The index of the first event that does not wait.
+// The index of the first event that does not wait, where so many of the oldest do.
+#[tactic(auto, using(crate::proofs::FrontWaits::gone_on_behind))]
 fn first_not_held(
     generations: &Generations,
     debts: &Debts,
     events: &VecDeque<Event>,
     marks: &[Mark],
+    waiting: usize,
 ) -> Option<usize>
-    requires { AreMarked marks.now events.now.items }
+    requires marked { AreMarked marks.now events.now.items }
+    requires waits { FrontWaits generations.now.retiring debts.now events.now.items waiting }
     ensures { result ≡ next_told generations.now debts.now events.now.items }
 {
-    let mut index = 0;
+    let mut index = waiting;
     while let Some(event) = events.get(index) {
         if !is_held(generations, debts, events, marks, index + 1, *event) {
             return Some(index);
