@@ -88,6 +88,8 @@ pub struct Association {
     pub(crate) stats: AssociationStats,
     /// Requests to reset streams, and the generations of streams that ended and are still read.
     pub(crate) resets: Resets,
+    /// So many of the oldest events are known to wait for a stream to be read to its end; more may.
+    pub(crate) waiting_in_front: usize,
 }
 
 // Its parts are let go here, so that a crate that owns an association proves one call where it lets go of it.
@@ -116,6 +118,7 @@ impl Drop for Association {
             rto: _rto,
             stats: _stats,
             resets: _resets,
+            waiting_in_front: _waiting_in_front,
         } = self;
     }
 }
@@ -148,6 +151,10 @@ impl Model for Association {
       counts = a.stats;
       resets = a.resets;
     } };
+
+    ghost use Rattle.sctp_resets.specs.Telling.{FrontWaits};
+
+    ghost invariant = { λ a. FrontWaits a.resets.generations.retiring a.resets.debts a.events a.waiting_in_front };
 }
 
 impl Association {
@@ -254,12 +261,13 @@ impl Association {
             remote_init.advertised_receiver_window_credit,
         );
         association.resets.meet(remote_init.initial_tsn);
-        association.events.push(Event::Connected)?;
+        association.tell(Event::Connected)?;
         Ok(association)
     }
 
     // Nothing was sent and nothing came. `peer_last_tsn` is the last TSN in order and `window` the peer's
     // receive window.
+    #[tactic(auto, using(sctp_resets::proofs::FrontWaits::none_waits))]
     fn fresh(
         alloc: Global,
         config: &TransportConfig,
@@ -313,6 +321,7 @@ impl Association {
             ),
             stats: AssociationStats::default(),
             resets: Resets::new(alloc, initial_tsn),
+            waiting_in_front: 0,
         }
     }
 
@@ -334,11 +343,13 @@ impl Association {
         Ok(self.next_event())
     }
 
-    #[tactic(auto, using(crate::proofs::EventsTold::first_is_told, crate::proofs::EventsTold::none_is_told))]
+    #[tactic(auto, using(crate::proofs::EventsTold::first_is_told, crate::proofs::EventsTold::none_is_told, sctp_resets::proofs::FrontWaits::none_waits))]
     fn next_event(&mut self) -> Option<Event>
         ensures { event_polled self.old ≡ (self.new, result) }
     {
         if self.is_first_at_once() {
+            // None was known to wait: the oldest is of a kind that never does.
+            self.waiting_in_front = 0;
             return self.events.pop();
         }
         if self.events.as_queue().is_empty() {
@@ -361,11 +372,14 @@ impl Association {
         }
     }
 
-    // Goes over the events that wait for one of their stream.
+    // Looks for an event behind those that are known to wait for one of their stream.
     fn next_ready_event(&mut self) -> Option<Event>
         ensures { event_polled self.old ≡ (self.new, result) }
     {
-        match self.resets.next_event(&mut self.events) {
+        match self
+            .resets
+            .next_event(&mut self.events, &mut self.waiting_in_front)
+        {
             Some(event) => Some(event),
             None => self.next_fault(),
         }

@@ -1,5 +1,6 @@
 // What an association does to itself: it closes, or it fails for want of memory.
-ghost use Rattle.std.specs.Prelude.{◌≡◌, ◌++◌, false, map, IfErr, IfOk, OnErr, OnOk};
+ghost use Rattle.std.specs.Prelude.{[], ◌≡◌, ◌∷◌, ◌++◌, false, true, map, IfErr, IfOk, OnErr, OnOk};
+ghost use Rattle.sctp_resets.specs.Telling.{is_not_finished};
 ghost use Rattle.sctp_streams.specs.Streams.{without_streams, last_stats};
 ghost use Rattle.sctp_streams.specs.declared.event.Event.TheVariants.{DataChannelStatsFinal};
 ghost use Rattle.sctp_assoc.specs.Closing.{closed_by, exhausted, is_closed_state, is_exhausted, out_of_resource};
@@ -35,6 +36,7 @@ pub(crate) struct Answers {
 impl Association {
     // Closes an open association once: no timer runs on, no packet waits to go out, each live stream gets its last
     // counters, and the loss is queued last. In Closed nothing changes.
+    #[tactic(auto, using(sctp_resets::proofs::FrontWaits::none_waits))]
     pub(crate) fn close_with(&mut self, reason: AssociationError) -> Result<(), AllocError>
         ensures exact { OnOk result (self.new ≡ closed_by self.old reason) }
         ensures grows { OnErr result (is_closed_state self.old.state ≡ false) }
@@ -46,9 +48,19 @@ impl Association {
         self.lost = true;
         stop_all(&mut self.timers);
         self.control.clear();
+        self.waiting_in_front = 0;
         self.resets.close();
         end_streams(&mut self.streams, &mut self.events)?;
         self.events.push(Event::AssociationLost { reason })
+    }
+
+    // Queues an event that is not Finished: those that are known to wait go on waiting.
+    pub(crate) fn tell(&mut self, event: Event) -> Result<(), AllocError>
+        requires { is_not_finished event ≡ true }
+        ensures ok { OnOk result (self.new ≡ record self.old { events = self.old.events ++ event ∷ [] }) }
+        ensures err { OnErr result (self.new ≡ self.old) }
+    {
+        self.events.push(event)
     }
 
     // Closes it by this reason. Where memory is refused it fails, and these questions answer what they answered before.

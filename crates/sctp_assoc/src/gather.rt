@@ -140,6 +140,7 @@ impl Association {
 
     // The packets of DATA: what the retransmission timer marked, what is missing, and new DATA, each bundled apart. In
     // front of each go the messages that are given up before it. Streams that this takes to their low mark are told of.
+    #[tactic(auto, using(sctp_resets::proofs::FrontWaits::none_waits))]
     fn gather_data(&mut self, now: Instant) -> Result<Vec<Bytes>, AllocError>
         ensures exact { OnOk result ((data_polled self.old now).0 ≡ self.new) }
         ensures packets { IfOk result
@@ -158,7 +159,10 @@ impl Association {
         self.resend_marked(&mut fallen, &mut packets)?;
         self.resend_missing(&mut fallen, &mut packets)?;
         self.send_new(&mut fallen, &mut packets, now)?;
+        // While they are told none is known to wait, so that the invariant holds where memory is refused.
+        let waiting = mem::replace(&mut self.waiting_in_front, 0);
         fallen.tell(&mut self.events)?;
+        self.waiting_in_front = waiting;
         packets.finish()
     }
 

@@ -142,7 +142,7 @@ impl Association {
         self.timers.stop(Timer::T1Cookie);
         self.handshake.complete();
         self.state = AssociationState::Established;
-        self.events.push(Event::Connected)
+        self.tell(Event::Connected)
     }
 
     // HEARTBEAT (RFC 4960 section 8.3): its information goes back.

@@ -21,6 +21,7 @@ use sctp_wire_queues::{
     List, Packet, PartialDecode, PayloadProtocolIdentifier, StreamEvent, check_packet,
 };
 use std::alloc::AllocError;
+use std::mem;
 
 /// How a packet goes on after one of its chunks.
 pub enum Flow {
@@ -261,7 +262,7 @@ impl Association {
             Err(_) => return Err(AllocError),
         }
         self.to_accept.push_back(id)?;
-        self.events.push(Event::Stream(StreamEvent::Opened { id }))?;
+        self.tell(Event::Stream(StreamEvent::Opened { id }))?;
         Ok(true)
     }
 
@@ -298,10 +299,9 @@ impl Association {
             Err(fault) => return Ok(Some(fault)),
         };
         self.receiver.take(tsn)?;
-        self.events.push(Event::DatagramReceived)?;
+        self.tell(Event::DatagramReceived)?;
         if kept && self.streams.is_readable(id) {
-            self.events
-                .push(Event::Stream(StreamEvent::Readable { id }))?;
+            self.tell(Event::Stream(StreamEvent::Readable { id }))?;
         }
         Ok(None)
     }
@@ -314,7 +314,7 @@ impl Association {
 
     // SACK (RFC 4960 section 6.2.1), read by its cumulative TSN ack, its gap ack blocks and its window. Streams that it
     // takes to their low mark are told of.
-    #[tactic(auto, unfolding(crate::specs::Chunks::on_sack))]
+    #[tactic(auto, using(sctp_resets::proofs::FrontWaits::none_waits), unfolding(crate::specs::Chunks::on_sack))]
     fn on_sack(
         &mut self,
         cumulative_tsn_ack: u32,
@@ -349,7 +349,10 @@ impl Association {
             SackOutcome::NamesTheUnsent => Ok(Flow::Fault(Error::ErrTsnRequestNotExist)),
             SackOutcome::Taken => {
                 self.sender.ask_for_forward_tsn(forward);
+                // While they are told none is known to wait, so that the invariant holds where memory is refused.
+                let waiting = mem::replace(&mut self.waiting_in_front, 0);
                 fallen.tell_ascending(self.alloc, &mut self.events)?;
+                self.waiting_in_front = waiting;
                 self.continue_shutdown();
                 Ok(Flow::Next(trigger))
             }

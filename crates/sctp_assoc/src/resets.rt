@@ -81,10 +81,11 @@ impl Association {
     }
 
     // A request of the peer (RFC 6525 section 5.2.2), which is answered with the next poll.
-    #[tactic(auto, unfolding(crate::specs::Resets::on_request))]
+    #[tactic(auto, using(sctp_resets::proofs::FrontWaits::none_waits), unfolding(crate::specs::Resets::on_request))]
     fn on_reset_request(&mut self, request: &ParamOutgoingResetRequest) -> Result<(), AllocError>
         ensures { OnOk result (self.new ≡ on_request self.old request.now) }
     {
+        self.waiting_in_front = 0;
         let handled = self.resets.on_request(
             request,
             self.receiver.peer_last_tsn,
@@ -133,10 +134,11 @@ impl Association {
     }
 
     // A response of the peer (RFC 6525 section 5.2.7). One that names no active request changes nothing.
-    #[tactic(auto, unfolding(crate::specs::Resets::on_response))]
+    #[tactic(auto, using(sctp_resets::proofs::FrontWaits::none_waits), unfolding(crate::specs::Resets::on_response))]
     fn on_reset_response(&mut self, response: &ParamReconfigResponse) -> Result<(), AllocError>
         ensures { OnOk result (self.new ≡ on_response self.old response.now) }
     {
+        self.waiting_in_front = 0;
         let change = self
             .resets
             .on_response(response, &mut self.streams, &mut self.events)?;
@@ -173,11 +175,12 @@ impl Association {
     // It stands apart, so that new DATA does not pay for it where nothing waits.
     #[cold]
     #[inline(never)]
-    #[tactic(auto, unfolding(crate::specs::Resets::settled))]
+    #[tactic(auto, using(sctp_resets::proofs::FrontWaits::none_waits), unfolding(crate::specs::Resets::settled))]
     fn settle_what_waits(&mut self) -> Result<(), AllocError>
         ensures exact { OnOk result (self.new ≡ settled self.old) }
         ensures grows { OnErr result (settling_takes_memory self.old ≡ true) }
     {
+        self.waiting_in_front = 0;
         let settled = self.resets.settle(
             self.receiver.peer_last_tsn,
             &mut self.streams,
@@ -201,10 +204,12 @@ impl Association {
         self.respond(settled.number, ReconfigResult::SuccessPerformed)
     }
 
+    #[tactic(auto, using(sctp_resets::proofs::FrontWaits::none_waits))]
     fn apply_skips(&mut self) -> Result<(), AllocError>
         ensures exact { OnOk result (self.new ≡ skips_applied self.old) }
         ensures grows { OnErr result (has_skips self.old.resets.generations ≡ true) }
     {
+        self.waiting_in_front = 0;
         self.resets.apply_skips(&mut self.streams, &mut self.events)
     }
 
@@ -223,9 +228,11 @@ impl Association {
 
     #[cold]
     #[inline(never)]
+    #[tactic(auto, using(sctp_resets::proofs::FrontWaits::none_waits))]
     fn apply_kept_skips_of(&mut self, id: StreamId) -> Result<(), AllocError>
         ensures { OnOk result (self.new ≡ skips_applied_of id self.old) }
     {
+        self.waiting_in_front = 0;
         self.resets
             .apply_skips_of(id, &mut self.streams, &mut self.events)
     }
@@ -249,11 +256,13 @@ impl Association {
         Ok(())
     }
 
+    #[tactic(auto, using(sctp_resets::proofs::FrontWaits::none_waits))]
     fn give_requests_up(&mut self) -> Result<(), AllocError>
         ensures exact { OnOk result (self.new ≡ gives_up self.old) }
         ensures grows { OnErr result (is_some self.old.resets.own.active ≡ true) }
     {
         self.timers.stop(Timer::Reconfig);
+        self.waiting_in_front = 0;
         self.resets.give_up(&mut self.streams, &mut self.events)
     }
 

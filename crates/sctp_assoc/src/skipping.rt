@@ -166,8 +166,7 @@ impl Association {
             return self.resets.skip(id, ssn, tsn);
         }
         if self.streams.skip(id, ssn) {
-            self.events
-                .push(Event::Stream(StreamEvent::Readable { id }))?;
+            self.tell(Event::Stream(StreamEvent::Readable { id }))?;
         }
         Ok(())
     }

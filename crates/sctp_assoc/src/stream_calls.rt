@@ -58,7 +58,7 @@ impl Association {
 
     // Takes the next message out where no generation of the stream ended, and closes where that leaves the receive
     // buffer exhausted.
-    #[tactic(auto, using(crate::proofs::StreamReads::read_without_end, crate::proofs::StreamReads::plain_read_takes_memory))]
+    #[tactic(auto, using(crate::proofs::StreamReads::plain_read_takes_memory))]
     fn read_plainly(&mut self, id: StreamId) -> Result<Option<Chunks>, Error>
         requires { is_retiring self.old.resets id ≡ false }
         ensures ok { IfOk result (λ message. read_from_stream self.old id ≡ (self.new, message)) }
@@ -91,10 +91,12 @@ impl Association {
     }
 
     // Ends the generations of the stream that ended and of which nothing waits.
+    #[tactic(auto, using(sctp_resets::proofs::FrontWaits::none_waits))]
     fn read_out(&mut self, id: StreamId) -> Result<(), AllocError>
         ensures exact { OnOk result (self.new ≡ drained_behind self.old id self.old.streams) }
         ensures grows { OnErr result (is_retiring self.old.resets id ≡ true) }
     {
+        self.waiting_in_front = 0;
         self.resets.read_out(
             id,
             &mut self.streams,
@@ -263,6 +265,7 @@ impl Association {
 
     // Queues a message, and where it takes its stream to the high mark the event of that. Where memory is refused
     // neither is queued.
+    #[tactic(auto, using(sctp_resets::proofs::FrontWaits::none_waits))]
     fn queue_message(
         &mut self,
         id: StreamId,
@@ -275,10 +278,10 @@ impl Association {
         if !high {
             return self.sender.queue.push(message);
         }
-        self.events
-            .push(Event::Stream(StreamEvent::BufferedAmountHigh { id }))?;
+        self.tell(Event::Stream(StreamEvent::BufferedAmountHigh { id }))?;
         let queued = self.sender.queue.push(message);
         if queued.is_err() {
+            self.waiting_in_front = 0;
             self.events.take_back();
         }
         queued
@@ -341,11 +344,13 @@ impl Association {
         Ok(())
     }
 
+    #[tactic(auto, using(sctp_resets::proofs::FrontWaits::none_waits))]
     fn stop_open(&mut self, id: StreamId) -> Result<(), AllocError>
         ensures exact { OnOk result (self.new ≡ stopped_open self.old id) }
     {
         self.streams.close_read_half(id);
         if self.resets.is_retiring(id) {
+            self.waiting_in_front = 0;
             self.resets
                 .stop_reading(id, &mut self.streams, &mut self.events)
         } else {

@@ -1,7 +1,9 @@
 -- Which of the oldest events wait: what is told next stands behind them, and what leaves them waiting.
 use Rattle.std.proofs.Common.{◌≡◌, refl, sym, ap, ◌∙◌, subst, ℕ, zero, suc, ◌+◌, ◌<◌, ◌≤◌, ◌==◌, nat_lt}
 use Rattle.std.proofs.Common.{Bool, true, false, ◌&&◌, not, cond, true≢false, List, [], ◌∷◌, ◌++◌, length}
-use Rattle.std.proofs.Common.{take, drop, map, remove, append_assoc, slice_get, Option, Some, None, is_some, is_eq, nat_cmp, arith}
+use Rattle.std.proofs.Common.{take, drop, map, remove, append_assoc, slice_get, Option, Some, None, is_some, is_eq}
+use Rattle.std.proofs.Common.{nat_cmp, Result, Ok, Err, arith}
+use Rattle.std.specs.Prelude.{OnErr, OnOk}
 use Rattle.std.specs.BTreeMap.{is_at}
 use Rattle.std.specs.Map.{remove_entry}
 use Rattle.std.specs.Option.{unwrap_or}
@@ -19,8 +21,9 @@ use Rattle.sctp_generations.specs.Retiring.{RetiringMap, count_at}
 use Rattle.sctp_reset_requests.specs.declared.debts.Debt.{Debt}
 use Rattle.sctp_reset_requests.specs.Debts.{DebtsView, awaits_end, changed, changed_from, entry_at, is_nothing}
 use Rattle.sctp_reset_requests.specs.Debts.{nothing_open, one_end_given, one_given, put_from, written_from}
-use Rattle.sctp_resets.specs.Telling.{FrontWaits, debts_said, debts_told, finished_in, finished_says, has_unready, holds_none_back, tells_no_end}
-use Rattle.sctp_resets.specs.Telling.{is_end_held, is_finished_of, is_held, is_told_held, next_told, retiring_alone, told_from}
+use Rattle.sctp_resets.specs.Telling.{FrontWaits, debts_said, debts_told, finished_in, finished_says, has_unready}
+use Rattle.sctp_resets.specs.Telling.{is_not_finished, is_end_held, is_finished_of, is_held, is_told_held, next_told}
+use Rattle.sctp_resets.specs.Telling.{retiring_alone, says_no_finished, told_from}
 use Rattle.sctp_resets.proofs.StreamsBeside.{removed_apart, same_identifier, set_apart}
 
 -- Lists
@@ -106,7 +109,8 @@ unready_behind g es m n id less =
     unready_more (count_at g.retiring id) (finished_in id (take m es)) (finished_in id (take n es)) (finished_in id es)
     (finished_in id es) (finished_front id m n es less) (omega arith)
 
--- an event that waits does so too where each Finished holds its stream back that did, and no end is awaited that was not
+-- an event that waits does so too where each Finished holds its stream back that did, and no end is awaited that was
+-- not
 module _ (g h : GenerationsView) (d k : DebtsView) (es fs : List Event) (m n : ℕ)
     (unready : (id : ℕ) → has_unready g es m id ≡ true → has_unready h fs n id ≡ true)
     (awaits : (id : ℕ) → has_unready g es m id ≡ true → awaits_end d id ≡ false → awaits_end k id ≡ false) where
@@ -179,8 +183,8 @@ module _ (g : GenerationsView) (d : DebtsView) (es : List Event) where
   module _ (n : ℕ) (waits : FrontWaits g.retiring d es n) where
     waits_there : (i : ℕ) (e : Event) → i < n → slice_get es i ≡ Some e → is_held g d es (i + 1) e ≡ true
     waits_there i e less there =
-        held_on (retiring_alone g.retiring) g d d es es (i + 1) (i + 1) (λ id unready. unready) (λ id unready none. none) e
-        (waits.held i e less there)
+        held_on (retiring_alone g.retiring) g d d es es (i + 1) (i + 1) (λ id unready. unready)
+        (λ id unready none. none) e (waits.held i e less there)
 
     pub gone_on_behind : told_from g d es n (drop n es) ≡ next_told g d es
     gone_on_behind =
@@ -207,7 +211,8 @@ module _ (g : GenerationsView) (d : DebtsView) (es : List Event) where
 
   -- the first of them waits, and of the others these do
   module _ (x : Event) (xs : List Event) (at : ℕ) (held : is_held g d es (at + 1) x ≡ true) (n : ℕ)
-      (others : (i k : ℕ) (e : Event) → i < n → k ≡ at + 1 + i + 1 → slice_get xs i ≡ Some e → is_held g d es k e ≡ true)
+      (others : (i k : ℕ) (e : Event) → i < n → k ≡ at + 1 + i + 1 → slice_get xs i ≡ Some e
+      → is_held g d es k e ≡ true)
     where
       held_with_first : (i k : ℕ) (e : Event) → i < suc n → k ≡ at + i + 1 → slice_get (x ∷ xs) i ≡ Some e
           → is_held g d es k e ≡ true
@@ -369,13 +374,13 @@ module _ (g : GenerationsView) (d : DebtsView) (es : List Event) (at : ℕ) wher
 pub none_waits : (m : RetiringMap) (d : DebtsView) (es : List Event) → FrontWaits m d es 0
 none_waits m d es = record { within = omega arith; held = λ i e less there. absurd (omega (arith, less)) }
 
-finished_apart : (id : ℕ) (e : Event) → holds_none_back e ≡ true → is_finished_of id e ≡ false
+finished_apart : (id : ℕ) (e : Event) → is_not_finished e ≡ true → is_finished_of id e ≡ false
 finished_apart id events.Connected none = refl
 finished_apart id (events.HandshakeFailed reason) none = refl
 finished_apart id (events.AssociationLost reason) none = refl
 finished_apart id (events.Stream e) none = said e none
   where
-    said : (e : StreamEvent) → tells_no_end e ≡ true → finished_says id e ≡ false
+    said : (e : StreamEvent) → says_no_finished e ≡ true → finished_says id e ≡ false
     said (told.Opened i) none = refl
     said (told.Readable i) none = refl
     said (told.Writable i) none = refl
@@ -391,7 +396,7 @@ finished_apart id events.DatagramReceived none = refl
 
 module _ (m : RetiringMap) (d : DebtsView) (es : List Event) (n : ℕ) where
   -- behind them comes an event for which none waits
-  pub waits_before_one : (e : Event) → FrontWaits m d es n → holds_none_back e ≡ true
+  pub waits_before_one : (e : Event) → FrontWaits m d es n → is_not_finished e ≡ true
       → FrontWaits m d (es ++ e ∷ []) n
   waits_before_one e waits none = record {
     within = omega (arith, waits.within, length_push es e);
@@ -420,3 +425,19 @@ waits_before_low [] m d es n waits = subst (λ (xs : List Event). FrontWaits m d
 waits_before_low (id ∷ ids) m d es n waits =
     subst (λ (xs : List Event). FrontWaits m d xs n) (append_assoc es (low_event id ∷ []) (map low_event ids))
     (waits_before_low ids m d (es ++ low_event id ∷ []) n (waits_before_one m d es n (low_event id) waits refl))
+
+-- they go on waiting where an event for which none waits was put behind them, or was not for want of memory
+pub waits_before_push : {E : Type 0} (m : RetiringMap) (d : DebtsView) (es : List Event) (n : ℕ) (e : Event)
+    (fs : List Event) (pushed : Result (Unit {0}) E) → OnOk pushed (fs ≡ es ++ e ∷ []) → OnErr pushed (fs ≡ es)
+    → FrontWaits m d es n → is_not_finished e ≡ true → FrontWaits m d fs n
+waits_before_push m d es n e fs (Ok done) ok err waits none =
+    subst (λ (xs : List Event). FrontWaits m d xs n) (sym ok) (waits_before_one m d es n e waits none)
+waits_before_push m d es n e fs (Err error) ok err waits none =
+    subst (λ (xs : List Event). FrontWaits m d xs n) (sym err) waits
+
+-- so many go on waiting where low marks were told of behind them
+pub waits_before_told : (ids : List ℕ) (m : RetiringMap) (d : DebtsView) (es : List Event) (n : ℕ) (fs : List Event)
+    (k : ℕ) → fs ≡ es ++ map low_event ids → k ≡ n → FrontWaits m d es n → FrontWaits m d fs k
+waits_before_told ids m d es n fs k told same waits =
+    subst (λ (xs : List Event). FrontWaits m d xs k) (sym told)
+    (subst (λ (z : ℕ). FrontWaits m d (es ++ map low_event ids) z) (sym same) (waits_before_low ids m d es n waits))

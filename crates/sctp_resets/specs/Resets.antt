@@ -233,6 +233,7 @@ with_asked r (o, made) = (record r { own = o }, made)
 
 -- only this side's requests may have changed
 pub record OwnAlone (r s : ResetsView) : Type 0 where
+  pub peer : s.peer ≡ r.peer
   pub debts : s.debts ≡ r.debts
   pub generations : s.generations ≡ r.generations
 

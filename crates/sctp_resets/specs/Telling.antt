@@ -80,7 +80,8 @@ next_told g d es = told_from g d es 0 es
 abbrev pub retiring_alone : RetiringMap → GenerationsView
 retiring_alone m = record { retiring = m; deferred = []; skips = [] }
 
--- So many of the oldest events wait, where these generations ended and are still read, and this is owed of resets.
+-- So many of the oldest events wait, and perhaps more, where these generations ended and are still read, and this is
+-- owed of resets.
 pub record FrontWaits (m : RetiringMap) (d : DebtsView) (es : List Event) (waiting : ℕ) : Type 0 where
   -- so many there are
   pub within : waiting ≤ length es
@@ -88,27 +89,27 @@ pub record FrontWaits (m : RetiringMap) (d : DebtsView) (es : List Event) (waiti
   pub held : (index : ℕ) (e : Event) → index < waiting → slice_get es index ≡ Some e
       → is_held (retiring_alone m) d es (index + 1) e ≡ true
 
--- the event is Finished of no stream
-abbrev pub tells_no_end : StreamEvent → Bool
-tells_no_end (told.Opened i) = true
-tells_no_end (told.Readable i) = true
-tells_no_end (told.Writable i) = true
-tells_no_end (told.Finished i) = false
-tells_no_end (told.ResetComplete i) = true
-tells_no_end (told.ResetFailed i reason) = true
-tells_no_end (told.Stopped i code) = true
-tells_no_end (told.BufferedAmountLow i) = true
-tells_no_end (told.BufferedAmountHigh i) = true
-tells_no_end told.Available = true
+-- the event is not Finished of a stream
+abbrev pub says_no_finished : StreamEvent → Bool
+says_no_finished (told.Opened i) = true
+says_no_finished (told.Readable i) = true
+says_no_finished (told.Writable i) = true
+says_no_finished (told.Finished i) = false
+says_no_finished (told.ResetComplete i) = true
+says_no_finished (told.ResetFailed i reason) = true
+says_no_finished (told.Stopped i code) = true
+says_no_finished (told.BufferedAmountLow i) = true
+says_no_finished (told.BufferedAmountHigh i) = true
+says_no_finished told.Available = true
 
--- nothing waits for the event: it is Finished of no stream
-abbrev pub holds_none_back : Event → Bool
-holds_none_back events.Connected = true
-holds_none_back (events.HandshakeFailed reason) = true
-holds_none_back (events.AssociationLost reason) = true
-holds_none_back (events.Stream e) = tells_no_end e
-holds_none_back (events.DataChannelStatsFinal stats) = true
-holds_none_back events.DatagramReceived = true
+-- The event is not Finished of a stream: put behind others, it changes nothing for those in front of it.
+abbrev pub is_not_finished : Event → Bool
+is_not_finished events.Connected = true
+is_not_finished (events.HandshakeFailed reason) = true
+is_not_finished (events.AssociationLost reason) = true
+is_not_finished (events.Stream e) = says_no_finished e
+is_not_finished (events.DataChannelStatsFinal stats) = true
+is_not_finished events.DatagramReceived = true
 
 abbrev pub debts_said : StreamEvent → DebtsView → DebtsView
 debts_said (told.Opened i) d = d

@@ -477,9 +477,9 @@ impl Resets {
         end_stream(streams, events, id)
     }
 
-    /// Takes out the event that is told next. `waiting` of the oldest events wait, and are not looked at again;
-    /// afterwards it says how many wait in front of all others. Where the event behind those that are known to wait does
-    /// so too, goes over all events once, and over those in front of the one that is told; and for each of these over
+    /// Takes out the event that is told next. `waiting` of the oldest events are known to wait, and are not looked at
+    /// again; afterwards so many as it says then are known to. Where the event behind those that are known to wait does
+    /// so too, goes over all events once, and over those from it to the one that is told; and for each of these over
     /// all once more where its stream has several events Finished, or another stream with the same identifier mod 512
     /// has one.
     #[tactic(auto, using(crate::proofs::FrontWaits::all_wait))]

@@ -152,8 +152,8 @@ fn is_end_held(
     !debts.awaits_end(id) && has_unready(generations, events, marks, first, id)
 }
 
-// The index of the event that is told next, where so many of the oldest wait. Mostly that is the first one behind these,
-// which needs no marks.
+// The index of the event that is told next, where so many of the oldest wait. Mostly that is the first one behind
+// these, which needs no marks.
 #[tactic(auto, using(crate::proofs::MarkedFinished::none_is_marked))]
 pub(crate) fn next_told(
     generations: &Generations,

@@ -15,6 +15,7 @@ pub returns-then-not-is_held : goal.returns-then-not-is_held
 returns-then-not-is_held c =
     let queue = c.args.events.now.items in
     let within = ltb-true c.args.waiting (length queue) (sym c.get.ensures.item.0 ∙ ap is_some c.in-Some.is) in
-    sym (first_behind_is_told c.args.generations.now c.args.debts.now queue c.args.waiting c.requires c.in-Some.event.now
+    sym (first_behind_is_told c.args.generations.now c.args.debts.now queue c.args.waiting c.requires
+    c.in-Some.event.now
     (slice_get_read queue (length queue) c.args.waiting c.in-Some.event.now refl within c.in-Some.ensures.lookup)
     (sym c.is_held.ensures ∙ c.if-not-is_held.true))

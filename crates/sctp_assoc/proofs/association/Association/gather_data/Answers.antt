@@ -6,6 +6,7 @@ use Rattle.sctp_wire.specs.DataPackets.{IsReadBack, datagrams_of, nothing_writte
 use Rattle.sctp_streams.specs.LowMarks.{AreGathered, low_event}
 use Rattle.sctp_inbound.specs.Handshake.{header_of}
 use Rattle.sctp_outbound.proofs.SenderSteps.{on_err}
+use Rattle.sctp_resets.proofs.FrontWaits.{waits_before_told}
 use Rattle.sctp_assoc.specs.Gather.{AreReadAgain, after_fast, after_marks, after_new, bundled, data_polled, fast_gives}
 use Rattle.sctp_assoc.specs.Gather.{fast_polled, fast_sent, fell_in_poll, late_abandoned, marks_polled, marks_sent}
 use Rattle.sctp_assoc.specs.Gather.{new_gives, new_polled, new_sent}
@@ -107,3 +108,10 @@ returns-clause-grows c =
     let same = all_bundled (goal.at.returns-clause-grows c).In_ok-send_new in
     on_err_weaker c.finish.result (λ some. last_is_given c.args.self.now c.args.now c.send_new.new.packets same some)
     c.finish.ensures.grows
+
+pub invariant_of-self-2 : goal.invariant_of-self-2
+invariant_of-self-2 c =
+    let r = c.self-3.inside.resets in
+    waits_before_told c.send_new.new.fallen.ids r.generations.retiring r.debts c.self-3.inside.events
+    c.self-3.inside.waiting_in_front c.tell.new.events c.replace-waiting.result c.in_ok-tell.ensures.told
+    c.replace-waiting.ensures.value c.self-3.invariant

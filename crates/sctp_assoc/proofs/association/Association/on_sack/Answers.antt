@@ -5,6 +5,7 @@ use Rattle.sctp_outbound.specs.declared.sender.SackOutcome.TheVariants as outcom
 use Rattle.sctp_outbound.specs.Sacks.{sack_taken}
 use Rattle.sctp_outbound.specs.Sender.{sack_outcome}
 use Rattle.sctp_outbound.proofs.SenderSteps.{on_err}
+use Rattle.sctp_resets.proofs.FrontWaits.{waits_before_told}
 use Rattle.sctp_assoc.specs.declared.inbound.Flow.TheVariants as flows
 use Rattle.sctp_assoc.specs.Calls.{sends_data}
 use Rattle.sctp_assoc.specs.Chunks.{counted_sack}
@@ -66,3 +67,10 @@ returns-in_ok-tell_ascending-in-Taken-clause-exact c =
       }),
       flows.Next c.args.trigger,
     )) (sym c.self.view_is))
+
+pub invariant_of-self-in-Taken : goal.invariant_of-self-in-Taken
+invariant_of-self-in-Taken c =
+    let r = c.self.inside.resets in
+    waits_before_told (ascending c.on_sack-outcome.new.fallen.ids) r.generations.retiring r.debts c.self.inside.events
+    c.self.inside.waiting_in_front c.tell_ascending.new.events c.replace-waiting.result
+    c.in_ok-tell_ascending-in-Taken.ensures.told c.replace-waiting.ensures.value c.self.invariant
