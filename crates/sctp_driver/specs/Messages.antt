@@ -80,7 +80,7 @@ GivesNew m kept buffer (answers.NoRoom n) left filled =
     (n ≡ length m.bytes) × (length buffer < n) × (left ≡ kept ++ m ∷ []) × (filled ≡ buffer)
 GivesNew m kept buffer answers.Nothing left filled = ⊥
 
--- the same of a driver, in which nothing but what is kept changes
+-- what `Gives` says, of a driver, in which nothing but what is kept changes
 abbrev pub Reads : Driving → ℕ → List ℕ → ReadAnswer → Driving → List ℕ → Type 0
 Reads d id buffer answer e filled =
     Gives id d.kept buffer answer e.kept filled × (e ≡ record d { kept = e.kept })

@@ -204,8 +204,7 @@ pub(crate) fn give(
     })
 }
 
-/// Gives a message that was just read where the buffer has room for it, by one copy. Where it has none, or where memory
-/// is refused, the message is kept.
+/// Gives a message that was just read where the buffer has room for it; else, and where memory is refused, it is kept.
 pub(crate) fn give_new(
     kept: &mut VecDeque<Kept>,
     message: Kept,

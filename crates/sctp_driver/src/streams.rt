@@ -87,7 +87,7 @@ impl Driver {
         }
     }
 
-    // Takes the next message of a stream, of which none is kept, out of the association.
+    // Takes the next message of a stream, of which none is kept, out of the association and gives it.
     fn read_next(&mut self, id: StreamId, buffer: &mut [u8]) -> Result<ReadAnswer, Error>
         requires { index_of id self.old.kept ≡ None }
         ensures ok { IfOk result
