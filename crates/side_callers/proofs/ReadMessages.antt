@@ -1,6 +1,6 @@
 -- What a run reads was made of DATA that the run delivered before.
 use Rattle.std.proofs.Common.{◌≡◌, refl, sym, ap, ◌∙◌, subst, inl, inr, ℕ, zero, suc, Bool, true, false}
-use Rattle.std.proofs.Common.{List, [], ◌∷◌, ◌++◌, take, Option, Some, None}
+use Rattle.std.proofs.Common.{List, [], ◌∷◌, ◌++◌, length, take, Option, Some, None}
 use Rattle.std.specs.Prelude.{IfOk, Result, Ok, Err, is_some, slice_get}
 use Rattle.std.specs.declared.net.ip_addr.IpAddr.{IpAddr}
 use Rattle.std.specs.declared.net.socket_addr.SocketAddr.{SocketAddr}
@@ -207,6 +207,20 @@ run_came (c ∷ cs) (r ∷ rs) came s t packets more (u, given, step, others) he
       found.1,
       subst (IsReadBy found.0 m) (append_assoc came (data_delivered c) (flat_map data_delivered (take index cs))) found.2,
     )
+
+-- each call has its reply
+pub replied_each : (cs : List Call) (rs : List Reply) (s t : AbstractAssociation) (packets more : List (List ℕ))
+    → IsRun cs s packets rs t more → length rs ≡ length cs
+replied_each [] [] s t packets more run = refl
+replied_each [] (r ∷ rs) s t packets more run = absurd run
+replied_each (c ∷ cs) [] s t packets more run = absurd run
+replied_each (c ∷ cs) (r ∷ rs) s t packets more (u, given, step, others) =
+    ap suc (replied_each cs rs u t given more others)
+
+pub each_is_replied : (cs : List Call) (rs : List Reply) (a b : Shown) (packets more : List (List ℕ))
+    → RunsOn cs a packets rs b more → (h : History) → StandsOn a h → length rs ≡ length cs
+each_is_replied cs rs a b packets more run h stands =
+    let led = run.from h stands in replied_each cs rs (abstract a h) (abstract b led.0) packets more led.1
 
 nothing_held : (came : List ChunkPayloadData) (a : Shown) → HoldsNothing a → SideHoldsOnly (IsAmong came) a
 nothing_held came a none = record {

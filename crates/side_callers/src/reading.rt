@@ -1,6 +1,6 @@
-// What is read came: against any peer at all, a read gives nothing that was not in a datagram that was delivered before.
-// And once it was told that the association was lost, nothing more is accepted.
-ghost use Rattle.std.specs.Prelude.{IfOk};
+// What is read came: against any peer at all, a read gives nothing that was not in a datagram that was delivered
+// before. And once it was told that the association was lost, nothing more is accepted.
+ghost use Rattle.std.specs.Prelude.{◌≡◌, length, IfOk};
 ghost use Rattle.sctp_directions.specs.Acts.{History};
 ghost use Rattle.sctp_assoc.specs.Abstract.{StandsOn};
 ghost use Rattle.sctp_sides.specs.OneSide.{IsFresh};
@@ -15,14 +15,17 @@ use sctp_assoc::{
 use std::alloc::Global;
 use std::net::{IpAddr, SocketAddr};
 
-/// Carries out calls on an association that stands on some past. Where it holds nothing yet, each message that is read
-/// on a stream was made of DATA chunks of datagrams that calls before the read delivered: of all pieces of one message
-/// on that stream. Where it is as a constructor leaves it, no write is accepted once its loss was told.
+/// Carries out calls on an association that stands on some past, and answers one reply for each. Where it holds nothing
+/// yet, each message that is read on a stream was made of DATA chunks of datagrams that calls before the read
+/// delivered: of all pieces of one message on that stream. Where it is as a constructor leaves it, no write is accepted
+/// once its loss was told.
 pub fn run_and_read(
     association: &mut Association,
     calls: &[Call],
     packets: &mut Vec<Bytes>,
 ) -> Result<Vec<Reply>, Error>
+    ensures each { IfOk result (λ replies. (h : History) → StandsOn association.old h
+        → length replies.items ≡ length calls.now) }
     ensures came { IfOk result (λ replies. (h : History) → StandsOn association.old h → HoldsNothing association.old
         → ReadsGiveWhatCame calls.now replies.items) }
     ensures ended { IfOk result (λ replies. (h : History) → StandsOn association.old h → IsFresh association.old
@@ -45,6 +48,7 @@ pub fn run_new(
     now: Instant,
     calls: &[Call],
 ) -> Result<Vec<Reply>, Error>
+    ensures each { IfOk result (λ replies. length replies.items ≡ length calls.now) }
     ensures came { IfOk result (λ replies. ReadsGiveWhatCame calls.now replies.items) }
     ensures ended { IfOk result (λ replies. NothingIsAcceptedBehindALoss replies.items) }
 {
@@ -75,6 +79,7 @@ pub fn run_joined(
     remote_init: &ChunkInit,
     calls: &[Call],
 ) -> Result<Vec<Reply>, Error>
+    ensures each { IfOk result (λ replies. length replies.items ≡ length calls.now) }
     ensures came { IfOk result (λ replies. ReadsGiveWhatCame calls.now replies.items) }
     ensures ended { IfOk result (λ replies. NothingIsAcceptedBehindALoss replies.items) }
 {

@@ -8,6 +8,12 @@ use Rattle.side_callers.proofs.reading.run_joined.Goals as goal
 
 -- the association stands on the past on which a constructor lets it begin, holds nothing, and is fresh
 
+pub returns-clause-each : goal.returns-clause-each
+returns-clause-each c =
+    let made = c.in_ok-association.ensures in
+    if_ok c.run_and_read.result _ _ c.run_and_read.ensures.each (λ replies replied. replied
+    (begun c.args.local_init.now.initial_tsn c.args.remote_init.now.initial_tsn) (λ works. made.begins))
+
 pub returns-clause-came : goal.returns-clause-came
 returns-clause-came c =
     let made = c.in_ok-association.ensures in
