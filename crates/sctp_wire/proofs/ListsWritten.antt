@@ -95,6 +95,16 @@ module _ (old one two three : List ℕ) (h head l : ℕ) (value : List ℕ) wher
   frame_written e len lt first second third =
       (rw (← len) (lt-ltb _ _ lt), rw (third, second, first, e, len) (simp append_assoc))
 
+-- ---- a frame of which the head and the first part of the value are written at once
+
+module _ (old one two three : List ℕ) (h l : ℕ) (value first rest : List ℕ) where
+  pub parts_written : value ≡ first ++ rest → l ≡ length value → l < 65532
+      → one ≡ old ++ (to_be_bytes w16 h ++ to_be_bytes w16 (4 + l) ++ first)
+      → two ≡ one ++ rest → three ≡ two ++ zeros (pad_len l)
+      → (frame_fits (framed h value) ≡ true) × (three ≡ old ++ padded (framed h value))
+  parts_written parts len lt made more padding =
+      (rw (← len) (lt-ltb _ _ lt), rw (padding, more, made, len, parts) (simp append_assoc))
+
 -- ---- lengths of entries
 
 pub flat_length : {A : Type 0} (f : A → List ℕ) (width : ℕ) → ((x : A) → length (f x) ≡ width) → (xs : List A)

@@ -31,5 +31,15 @@ payload_data_value c =
     to_be_bytes w32 c.tsn ++ to_be_bytes w16 c.stream_identifier ++ to_be_bytes w16 c.stream_sequence_number
     ++ to_be_bytes w32 (number_of c.payload_type) ++ c.user_data
 
+-- the fields before the payload
+abbrev pub data_fields : ChunkPayloadData → List ℕ
+data_fields c =
+    to_be_bytes w32 c.tsn ++ to_be_bytes w16 c.stream_identifier ++ to_be_bytes w16 c.stream_sequence_number
+    ++ to_be_bytes w32 (number_of c.payload_type)
+
+-- all that stands before the payload, of a chunk whose value is so long
+abbrev pub data_header : ChunkPayloadData → ℕ → List ℕ
+data_header c len = to_be_bytes w16 (payload_data_flags c) ++ to_be_bytes w16 (4 + len) ++ data_fields c
+
 abbrev pub IsPayloadData : ChunkPayloadData → Type 0
 IsPayloadData c = IsU32 c.tsn × IsU16 c.stream_identifier × IsU16 c.stream_sequence_number

@@ -1,16 +1,17 @@
 // DATA (RFC 4960 section 3.3.1).
-ghost use Rattle.std.specs.Prelude.{◌≡◌, ◌≤◌, ◌++◌, OnOk};
+ghost use Rattle.std.specs.Prelude.{◌≡◌, ◌<◌, ◌≤◌, OnOk};
 ghost use Rattle.sctp_wire.specs.Results.{Yields, Appends};
-ghost use Rattle.sctp_wire.specs.Numbers.{bit};
+ghost use Rattle.std.specs.Int.{w16, w32, to_be_bytes};
+ghost use Rattle.sctp_wire.specs.Numbers.{bit, IsU16, IsU32};
 ghost use Rattle.sctp_wire.specs.Frames.{framed, padded, frame_fits};
-ghost use Rattle.sctp_wire.specs.PayloadData.{payload_data_of, payload_data_flags, payload_data_value, IsPayloadData};
+ghost use Rattle.sctp_wire.specs.PayloadData.{data_header, payload_data_of, payload_data_flags, payload_data_value};
+ghost use Rattle.sctp_wire.specs.PayloadData.{IsPayloadData};
 
 use crate::error::WireError;
-use crate::frame::{MAX_VALUE, put_head, put_padding};
-use crate::number::{put_u16, put_u32, read_u16, read_u32};
+use crate::frame::{MAX_VALUE, put_padding};
+use crate::number::{read_u16, read_u32};
 use bytes::Bytes;
 use sctp_wire_types::{ChunkPayloadData, Fault, PayloadProtocolIdentifier};
-use std::alloc::AllocError;
 
 #[tactic(auto, unfolding(crate::specs::PayloadData::payload_data_of))]
 pub(crate) fn read_payload_data(flags: u16, value: Bytes) -> Result<ChunkPayloadData, WireError>
@@ -55,16 +56,36 @@ fn flags_of(piece: &ChunkPayloadData) -> u16
         + bit_of(piece.immediate_sack, 8)
 }
 
-fn put_payload_fields(out: &mut Vec<u8>, piece: &ChunkPayloadData) -> Result<(), AllocError>
-    ensures bytes { OnOk result (out.new.items ≡ out.old.items ++ payload_data_value piece.now) }
-    ensures range { OnOk result (IsPayloadData piece.now) }
+fn bytes_of_u16(number: u16) -> [u8; 2]
+    ensures bytes { result ≡ to_be_bytes w16 number }
+    ensures range { IsU16 number }
 {
-    put_u32(out, piece.tsn)?;
-    put_u16(out, piece.stream_identifier)?;
-    put_u16(out, piece.stream_sequence_number)?;
-    put_u32(out, piece.payload_type.number())?;
-    out.extend_from_slice(piece.user_data.as_slice())?;
-    Ok(())
+    number.to_be_bytes()
+}
+
+fn bytes_of_u32(number: u32) -> [u8; 4]
+    ensures bytes { result ≡ to_be_bytes w32 number }
+    ensures range { IsU32 number }
+{
+    number.to_be_bytes()
+}
+
+// All that stands before the payload, of a chunk whose value has `len` bytes: one array, so that it is written at once.
+fn header_of(piece: &ChunkPayloadData, len: usize) -> [u8; 16]
+    requires { len < 65532 }
+    ensures bytes { result ≡ data_header piece.now len }
+    ensures range { IsPayloadData piece.now }
+{
+    let head = bytes_of_u16(flags_of(piece));
+    let length = bytes_of_u16((4 + len) as u16);
+    let tsn = bytes_of_u32(piece.tsn);
+    let stream = bytes_of_u16(piece.stream_identifier);
+    let number = bytes_of_u16(piece.stream_sequence_number);
+    let kind = bytes_of_u32(piece.payload_type.number());
+    [
+        head[0], head[1], length[0], length[1], tsn[0], tsn[1], tsn[2], tsn[3], stream[0],
+        stream[1], number[0], number[1], kind[0], kind[1], kind[2], kind[3],
+    ]
 }
 
 // The payload goes straight into the output.
@@ -77,8 +98,8 @@ pub(crate) fn put_payload_data(out: &mut Vec<u8>, piece: &ChunkPayloadData) -> R
     if len > MAX_VALUE {
         return Err(WireError::Malformed(Fault::Long));
     }
-    put_head(out, flags_of(piece), len)?;
-    put_payload_fields(out, piece)?;
+    out.extend_from_slice(&header_of(piece, len))?;
+    out.extend_from_slice(piece.user_data.as_slice())?;
     put_padding(out, len)?;
     Ok(())
 }
