@@ -23,6 +23,12 @@ abbrev pub Yields : {Y : Type 0} → Result Y WireError → Result Y Fault → T
 Yields (Ok x) given = given ≡ Ok x
 Yields (Err e) given = IsFaultOrNoMemory e given
 
+-- the answer and the bytes that are left are what the definition gives, or the error is its first fault, or memory ran
+-- out
+abbrev pub Takes : {Y : Type 0} → Result Y WireError → List ℕ → Result (Y × List ℕ) Fault → Type 0
+Takes (Ok x) left given = given ≡ Ok (x, left)
+Takes (Err e) left given = IsFaultOrNoMemory e given
+
 -- the bytes were written at the end, all of them, where they fit; refused as too long where they do not; or memory ran
 -- out
 abbrev pub Appends : Result (Unit {0}) WireError → Bool → List ℕ → List ℕ → List ℕ → Type 0

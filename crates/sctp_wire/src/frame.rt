@@ -1,7 +1,7 @@
 // Frames: what chunks, parameters and error causes have in common.
-ghost use Rattle.std.specs.Prelude.{◌≡◌, ◌<◌, ◌+◌, ◌++◌, length, IfOk, OnOk};
+ghost use Rattle.std.specs.Prelude.{◌≡◌, ◌<◌, ◌+◌, ◌++◌, length, OnOk};
 ghost use Rattle.std.specs.Int.{w16, to_be_bytes};
-ghost use Rattle.sctp_wire.specs.Results.{Yields, Appends};
+ghost use Rattle.sctp_wire.specs.Results.{Takes, Appends};
 ghost use Rattle.sctp_wire.specs.Numbers.{IsU16};
 ghost use Rattle.sctp_wire.specs.Frames.{pad_len, padded_len, frame_at, zeros, framed, bare, padded, frame_fits};
 ghost use Rattle.sctp_wire.specs.Frames.{WritesBare};
@@ -27,13 +27,12 @@ fn with_padding(len: usize) -> usize
     len + (4 - len % 4) % 4
 }
 
-/// The first frame, a cut of `bytes`, and what follows it.
+/// Reads the first frame, a cut of `rest`, and leaves what follows it.
 #[tactic(auto, unfolding(crate::specs::Frames::frame_at))]
-pub(crate) fn read_frame(bytes: Bytes) -> Result<(Frame, Bytes), WireError>
-    ensures exact { Yields result (frame_at bytes) }
-    ensures shorter { IfOk result (λ r. length r.1 < length bytes) }
+pub(crate) fn read_frame(rest: &mut Bytes) -> Result<Frame, WireError>
+    ensures exact { Takes result rest.new (frame_at rest.old) }
+    ensures shorter { OnOk result (length rest.new < length rest.old) }
 {
-    let mut rest = bytes;
     let length = rest.len();
     if length < 4 {
         return Err(WireError::Malformed(Fault::Short));
@@ -48,7 +47,7 @@ pub(crate) fn read_frame(bytes: Bytes) -> Result<(Frame, Bytes), WireError>
     }
     let value = rest.slice(4..len)?;
     rest.advance(with_padding(len).min(length));
-    Ok((Frame { head, value }, rest))
+    Ok(Frame { head, value })
 }
 
 /// Greatest length of a value: with its head of four bytes it has to fit 16 bits.

@@ -32,10 +32,9 @@ pub(crate) fn read_items<T: Item>(
     let mut items = Vec::new(alloc);
     let mut rest = bytes;
     'items: while rest.len() >= least {
-        let (frame, after) = read_frame(rest)?;
+        let frame = read_frame(&mut rest)?;
         let item = T::read(alloc, frame)?;
         items.push(item)?;
-        rest = after;
     }
     Ok(List::from_vec(items))
 }

@@ -17,15 +17,16 @@ use std::alloc::Global;
 pub(crate) fn read_reconfig(alloc: Global, value: Bytes) -> Result<ChunkReconfig, WireError>
     ensures { Yields result (reconfig_of value) }
 {
-    let (frame, after) = read_frame(value)?;
+    let mut rest = value;
+    let frame = read_frame(&mut rest)?;
     let first = Param::read(alloc, frame)?;
-    if after.len() < 4 {
+    if rest.len() < 4 {
         return Ok(ChunkReconfig {
             first,
             second: None,
         });
     }
-    let (frame, _) = read_frame(after)?;
+    let frame = read_frame(&mut rest)?;
     let second = Param::read(alloc, frame)?;
     Ok(ChunkReconfig {
         first,

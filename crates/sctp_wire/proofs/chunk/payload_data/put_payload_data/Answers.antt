@@ -1,4 +1,4 @@
-use Rattle.std.proofs.Common.{◌∙◌, refl, ap, arith}
+use Rattle.std.proofs.Common.{refl, arith}
 use Rattle.sctp_wire.specs.PayloadData.{data_fields, payload_data_flags, payload_data_value}
 use Rattle.sctp_wire.proofs.ListsWritten.{parts_written}
 use Rattle.sctp_wire.proofs.chunk.payload_data.put_payload_data.Goals as goal
