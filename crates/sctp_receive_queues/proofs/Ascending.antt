@@ -1,11 +1,12 @@
 -- Ordered messages whose SSNs ascend.
 use Rattle.std.proofs.Common.{◌≡◌, ◌≢◌, ℕ, ◌+◌, ◌-◌, ◌<◌, ◌≤◌, ◌^◌, true, false, eqb, List, length, refl, sym}
 use Rattle.std.proofs.Common.{◌∙◌, ap, ⊎_elim, arith, get_or, set, Option, Some, None, insert, Result, Ok, Err}
-use Rattle.std.proofs.Common.{slice_get, unwrap_or, OnOk, OnErr, option_to_list, ◌++◌, ◌∷◌, suc}
+use Rattle.std.proofs.Common.{slice_get, unwrap_or, OnOk, OnErr, option_to_list, ◌++◌, ◌∷◌, [], suc}
 use Rattle.std.proofs.lemmas.Bool.{cases_Bool, cases_lt, cases_eq, ne_eqb, eq-eqb}
 use Rattle.std.proofs.lemmas.Bool.Decides.{nat_tests}
 use Rattle.std.proofs.lemmas.List.{get_or-set_same, get_or-set_other, get_or_default, length-set}
 use Rattle.std.proofs.lemmas.List.Edits.{length-insert, get_or-insert_at, get_or-insert_below, get_or-insert_above}
+use Rattle.std.proofs.lemmas.List.Edits.{insert_end}
 use Rattle.std.proofs.lemmas.Option.{slice_get-get_or}
 use Rattle.sctp_serial.specs.Serial.{ssn_lt, ssn_past}
 use Rattle.sctp_receive_queues.proofs.Searches.{absent, found}
@@ -199,6 +200,9 @@ newest_has gs last a some b is =
 
 -- Changes that keep the order.
 
+same_ascend : (gs hs : List Group) → gs ≡ hs → Ascend hs → Ascend gs
+same_ascend gs hs e a = rw e a
+
 -- behind the index of a new message each stands one further
 above_place : (gs : List Group) (index : ℕ) (x d : Group) (k : ℕ) → index ≤ length gs → index < k
     → get_or (insert gs index x) k d ≡ get_or gs (k - 1) d
@@ -243,6 +247,13 @@ module _ (gs : List Group) (index : ℕ) (x : Group) (a : Ascend gs) (le : index
       (cases_lt index j))
       (cases_lt j index)
 
+-- a message behind all, whose SSN is past theirs
+pub push_ascends : (gs : List Group) (x : Group) → Ascend gs → x.ssn < 2 ^ 16 → AreEndsBefore gs (length gs) x.ssn
+    → Ascend (gs ++ x ∷ [])
+push_ascends gs x a b before =
+    same_ascend (gs ++ x ∷ []) (insert gs (length gs) x) (sym (insert_end gs x))
+    (insert_ascends gs (length gs) x a (omega arith) b before (λ h. absurd (omega (arith, h))))
+
 -- a message in place of one with its SSN
 module _ (gs : List Group) (k : ℕ) (y : Group) (e : y.ssn ≡ (get_or gs k y).ssn) (h : k < length gs) where
   -- changes the SSN of no index
@@ -272,9 +283,6 @@ pub put_ascends : (r : Result (Unit {0}) Error) (gs hs : List Group) (k : ℕ) (
     → OnOk r (hs ≡ put_at (Some k) gs p) → OnErr r (hs ≡ gs) → k < length gs → Ascend gs → Ascend hs
 put_ascends (Ok u) gs hs k p put same h a = rw put (grown_ascends (slice_get gs k) gs k p refl h a)
 put_ascends (Err e) gs hs k p put same h a = rw same a
-
-same_ascend : (gs hs : List Group) → gs ≡ hs → Ascend hs → Ascend gs
-same_ascend gs hs e a = rw e a
 
 tail_ascends : (g : Group) (gs : List Group) → Ascend (g ∷ gs) → Ascend gs
 tail_ascends g gs a i j d lt h = a (suc i) (suc j) d (omega (arith, lt)) (omega (arith, h))

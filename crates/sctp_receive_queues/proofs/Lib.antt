@@ -2,6 +2,7 @@ pub mod Ascending
 pub mod SaturatedSums
 pub mod BytesWaiting
 pub mod Cuts
+pub mod PutBehind
 pub mod ReadyMessages
 pub mod Reach
 pub mod RunsJoined

@@ -36,8 +36,8 @@ impl Group {
         ensures { result ≡ group_of piece }
     {
         let ssn = piece.stream_sequence_number;
+        let complete = piece.beginning_fragment && piece.ending_fragment;
         let pieces = Pieces::of(alloc, piece);
-        let complete = pieces.is_complete();
         Group {
             ssn,
             pieces,

@@ -1,12 +1,12 @@
 // Ordered messages that are put together, in the order of their SSNs.
 ghost use Rattle.std.specs.Prelude.{◌≡◌, ◌<◌, ◌≤◌, ◌-◌, ◌↔◌, ◌⊎◌, ◌++◌, length, [], position, slice_get, None, Some};
 ghost use Rattle.std.specs.Prelude.{IsOk, IsSome, IsTrue, IfErr, IfSome, OnOk, OnErr, filter, insert, option_copied};
-ghost use Rattle.std.specs.Prelude.{option_to_list};
+ghost use Rattle.std.specs.Prelude.{option_to_list, ◌∷◌, false, IfOk};
 ghost use Rattle.sctp_serial.specs.Serial.{ssn_lt};
 ghost use Rattle.sctp_receive_queues.specs.Ascending.{Ascend, AreEndsBefore, AreEndsBehind};
 ghost use Rattle.sctp_receive_queues.specs.Pieces.{bytes_of, refusal_of};
-ghost use Rattle.sctp_receive_queues.specs.Reassembly.{put_at, pieces_at, index_of_ssn, index_for_ssn, with_ordered};
-ghost use Rattle.sctp_receive_queues.specs.Reassembly.{refusal_of_ordered, bounded, stays, saturated_bytes};
+ghost use Rattle.sctp_receive_queues.specs.Reassembly.{put_at, pieces_at, group_of, index_of_ssn, index_for_ssn};
+ghost use Rattle.sctp_receive_queues.specs.Reassembly.{refusal_of_ordered, with_ordered, bounded, stays, saturated_bytes};
 
 use crate::group::Group;
 use sctp_wire_types::{ChunkPayloadData, Error, sna16lt, sna16lte};
@@ -69,13 +69,33 @@ impl Groups {
         }
     }
 
-    // Puts a piece to the others of its message; where it is refused nothing changes.
+    // Puts a piece to the others of its message, and answers whether the first message may be another than before, or
+    // have more pieces; where it is refused nothing changes.
     pub(crate) fn put(
         &mut self,
         alloc: Global,
         piece: ChunkPayloadData,
         limit: u32,
-    ) -> Result<(), Error>
+    ) -> Result<bool, Error>
+        ensures put { OnOk result (self.new ≡ with_ordered self.old piece) }
+        ensures first { IfOk result (λ changed. (changed ≡ false) → slice_get self.new 0 ≡ slice_get self.old 0) }
+        ensures unchanged { OnErr result (self.new ≡ self.old) }
+        ensures taken { IsOk result → refusal_of_ordered self.old piece limit ≡ None }
+        ensures refused { IfErr result
+            (λ e. ((e ≡ Error.ErrNoMemory) × (refusal_of_ordered self.old piece limit ≡ None))
+            ⊎ (refusal_of_ordered self.old piece limit ≡ Some e)) }
+    {
+        if self.is_past_all(piece.stream_sequence_number) {
+            let is_first = self.list.is_empty();
+            self.add_behind(alloc, piece, limit)?;
+            return Ok(is_first);
+        }
+        self.put_among(alloc, piece, limit)?;
+        Ok(true)
+    }
+
+    // As `put`, for a piece that is not known to be of a message behind all.
+    fn put_among(&mut self, alloc: Global, piece: ChunkPayloadData, limit: u32) -> Result<(), Error>
         ensures put { OnOk result (self.new ≡ with_ordered self.old piece) }
         ensures unchanged { OnErr result (self.new ≡ self.old) }
         ensures taken { IsOk result → refusal_of_ordered self.old piece limit ≡ None }
@@ -87,6 +107,30 @@ impl Groups {
             Some(index) => self.add_at(index, piece, limit),
             None => self.add_new(alloc, piece, limit),
         }
+    }
+
+    // Puts a piece, as a message of its own, behind all; where it is refused nothing changes.
+    fn add_behind(
+        &mut self,
+        alloc: Global,
+        piece: ChunkPayloadData,
+        limit: u32,
+    ) -> Result<(), Error>
+        requires ascend { Ascend self.old }
+        requires before { AreEndsBefore self.old (length self.old) piece.stream_sequence_number }
+        ensures put { OnOk result (self.new ≡ self.old ++ group_of piece ∷ []) }
+        ensures unchanged { OnErr result (self.new ≡ self.old) }
+        ensures taken { IsOk result → refusal_of [] piece limit ≡ None }
+        ensures refused { IfErr result (λ e. ((e ≡ Error.ErrNoMemory) × (refusal_of [] piece limit ≡ None))
+            ⊎ (refusal_of [] piece limit ≡ Some e)) }
+    {
+        if let Some(error) = refusal_of_first(&piece, limit) {
+            return Err(error);
+        }
+        self.list.reserve(1)?;
+        self.list.push_back_reserved(Group::of(alloc, piece));
+        self.ascends = true;
+        Ok(())
     }
 
     fn find(&self, ssn: u16) -> Option<usize>
@@ -113,12 +157,14 @@ impl Groups {
         }
     }
 
-    // Whether an SSN is known to be past all that are held.
+    // Whether the SSNs are known to ascend, and this one to be past all.
     fn is_past_all(&self, ssn: u16) -> bool
         ensures none { IsTrue result → index_of_ssn ssn self.now ≡ None }
         ensures last { IsTrue result → index_for_ssn ssn self.now ≡ length self.now }
+        ensures ascend { IsTrue result → Ascend self.now }
+        ensures before { IsTrue result → AreEndsBefore self.now (length self.now) ssn }
     {
-        self.ascends && is_past_before(&self.list, self.list.len(), ssn)
+        self.ascends() && is_past_ends(&self.list, ssn)
     }
 
     fn add_at(&mut self, index: usize, piece: ChunkPayloadData, limit: u32) -> Result<(), Error>
@@ -231,6 +277,16 @@ fn first_past(groups: &VecDeque<Group>, ssn: u16) -> Option<usize>
     ensures bound { IfSome result (λ index. index < length groups.now.items) }
 {
     groups.iter().position(|group| sna16lt(ssn, group.ssn()))
+}
+
+// Whether an SSN is past the first message and past the last one, where there are any.
+fn is_past_ends(groups: &VecDeque<Group>, ssn: u16) -> bool
+    ensures { IsTrue result → AreEndsBefore groups.now.items (length groups.now.items) ssn }
+{
+    match (groups.front(), groups.back()) {
+        (Some(first), Some(last)) => sna16lt(first.ssn(), ssn) && sna16lt(last.ssn(), ssn),
+        _ => true,
+    }
 }
 
 // Whether an SSN is past the first message and past the one in front of an index, where that is not the first place.

@@ -1,6 +1,6 @@
 // The pieces of one stream's messages until they are read.
 ghost use Rattle.std.specs.Prelude.{◌≡◌, ◌+◌, ◌-◌, ◌^◌, ◌⊎◌, min, None, Some, IsOk, IfOk, IfErr, OnOk, OnErr, drop};
-ghost use Rattle.std.specs.Prelude.{length, slice_get};
+ghost use Rattle.std.specs.Prelude.{length, slice_get, not, ◌==◌, ◌||◌, ◌<◌};
 ghost use Rattle.sctp_receive_queues.specs.Messages.{bytes_left};
 ghost use Rattle.sctp_receive_queues.specs.Pieces.{bytes_of};
 ghost use Rattle.sctp_receive_queues.specs.Reassembly.{empty_reassembly, with_ordered, with_put, unordered_put};
@@ -29,12 +29,14 @@ pub struct ReassemblyQueue {
     complete: VecDeque<Chunks>,
     // Bytes of all of these.
     waiting: u64,
+    // Whether one of the messages can be read.
+    readable: bool,
 }
 
 impl Model for ReassemblyQueue {
     ghost use Rattle.std.specs.Prelude.{◌≡◌, ◌+◌};
     ghost use Rattle.sctp_receive_queues.specs.Reassembly.{Reassembly, bytes_in_groups, bytes_in_runs};
-    ghost use Rattle.sctp_receive_queues.specs.Reassembly.{bytes_in_messages};
+    ghost use Rattle.sctp_receive_queues.specs.Reassembly.{bytes_in_messages, is_ready};
 
     ghost Value = { Reassembly };
 
@@ -45,8 +47,13 @@ impl Model for ReassemblyQueue {
       complete = q.complete.items;
     } };
 
-    ghost invariant = { λ q. q.waiting ≡ bytes_in_groups q.ordered + bytes_in_runs q.unordered.items
-        + bytes_in_messages q.complete.items };
+    ghost invariant = { λ q. (q.waiting ≡ bytes_in_groups q.ordered + bytes_in_runs q.unordered.items
+        + bytes_in_messages q.complete.items) × (q.readable ≡ is_ready (record {
+          next_ssn = q.next_ssn;
+          ordered = q.ordered;
+          unordered = q.unordered.items;
+          complete = q.complete.items;
+        })) };
 }
 
 impl ReassemblyQueue {
@@ -61,6 +68,7 @@ impl ReassemblyQueue {
             unordered: VecDeque::new(alloc),
             complete: VecDeque::new(alloc),
             waiting: 0,
+            readable: false,
         }
     }
 
@@ -116,8 +124,11 @@ impl ReassemblyQueue {
                 None => Err(Error::ErrNoMemory),
             };
         };
-        self.ordered.put(self.alloc, piece, limit)?;
+        let is_first_other = self.ordered.put(self.alloc, piece, limit)?;
         self.waiting = waiting;
+        if is_first_other {
+            self.readable = is_any_due(&self.complete, &self.ordered, self.next_ssn);
+        }
         Ok(())
     }
 
@@ -145,6 +156,7 @@ impl ReassemblyQueue {
             limit,
         )?;
         self.waiting = waiting;
+        self.readable = is_any_due(&self.complete, &self.ordered, self.next_ssn);
         Ok(())
     }
 
@@ -153,7 +165,7 @@ impl ReassemblyQueue {
     pub fn is_readable(&self) -> bool
         ensures { result ≡ is_ready self.now }
     {
-        !self.complete.is_empty() || is_first_due(&self.ordered, self.next_ssn)
+        self.readable
     }
 
     /// Takes out the next message: complete unordered ones first, in the order of their completion, then the first
@@ -170,19 +182,30 @@ impl ReassemblyQueue {
     fn take_next(&mut self) -> Option<Chunks>
         ensures { taken self.old ≡ (self.new, result) }
     {
-        if let Some(message) = self.complete.pop_front() {
-            self.waiting = self.waiting.saturating_sub(message.len() as u64);
-            return Some(message);
-        }
-        if !is_first_due(&self.ordered, self.next_ssn) {
+        if !self.readable {
             return None;
+        }
+        if !self.complete.is_empty() {
+            return self.take_complete();
         }
         let group = self.ordered.pop_first()?;
         if group.ssn() == self.next_ssn {
             self.next_ssn = self.next_ssn.wrapping_add(1);
         }
         self.waiting = self.waiting.saturating_sub(group.bytes());
+        self.readable = is_first_due(&self.ordered, self.next_ssn);
         Some(group.into_chunks())
+    }
+
+    // Takes out the unordered message that was complete first.
+    fn take_complete(&mut self) -> Option<Chunks>
+        requires { 0 < length self.old.complete }
+        ensures { taken self.old ≡ (self.new, result) }
+    {
+        let message = self.complete.pop_front()?;
+        self.waiting = self.waiting.saturating_sub(message.len() as u64);
+        self.readable = is_any_due(&self.complete, &self.ordered, self.next_ssn);
+        Some(message)
     }
 
     /// Drops the incomplete ordered messages up to an SSN; the SSN after it is read next, where that was not past it
@@ -193,6 +216,7 @@ impl ReassemblyQueue {
         self.ordered.skip(ssn);
         self.next_ssn = past_skip(self.next_ssn, ssn);
         self.waiting = bytes_held(&self.ordered, &self.unordered, &self.complete);
+        self.readable = is_any_due(&self.complete, &self.ordered, self.next_ssn);
     }
 
     /// How far a skip up to an SSN goes among the messages that have no piece above a TSN: the greatest SSN up to this
@@ -225,6 +249,13 @@ impl ReassemblyQueue {
     {
         self.waiting
     }
+}
+
+// Whether an unordered message is complete, or the first ordered one is due.
+fn is_any_due(complete: &VecDeque<Chunks>, ordered: &Groups, next_ssn: u16) -> bool
+    ensures { result ≡ not (length complete.now.items == 0) || is_due next_ssn (slice_get ordered.now 0) }
+{
+    !complete.is_empty() || is_first_due(ordered, next_ssn)
 }
 
 fn is_first_due(ordered: &Groups, next_ssn: u16) -> bool

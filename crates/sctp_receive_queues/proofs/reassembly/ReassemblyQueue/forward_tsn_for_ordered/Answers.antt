@@ -9,5 +9,7 @@ invariant_of-self c =
     let e : c.skip.new.self ≡ filter (stays c.args.ssn) q.ordered = search rules in
     let fewer = stays_bytes c.args.ssn q.ordered in
     let small : bytes_in_groups c.skip.new.self + bytes_in_runs q.unordered.items
-    + bytes_in_messages q.complete.items < 2 ^ 64 = rw e (omega (arith, fewer, c.self.invariant)) in
-    c.bytes_held-self-inside.ensures ∙ held_exactly c.skip.new.self q.unordered.items q.complete.items small
+    + bytes_in_messages q.complete.items < 2 ^ 64 = rw e (omega (arith, fewer, c.self.invariant.0)) in (
+      c.bytes_held-self-inside.ensures ∙ held_exactly c.skip.new.self q.unordered.items q.complete.items small,
+      c.is_any_due-self-inside.ensures,
+    )

@@ -9,5 +9,7 @@ invariant_of-self c =
     let e : c.skip.new.runs.items ≡ trimmed c.args.tsn q.unordered.items = search rules in
     let fewer = trimmed_bytes c.args.tsn q.unordered.items in
     let small : bytes_in_groups q.ordered + bytes_in_runs c.skip.new.runs.items
-    + bytes_in_messages q.complete.items < 2 ^ 64 = rw e (omega (arith, fewer, c.self.invariant)) in
-    c.bytes_held-self-inside.ensures ∙ held_exactly q.ordered c.skip.new.runs.items q.complete.items small
+    + bytes_in_messages q.complete.items < 2 ^ 64 = rw e (omega (arith, fewer, c.self.invariant.0)) in (
+      c.bytes_held-self-inside.ensures ∙ held_exactly q.ordered c.skip.new.runs.items q.complete.items small,
+      c.self.invariant.1,
+    )
