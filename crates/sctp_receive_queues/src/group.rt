@@ -14,8 +14,8 @@ use std::marker::Model;
 #[derive(Debug, Drop)]
 pub(crate) struct Group {
     ssn: u16,
-    pieces: Pieces,
     complete: bool,
+    pieces: Pieces,
 }
 
 impl Model for Group {

@@ -2,11 +2,13 @@
 ghost use Rattle.std.specs.Prelude.{◌≡◌, ◌<◌, ◌≤◌, ◌-◌, ◌↔◌, ◌⊎◌, ◌++◌, length, [], position, slice_get, None, Some};
 ghost use Rattle.std.specs.Prelude.{IsOk, IsSome, IsTrue, IfErr, IfSome, OnOk, OnErr, filter, insert, option_copied};
 ghost use Rattle.std.specs.Prelude.{option_to_list, ◌∷◌, false, IfOk};
+ghost use Rattle.std.specs.VecDeque.{deque_len, deque_capacity};
 ghost use Rattle.sctp_serial.specs.Serial.{ssn_lt};
 ghost use Rattle.sctp_receive_queues.specs.Ascending.{Ascend, AreEndsBefore, AreEndsBehind};
 ghost use Rattle.sctp_receive_queues.specs.Pieces.{bytes_of, refusal_of};
 ghost use Rattle.sctp_receive_queues.specs.Reassembly.{put_at, pieces_at, group_of, index_of_ssn, index_for_ssn};
-ghost use Rattle.sctp_receive_queues.specs.Reassembly.{refusal_of_ordered, with_ordered, bounded, stays, saturated_bytes};
+ghost use Rattle.sctp_receive_queues.specs.Reassembly.{with_ordered, refusal_of_ordered, bounded, stays};
+ghost use Rattle.sctp_receive_queues.specs.Reassembly.{saturated_bytes};
 
 use crate::group::Group;
 use sctp_wire_types::{ChunkPayloadData, Error, sna16lt, sna16lte};
@@ -127,7 +129,7 @@ impl Groups {
         if let Some(error) = refusal_of_first(&piece, limit) {
             return Err(error);
         }
-        self.list.reserve(1)?;
+        make_room(&mut self.list)?;
         self.list.push_back_reserved(Group::of(alloc, piece));
         self.ascends = true;
         Ok(())
@@ -263,6 +265,18 @@ impl Groups {
             .iter()
             .fold(0u64, |sum, group| sum.saturating_add(group.bytes()))
     }
+}
+
+// Makes room for one message more. The first block has room for one alone, so that many streams take little memory
+// where each message is read before the next one of its stream comes.
+fn make_room(groups: &mut VecDeque<Group>) -> Result<(), AllocError>
+    ensures items { groups.new.items ≡ groups.old.items }
+    ensures room { OnOk result (deque_len groups.new < deque_capacity groups.new) }
+{
+    if groups.capacity() == 0 {
+        return groups.reserve_exact(1);
+    }
+    groups.reserve(1)
 }
 
 fn find_in(groups: &VecDeque<Group>, ssn: u16) -> Option<usize>

@@ -24,13 +24,13 @@ use std::marker::Model;
 pub struct ReassemblyQueue {
     alloc: Global,
     next_ssn: u16,
+    // Whether a message can be read.
+    readable: bool,
+    // Bytes of all pieces and messages that are held.
+    waiting: u64,
     ordered: Groups,
     unordered: VecDeque<Pieces>,
     complete: VecDeque<Chunks>,
-    // Bytes of all of these.
-    waiting: u64,
-    // Whether one of the messages can be read.
-    readable: bool,
 }
 
 impl Model for ReassemblyQueue {

@@ -5,7 +5,7 @@ use Rattle.sctp_receive_queues.proofs.groups.Groups.add_behind.Goals as goal
 
 pub invariant_of-self : goal.invariant_of-self
 invariant_of-self c t =
-    let e : c.reserve.new.self.items ≡ c.self.inside.list.items = search rules in
+    let e : c.make_room.new.groups.items ≡ c.self.inside.list.items = search rules in
     rw e (c.self.invariant t)
 
 pub invariant_of-self-2 : goal.invariant_of-self-2
