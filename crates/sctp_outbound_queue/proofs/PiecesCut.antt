@@ -132,6 +132,18 @@ pub none_behind : (size : ℕ) (bytes : List ℕ) → size ≡ 0 → [] ≡ othe
 unfolding other_pieces
 none_behind size bytes none = rw (eq-eqb size 0 none) refl
 
+-- bytes that one piece has room for are that piece
+pub short_first : (size : ℕ) (bytes : List ℕ) → 0 < size → length bytes ≤ size → bytes ≡ first_piece size bytes
+unfolding first_piece
+short_first size bytes some short =
+    let apart : (size == 0) ≡ false = ne_eqb size 0 (λ (z : size ≡ 0). omega arith) in
+    rw apart (sym (take_all size bytes short))
+
+pub none_behind_short : (size : ℕ) (bytes : List ℕ) → 0 < size → length bytes ≤ size → [] ≡ other_pieces size bytes
+none_behind_short size bytes some short =
+    others_cut size bytes [] some
+    (sym (drop_all (min size (length bytes)) bytes (omega (arith, short)))) tt
+
 -- What is cut so is the bytes in their order, in full pieces.
 
 -- the front of the bytes is full, if something is left behind it

@@ -406,6 +406,10 @@ pub fn cut(alloc: Global, bytes: Bytes, size: usize) -> Result<(Bytes, VecDeque<
     if size == 0 {
         return Ok((bytes, VecDeque::new(alloc)));
     }
+    // A message of one piece is that piece as it is, with no cut made of it.
+    if bytes.len() <= size {
+        return Ok((bytes, VecDeque::new(alloc)));
+    }
     let mut left = bytes;
     let first = left.split_to(size.min(left.len()))?;
     let rest = cut_behind(alloc, left, size)?;
