@@ -1,8 +1,8 @@
 // Messages that were taken out of the association and wait for a buffer that is long enough.
-ghost use Rattle.std.specs.Prelude.{◌≡◌, ◌++◌, ◌<◌, ◌∷◌, [], length, Err, IfOk, IfSome, OnErr, OnOk};
+ghost use Rattle.std.specs.Prelude.{◌≡◌, ◌++◌, ◌<◌, ◌≤◌, ◌∷◌, [], length, Err, IfOk, IfSome, OnErr, OnOk};
 ghost use Rattle.std.specs.VecDeque.{deque_capacity, deque_len};
 ghost use Rattle.sctp_receive_queues.specs.Messages.{bytes_left};
-ghost use Rattle.sctp_driver.specs.Messages.{Gives, GivesNew, index_of, kept_of, message_at, put_front};
+ghost use Rattle.sctp_driver.specs.Messages.{Gives, GivesNew, begun_of, index_of, kept_of, message_at, put_front};
 ghost use Rattle.sctp_driver.specs.Messages.{without_message_of};
 
 use crate::sending::fill;
@@ -68,6 +68,21 @@ impl Kept {
             first: Bytes::new(),
             others: BytesMut::new(alloc),
             rest: message,
+        }
+    }
+
+    // A message of so many bytes of which the first piece was taken out.
+    fn begun(alloc: Global, stream: StreamId, first: Bytes, rest: Chunks, size: usize) -> Kept
+        requires { size ≡ length (first ++ bytes_left rest) }
+        ensures { result ≡ begun_of stream first rest }
+    {
+        Kept {
+            stream,
+            payload_type: rest.payload_type(),
+            size,
+            first,
+            others: BytesMut::new(alloc),
+            rest,
         }
     }
 
@@ -205,28 +220,87 @@ pub(crate) fn give(
 }
 
 /// Gives a message that was just read where the buffer has room for it; else, and where memory is refused, it is kept.
+/// Of a message of one piece the bytes go straight from the datagram that brought it into the buffer.
 pub(crate) fn give_new(
+    alloc: Global,
     kept: &mut VecDeque<Kept>,
-    message: Kept,
+    stream: StreamId,
+    message: Chunks,
     buffer: &mut [u8],
 ) -> Result<ReadAnswer, Error>
     requires room { deque_len kept.old < deque_capacity kept.old }
-    ensures ok { IfOk result (λ answer. GivesNew message kept.old.items buffer.old answer kept.new.items buffer.new) }
+    ensures ok { IfOk result (λ answer.
+        GivesNew (kept_of stream message) kept.old.items buffer.old answer kept.new.items buffer.new) }
     ensures refused { OnErr result (result ≡ Err Error.ErrNoMemory) }
-    ensures held { OnErr result (kept.new.items ≡ kept.old.items ++ message ∷ []) }
+    ensures held { OnErr result (kept.new.items ≡ kept.old.items ++ kept_of stream message ∷ []) }
     ensures unfilled { OnErr result (buffer.new ≡ buffer.old) }
 {
     let mut message = message;
-    let length = message.size();
+    let length = message.len();
     if buffer.len() < length {
-        kept.push_back_reserved(message);
+        keep(alloc, kept, stream, message);
         return Ok(ReadAnswer::NoRoom { length });
     }
+    let payload_type = message.payload_type();
+    match message.next(usize::MAX) {
+        Ok(Some(first)) => {
+            if !message.is_empty() {
+                return give_begun(alloc, kept, stream, first, message, length, buffer);
+            }
+            fill(buffer, first.as_slice());
+            Ok(ReadAnswer::Message {
+                payload_type,
+                length,
+            })
+        }
+        Ok(None) => Ok(ReadAnswer::Message {
+            payload_type,
+            length,
+        }),
+        Err(error) => {
+            keep(alloc, kept, stream, message);
+            Err(error)
+        }
+    }
+}
+
+// Keeps a message behind the others. It stands apart, so that no other message pays for it.
+#[cold]
+#[inline(never)]
+fn keep(alloc: Global, kept: &mut VecDeque<Kept>, stream: StreamId, message: Chunks)
+    requires { deque_len kept.old < deque_capacity kept.old }
+    ensures { kept.new.items ≡ kept.old.items ++ kept_of stream message ∷ [] }
+{
+    kept.push_back_reserved(Kept::new(alloc, stream, message));
+}
+
+// Gives a message of so many bytes, of which the first piece was taken out and for which the buffer has room. Where
+// memory is refused it is kept. It stands apart, so that a message of one piece does not pay for it.
+#[inline(never)]
+fn give_begun(
+    alloc: Global,
+    kept: &mut VecDeque<Kept>,
+    stream: StreamId,
+    first: Bytes,
+    rest: Chunks,
+    size: usize,
+    buffer: &mut [u8],
+) -> Result<ReadAnswer, Error>
+    requires room { deque_len kept.old < deque_capacity kept.old }
+    requires whole { size ≡ length (first ++ bytes_left rest) }
+    requires fits { size ≤ length buffer.old }
+    ensures ok { IfOk result (λ answer.
+        GivesNew (begun_of stream first rest) kept.old.items buffer.old answer kept.new.items buffer.new) }
+    ensures refused { OnErr result (result ≡ Err Error.ErrNoMemory) }
+    ensures held { OnErr result (kept.new.items ≡ kept.old.items ++ begun_of stream first rest ∷ []) }
+    ensures unfilled { OnErr result (buffer.new ≡ buffer.old) }
+{
+    let mut message = Kept::begun(alloc, stream, first, rest, size);
     let payload_type = message.payload_type();
     match message.copy_to(buffer) {
         Ok(()) => Ok(ReadAnswer::Message {
             payload_type,
-            length,
+            length: size,
         }),
         Err(error) => {
             kept.push_back_reserved(message);

@@ -11,7 +11,7 @@ ghost use Rattle.sctp_driver.specs.Streams.{asked_of, buffered_on, refusal_to_st
 
 use crate::driver::Driver;
 use crate::lending;
-use crate::messages::{Kept, ReadAnswer, find, forget, give, give_new};
+use crate::messages::{ReadAnswer, find, forget, give, give_new};
 use sctp_assoc::{DataChannelStats, Error, PayloadProtocolIdentifier, ReliabilityType, StreamId};
 
 impl Driver {
@@ -97,9 +97,7 @@ impl Driver {
     {
         self.kept.reserve(1)?;
         match lending::read(&mut self.association, id)? {
-            Some(message) => {
-                give_new(&mut self.kept, Kept::new(self.alloc, id, message), buffer)
-            }
+            Some(message) => give_new(self.alloc, &mut self.kept, id, message, buffer),
             None => Ok(ReadAnswer::Nothing),
         }
     }
