@@ -1,10 +1,11 @@
 // What an association does to itself: it closes, or it fails for want of memory.
-ghost use Rattle.std.specs.Prelude.{[], ◌≡◌, ◌∷◌, ◌++◌, false, true, map, IfErr, IfOk, OnErr, OnOk};
+ghost use Rattle.std.specs.Prelude.{[], ◌≡◌, ◌&&◌, ◌∷◌, ◌++◌, false, true, map, nat_lt, not, IfErr, IfOk, OnErr, OnOk};
 ghost use Rattle.sctp_resets.specs.Telling.{is_not_finished};
-ghost use Rattle.sctp_streams.specs.Streams.{without_streams, last_stats};
+ghost use Rattle.sctp_inbound.specs.Held.{has_gap};
+ghost use Rattle.sctp_streams.specs.Streams.{without_streams, last_stats, some_gives_messages};
 ghost use Rattle.sctp_streams.specs.declared.event.Event.TheVariants.{DataChannelStatsFinal};
 ghost use Rattle.sctp_assoc.specs.Closing.{closed_by, exhausted, is_closed_state, is_exhausted, out_of_resource};
-ghost use Rattle.sctp_assoc.specs.Shown.{HasFailed, all_stopped, answers_of};
+ghost use Rattle.sctp_assoc.specs.Shown.{HasFailed, all_stopped, all_waiting, answers_of};
 
 use crate::Association;
 use bytes::Bytes;
@@ -82,10 +83,17 @@ impl Association {
         ensures { result ≡ is_exhausted self.now }
     {
         let waiting = self.waiting_bytes();
-        self.receiver.credit(waiting) == 0
-            && !self.receiver.held.has_gap()
-            && waiting > 0
-            && !self.streams.gives_messages()
+        self.receiver.credit(waiting) == 0 && self.is_stuck()
+    }
+
+    // The same where no credit is left. It stands apart, so that DATA and reads don't pay for it where some is.
+    #[cold]
+    #[inline(never)]
+    fn is_stuck(&self) -> bool
+        ensures { result ≡ (not (has_gap self.now.receiver.held) && nat_lt 0 (all_waiting self.now)
+            && not (some_gives_messages self.now.streams)) }
+    {
+        !self.receiver.held.has_gap() && self.waiting_bytes() > 0 && !self.streams.gives_messages()
     }
 
     // The receive buffer is exhausted: an open association closes, and the peer is told by an ABORT in any state.

@@ -155,7 +155,8 @@ impl Association {
     }
 
     // DATA (RFC 4960 section 6.2). What is new is taken in, in whatever order it comes; without credit only what fills
-    // a gap.
+    // a gap. It stands apart, so that DATA does not pay for the values of the other chunks' handlers.
+    #[inline(never)]
     #[tactic(auto, unfolding(crate::specs::Chunks::on_data))]
     fn on_data(&mut self, piece: ChunkPayloadData, trigger: AckTrigger) -> Result<Flow, AllocError>
         ensures exact { IfOk result (λ flow. on_data self.old piece trigger ≡ (self.new, flow)) }
@@ -309,7 +310,17 @@ impl Association {
     fn admits(&self, tsn: u32) -> bool
         ensures { result ≡ admits self.now.receiver tsn (all_waiting self.now) }
     {
-        self.receiver.admits(tsn, self.waiting_bytes())
+        let waiting = self.waiting_bytes();
+        self.receiver.credit(waiting) > 0 || self.admits_without_credit(tsn, waiting)
+    }
+
+    // It stands apart, so that new DATA does not pay for it where credit is left.
+    #[cold]
+    #[inline(never)]
+    fn admits_without_credit(&self, tsn: u32, waiting: u64) -> bool
+        ensures { result ≡ admits self.now.receiver tsn waiting }
+    {
+        self.receiver.admits(tsn, waiting)
     }
 
     // SACK (RFC 4960 section 6.2.1), read by its cumulative TSN ack, its gap ack blocks and its window. Streams that it
