@@ -2,3 +2,4 @@ pub mod ReadableStreams
 pub mod WaitingBytes
 pub mod LowMarks
 pub mod StreamChanges
+pub mod TableIsMap

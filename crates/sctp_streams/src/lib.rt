@@ -9,6 +9,7 @@ mod setting;
 mod stats;
 mod stream_state;
 mod streams;
+mod table;
 
 pub use event::{AssociationError, Event, Events};
 pub use halves::{RecvSendState, ReliabilityParams};
