@@ -27,7 +27,7 @@ enum EndpointEventInner {
 impl EndpointEvent {
     ghost use Rattle.sctp_parts.specs.Shared.{drained_event};
 
-    /// The event that says that the association will queue no more events.
+    /// The event that says that the application began a shutdown.
     pub fn drained() -> Self
         ensures { result ≡ drained_event }
     {

@@ -1,5 +1,7 @@
 -- What is left of the bytes that wait, and of the streams whose reads give messages, where a stream ends or is emptied.
-use Rattle.std.proofs.Common.{◌≡◌, ℕ, ◌+◌, ◌&&◌, Bool, true, false, List, Some, refl, ap, arith}
+use Rattle.std.proofs.Common.{◌≡◌, ℕ, ◌+◌, ◌&&◌, Bool, true, false, List, [], ◌∷◌, Some, refl, ap, arith, drop, length}
+use Rattle.std.proofs.Common.{map, option_to_list, slice_index_or, take}
+use Rattle.std.proofs.lemmas.List.Sums.{sum_by-cons}
 use Rattle.std.specs.Map.{lookup, remove_entry}
 use Rattle.std.specs.BTreeMap.{is_at}
 use Rattle.std.specs.Ordering.{nat_cmp}
@@ -44,3 +46,30 @@ emptied_is_silent s = by (is_read_half_open s.halves)
     by : (open_half : Bool) → (open_half && false) ≡ false
     by true = refl
     by false = refl
+
+-- The first stream ends.
+
+only_one : (s : StreamView) (e : ℕ × StreamView) (es : List (ℕ × StreamView))
+    → option_to_list (Some s) ≡ map (λ e. e.1) (take 1 (e ∷ es)) → s ≡ e.1
+only_one s e es is = ap (λ (ss : List StreamView). slice_index_or ss 0 s) is
+
+pub first_bytes : (m n : List (ℕ × StreamView)) (s : StreamView)
+    → option_to_list (Some s) ≡ map (λ e. e.1) (take 1 m) → n ≡ drop 1 m
+    → waiting_in n + bytes_waiting s.reassembly ≡ waiting_in m
+first_bytes [] n s first rest = let more = ap (λ (ss : List StreamView). length ss) first in absurd (omega (arith, more))
+first_bytes (e ∷ es) n s first rest =
+    let f : StreamView → ℕ = λ (t : StreamView). bytes_waiting t.reassembly in
+    let sum = sum_by-cons f e.1 (map (λ e. e.1) es) in
+    let own : bytes_waiting s.reassembly ≡ bytes_waiting e.1.reassembly = ap f (only_one s e es first) in
+    let left : waiting_in n ≡ waiting_in es = ap waiting_in rest in
+    omega (arith, sum, own, left)
+
+pub first_count : (m n : List (ℕ × StreamView)) (s : StreamView)
+    → option_to_list (Some s) ≡ map (λ e. e.1) (take 1 m) → n ≡ drop 1 m
+    → readable_in n + readable_count s ≡ readable_in m
+first_count [] n s first rest = let more = ap (λ (ss : List StreamView). length ss) first in absurd (omega (arith, more))
+first_count (e ∷ es) n s first rest =
+    let sum = sum_by-cons readable_count e.1 (map (λ e. e.1) es) in
+    let own : readable_count s ≡ readable_count e.1 = ap readable_count (only_one s e es first) in
+    let left : readable_in n ≡ readable_in es = ap readable_in rest in
+    omega (arith, sum, own, left)

@@ -1,7 +1,7 @@
 -- A table of streams is a map from their identifiers.
 use Rattle.std.proofs.Common.{◌≡◌, ℕ, zero, suc, ◌+◌, ◌*◌, ◌/◌, ◌%◌, ◌<◌, ◌≤◌, Bool, true, false, List, [], ◌∷◌, ◌++◌}
 use Rattle.std.proofs.Common.{length, length-append, Option, Some, None, IsSome, refl, sym, ap, ◌∙◌, arith, is_some, true≢false, cond, map, slice_get}
-use Rattle.std.proofs.Common.{slice_index_or, slice_set, take, drop, option_to_list, fold, max, min, ◌-◌, ◌^◌, if◌then◌else◌}
+use Rattle.std.proofs.Common.{slice_index_or, slice_set, take, drop, option_to_list, fold, max, min, ◌-◌, ◌^◌}
 use Rattle.std.proofs.lemmas.List.{length-map, map-set}
 use Rattle.std.proofs.lemmas.List.Edits.{map_over_more}
 use Rattle.std.specs.Option.{option_map, unwrap_or}
@@ -9,7 +9,7 @@ use Rattle.std.specs.List.{AllByRecursion}
 use Rattle.std.specs.List.Sorted.{IsStrictlySortedBy}
 use Rattle.std.specs.BTreeMap.{insert_entry, is_at}
 use Rattle.std.specs.Map.{keys_of, lookup, remove_entry, set_value}
-use Rattle.std.specs.Ordering.{nat_cmp, is_eq}
+use Rattle.std.specs.Ordering.{nat_cmp}
 use Rattle.std.specs.declared.cmp.Ordering.TheVariants.{Less, Equal, Greater}
 use Rattle.std.proofs.lemmas.Bool.Decides.{nat_tests}
 use Rattle.sctp_receive_queues.specs.Reassembly.{bytes_waiting, saturated_bytes}
@@ -651,8 +651,8 @@ taken_places i n m p is less = ap (λ (z : ℕ). entries_of i (take z p)) is ∙
     by i (suc n) (x ∷ p) less =
         let there : i + 1 + n ≡ i + suc n = omega arith in
         behind i x (take (suc n) p) (take n p) (entry (i + suc n) (slot_at p n)) (
-          by (i + 1) n p (omega (arith, less))
-              ∙ ap (λ (z : ℕ). entries_of (i + 1) (take n p) ++ entry z (slot_at p n)) there)
+        by (i + 1) n p (omega (arith, less))
+        ∙ ap (λ (z : ℕ). entries_of (i + 1) (take n p) ++ entry z (slot_at p n)) there)
 
 -- and those up to a page are those before it, and its own
 pub taken_pages : (i k m : ℕ) (ps : List Slots) → m ≡ suc k → k < length ps
@@ -672,8 +672,8 @@ taken_pages i k m ps is less = ap (λ (z : ℕ). entries_from i (take z ps)) is 
     by i (suc k) (p ∷ ps) less =
         let there : i + 256 + 256 * k ≡ i + 256 * suc k = omega arith in
         ap (λ (z : Entries). entries_of i p ++ z) (
-          by (i + 256) k ps (omega (arith, less))
-              ∙ ap (λ (z : ℕ). entries_from (i + 256) (take k ps) ++ entries_of z (page_at ps k)) there)
+        by (i + 256) k ps (omega (arith, less))
+        ∙ ap (λ (z : ℕ). entries_from (i + 256) (take k ps) ++ entries_of z (page_at ps k)) there)
         ∙ sym (behind_both (entries_of i p) (entries_from (i + 256) (take k ps))
         (entries_of (i + 256 * suc k) (page_at ps k)))
 

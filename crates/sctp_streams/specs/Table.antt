@@ -1,6 +1,6 @@
 -- How the live streams lie in their table. No public clause cites this module.
 use Rattle.std.specs.Prelude.{◌≡◌, ◌<◌, ◌≤◌, ℕ, List, [], ◌∷◌, ◌++◌, Option, Some, None, ◌+◌, ◌/◌, ◌%◌, length}
-use Rattle.std.specs.Prelude.{slice_get, slice_set, min, ◌-◌, ◌^◌, fold}
+use Rattle.std.specs.Prelude.{slice_get, slice_set, min, ◌-◌, ◌^◌}
 use Rattle.std.specs.List.{AllByRecursion}
 use Rattle.std.specs.Option.{unwrap_or}
 use Rattle.sctp_receive_queues.specs.Reassembly.{bytes_waiting}

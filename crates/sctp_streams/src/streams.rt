@@ -15,17 +15,17 @@ ghost use Rattle.sctp_streams.specs.Stream.{StreamView, with_halves, with_restar
 ghost use Rattle.sctp_streams.specs.Stream.{accepted_by, stream_skipped, with_setting, without_unread};
 ghost use Rattle.sctp_streams.specs.LowMarks.{IsGathered};
 
+use crate::table::StreamTable;
 use crate::{DataChannelStats, Fallen, Setting, StreamState};
 use sctp_receive_queues::Chunks;
 use sctp_wire_types::{ChunkPayloadData, Error, PayloadProtocolIdentifier, StreamId};
 use std::alloc::{AllocError, Global};
-use std::collections::BTreeMap;
 use std::marker::Model;
 
 /// Streams by their identifiers, and the number that the next generation gets.
 #[derive(Drop)]
 pub struct Streams {
-    by_id: BTreeMap<StreamId, StreamState>,
+    by_id: StreamTable,
     next_generation: u64,
     // Bytes that came and were not read, of all of these streams.
     waiting: u64,
@@ -39,9 +39,9 @@ impl Model for Streams {
 
     ghost Value = { StreamMap };
 
-    ghost view = { λ s. record { by_id = s.by_id.entries; next_generation = s.next_generation } };
+    ghost view = { λ s. record { by_id = s.by_id; next_generation = s.next_generation } };
 
-    ghost invariant = { λ s. (s.waiting ≡ waiting_in s.by_id.entries) × (s.readable ≡ readable_in s.by_id.entries) };
+    ghost invariant = { λ s. (s.waiting ≡ waiting_in s.by_id) × (s.readable ≡ readable_in s.by_id) };
 }
 
 impl Streams {
@@ -50,7 +50,7 @@ impl Streams {
         ensures { result ≡ no_stream }
     {
         Streams {
-            by_id: BTreeMap::new(alloc),
+            by_id: StreamTable::new(alloc),
             next_generation: 0,
             waiting: 0,
             readable: 0,
@@ -61,14 +61,14 @@ impl Streams {
     pub fn contains(&self, id: StreamId) -> bool
         ensures { result ≡ is_some (stream_at self.now id) }
     {
-        self.by_id.contains_key(&id)
+        self.by_id.contains(id)
     }
 
     /// The live stream of this identifier.
     pub fn get(&self, id: StreamId) -> Option<&StreamState>
         ensures { option_copied result ≡ stream_at self.now id }
     {
-        self.by_id.get(&id)
+        self.by_id.get(id)
     }
 
     /// Counts a message as accepted on a live stream. Refused, with nothing changed, where more bytes would be buffered
@@ -87,7 +87,7 @@ impl Streams {
         ensures fits { IsOk result → has_room (stream_at self.old id) bytes ≡ true }
         ensures unchanged { OnErr result (self.new ≡ self.old) }
     {
-        let Some(stream) = self.by_id.get_mut(&id) else {
+        let Some(stream) = self.by_id.get_mut(id) else {
             return Ok(false);
         };
         let high = stream.accept(payload_type, bytes)?;
@@ -98,7 +98,7 @@ impl Streams {
     pub fn set(&mut self, id: StreamId, setting: Setting)
         ensures { self.new ≡ changed_stream (λ s. with_setting s setting) self.old id }
     {
-        let Some(stream) = self.by_id.get_mut(&id) else {
+        let Some(stream) = self.by_id.get_mut(id) else {
             return;
         };
         stream.set(setting);
@@ -120,7 +120,7 @@ impl Streams {
         if !self.is_live(id, generation) {
             return false;
         }
-        let Some(stream) = self.by_id.get_mut(&id) else {
+        let Some(stream) = self.by_id.get_mut(id) else {
             return false;
         };
         stream.on_buffer_released(bytes)
@@ -146,7 +146,7 @@ impl Streams {
         ensures refused { IfErr result (λ e. ((e ≡ Error.ErrNoMemory) × (refusal_in self.old id piece limit ≡ None))
             ⊎ (refusal_in self.old id piece limit ≡ Some e)) }
     {
-        let Some(stream) = self.by_id.get_mut(&id) else {
+        let Some(stream) = self.by_id.get_mut(id) else {
             return Ok(false);
         };
         let Some(waiting) = self.waiting.checked_add(piece.user_data.len() as u64) else {
@@ -169,7 +169,7 @@ impl Streams {
     pub fn read(&mut self, id: StreamId) -> Option<Chunks>
         ensures { read_in self.old id ≡ (self.new, result) }
     {
-        let stream = self.by_id.get_mut(&id)?;
+        let stream = self.by_id.get_mut(id)?;
         let gave = stream.gives_messages();
         let read = stream.read();
         let still_gives = stream.gives_messages();
@@ -186,7 +186,7 @@ impl Streams {
         ensures skipped { self.new ≡ changed_stream (stream_skipped ssn) self.old id }
         ensures ready { result ≡ becomes_ready_in self.old id ssn }
     {
-        let Some(stream) = self.by_id.get_mut(&id) else {
+        let Some(stream) = self.by_id.get_mut(id) else {
             return false;
         };
         let was_readable = stream.is_readable();
@@ -206,8 +206,8 @@ impl Streams {
     pub fn skip_unordered(&mut self, tsn: u32)
         ensures { self.new ≡ passed_in self.old tsn }
     {
-        skip_each(&mut self.by_id, tsn);
-        self.waiting = add_waiting(&self.by_id);
+        self.by_id.skip_unordered(tsn);
+        self.waiting = self.by_id.waiting_bytes();
     }
 
     /// A message was dropped before any of it was sent (RFC 3758 section 3.5): where its generation is still live, its
@@ -220,7 +220,7 @@ impl Streams {
         if !self.is_live(id, generation) {
             return false;
         }
-        let Some(stream) = self.by_id.get_mut(&id) else {
+        let Some(stream) = self.by_id.get_mut(id) else {
             return false;
         };
         stream.give_back(unordered, bytes)
@@ -277,7 +277,7 @@ impl Streams {
             first_message_id,
             default_payload_type,
         );
-        if let Some(replaced) = self.by_id.insert(id, stream)? {
+        if let Some(replaced) = self.by_id.insert(alloc, id, stream)? {
             self.waiting = self.waiting.saturating_sub(replaced.waiting_bytes());
             let gave = one_if(replaced.gives_messages());
             self.readable = self.readable.saturating_sub(gave);
@@ -297,7 +297,7 @@ impl Streams {
     pub fn ids(&self, alloc: Global) -> Result<Vec<StreamId>, AllocError>
         ensures { IfOk result (λ ids. ids.items ≡ live_ids self.now) }
     {
-        self.by_id.keys().copied().collect(alloc)
+        self.by_id.ids(alloc)
     }
 
     /// Number of live streams.
@@ -319,7 +319,7 @@ impl Streams {
         ensures stats { result ≡ option_map (λ s. s.stats) (stream_at self.old id) }
         ensures left { self.new ≡ without_stream self.old id }
     {
-        let ended = self.by_id.remove(&id)?;
+        let ended = self.by_id.remove(id)?;
         self.waiting = self.waiting.saturating_sub(ended.waiting_bytes());
         let gave = one_if(ended.gives_messages());
         self.readable = self.readable.saturating_sub(gave);
@@ -331,7 +331,7 @@ impl Streams {
     pub fn restart_ssn(&mut self, id: StreamId)
         ensures { self.new ≡ changed_stream with_restarted_ssn self.old id }
     {
-        let Some(stream) = self.by_id.get_mut(&id) else {
+        let Some(stream) = self.by_id.get_mut(id) else {
             return;
         };
         stream.restart_ssn();
@@ -342,7 +342,7 @@ impl Streams {
     pub fn close_read_half(&mut self, id: StreamId)
         ensures { self.new ≡ changed_stream (λ s. with_halves s (without_read_half s.halves)) self.old id }
     {
-        let Some(stream) = self.by_id.get_mut(&id) else {
+        let Some(stream) = self.by_id.get_mut(id) else {
             return;
         };
         let gave = stream.gives_messages();
@@ -355,7 +355,7 @@ impl Streams {
     pub fn drop_unread(&mut self, alloc: Global, id: StreamId)
         ensures { self.new ≡ changed_stream without_unread self.old id }
     {
-        let Some(stream) = self.by_id.get_mut(&id) else {
+        let Some(stream) = self.by_id.get_mut(id) else {
             return;
         };
         let gave = stream.gives_messages();
@@ -391,32 +391,12 @@ impl Streams {
     pub fn end_first(&mut self) -> Option<DataChannelStats>
         ensures { first_ended self.old ≡ (self.new, result) }
     {
-        let (_, stream) = self.by_id.pop_first()?;
+        let stream = self.by_id.pop_first()?;
         self.waiting = self.waiting.saturating_sub(stream.waiting_bytes());
         let gave = one_if(stream.gives_messages());
         self.readable = self.readable.saturating_sub(gave);
         Some(stream.stats())
     }
-}
-
-fn skip_each(streams: &mut BTreeMap<StreamId, StreamState>, tsn: u32)
-    ensures { streams.new.entries ≡ passed_each tsn streams.old.entries }
-{
-    streams.retain(|_, stream| {
-        stream.skip_unordered(tsn);
-        true
-    });
-}
-
-// The bytes that wait on all of these streams, at most the greatest u64.
-fn add_waiting(streams: &BTreeMap<StreamId, StreamState>) -> u64
-    ensures { result ≡ saturated_bytes (λ (s : StreamView). waiting_on s.reassembly)
-        (map (λ e. e.1) streams.now.entries) }
-{
-    streams.values().fold(
-        0u64,
-        |sum, stream| sum.saturating_add(stream.waiting_bytes()),
-    )
 }
 
 // How many of so many streams give messages, once a single one of them changed: it gave some before or did not, and

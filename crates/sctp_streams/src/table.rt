@@ -172,6 +172,7 @@ impl StreamTable {
     pub(crate) fn len(&self) -> usize
         ensures len { result ≡ length self.now }
         ensures small { result < 2 ^ 63 }
+        ensures ordered { IsStrictlySortedBy nat_cmp (keys_of self.now) }
     {
         self.count
     }
@@ -277,9 +278,7 @@ fn add_all_ids(pages: &Vec<Page>, ids: &mut Vec<StreamId>) -> Result<(), AllocEr
 fn add_waiting(pages: &Vec<Page>) -> u64
     ensures { result ≡ fold (λ sum p. fold added_waiting sum p) 0 pages.now.items }
 {
-    pages
-        .iter()
-        .fold(0u64, |sum, page| page.add_waiting(sum))
+    pages.iter().fold(0u64, |sum, page| page.add_waiting(sum))
 }
 
 fn skip_pages(pages: &mut [Page], tsn: u32)

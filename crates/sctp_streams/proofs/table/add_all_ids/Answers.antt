@@ -1,7 +1,6 @@
-use Rattle.std.proofs.Common.{◌≡◌, ◌<◌, ◌++◌, ◌+◌, ◌*◌, ap, arith, length, sym, ◌∙◌, ℕ, List}
-use Rattle.std.specs.Map.{keys_of}
-use Rattle.sctp_streams.specs.Table.{entries_of, page_at}
-use Rattle.sctp_streams.proofs.TableIsMap.{Slots, all_ids_more, page_is}
+use Rattle.std.proofs.Common.{◌≡◌, ◌<◌, arith, length}
+use Rattle.sctp_streams.specs.Table.{page_at}
+use Rattle.sctp_streams.proofs.TableIsMap.{all_ids_more, page_is}
 use Rattle.sctp_streams.proofs.table.add_all_ids.Goals as goal
 
 pub loop-index-preserved : goal.loop-index-preserved

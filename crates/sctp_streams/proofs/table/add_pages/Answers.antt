@@ -1,5 +1,4 @@
-use Rattle.std.proofs.Common.{◌≡◌, ◌<◌, ◌++◌, ◌∷◌, [], arith, length, ◌∙◌, ap, List}
-use Rattle.sctp_streams.specs.Table.{IsTable, entries_in}
+use Rattle.std.proofs.Common.{◌≡◌, ◌<◌, ◌++◌, ◌∷◌, [], arith, length, ◌∙◌, ap}
 use Rattle.sctp_streams.proofs.TableIsMap.{Slots, page_behind}
 use Rattle.sctp_streams.proofs.table.add_pages.Goals as goal
 

@@ -1,8 +1,8 @@
-use Rattle.std.proofs.Common.{◌≡◌, ◌≤◌, ◌++◌, ◌∷◌, [], None, Option, arith, length, length-append, map, max, ◌∙◌, ap, List}
+use Rattle.std.proofs.Common.{◌≡◌, ◌++◌, ◌∷◌, [], None, arith, length-append, map}
 use Rattle.std.proofs.lemmas.List.{map-append}
 use Rattle.sctp_streams.specs.Table.{stream_of}
 use Rattle.sctp_streams.specs.declared.table.Slot.TheVariants.{Free}
-use Rattle.sctp_streams.proofs.TableIsMap.{Slots, free_behind}
+use Rattle.sctp_streams.proofs.TableIsMap.{free_behind}
 use Rattle.sctp_streams.proofs.table.add_slots.Goals as goal
 
 pub loop-slots-preserved : goal.loop-slots-preserved

@@ -1,4 +1,4 @@
-use Rattle.std.proofs.Common.{◌≡◌, ◌<◌, ◌+◌, ◌*◌, ap, arith, length, sym, ◌∙◌, Some, None, slice_get, ℕ, List}
+use Rattle.std.proofs.Common.{◌≡◌, ◌<◌, ◌+◌, ◌*◌, ap, arith, length, sym, ◌∙◌, slice_get, ℕ}
 use Rattle.std.specs.Map.{keys_of}
 use Rattle.sctp_streams.specs.Table.{entries_of, page_at}
 use Rattle.sctp_streams.proofs.TableIsMap.{Slots, first_page, none_in_pages, page_is}

@@ -1,4 +1,4 @@
-use Rattle.std.proofs.Common.{arith, ap, map, set, sym, ◌∙◌}
+use Rattle.std.proofs.Common.{arith, map}
 use Rattle.std.proofs.lemmas.List.Edits.{map_over_more}
 use Rattle.std.specs.Option.{option_map}
 use Rattle.sctp_streams.specs.Stream.{stream_passed}

@@ -1,12 +1,24 @@
-use Rattle.std.proofs.Common.{◌≡◌, ◌-◌, ap, ◌∙◌, sym, if◌then◌else◌, arith, rules, Bool}
+use Rattle.std.proofs.Common.{◌≡◌, ◌-◌, ap, ◌∙◌, sym, if◌then◌else◌, arith, rules, Bool, false, is_some}
+use Rattle.std.specs.BTreeMap.{is_at}
+use Rattle.std.specs.Map.{lookup}
+use Rattle.std.specs.Ordering.{nat_cmp}
+use Rattle.sctp_streams.proofs.TableIsMap.{none_removed}
 use Rattle.sctp_streams.proofs.StreamChanges.{ended_bytes, ended_count}
 use Rattle.sctp_streams.proofs.streams.Streams.end.Goals as goal
+
+pub invariant_of-self : goal.invariant_of-self
+invariant_of-self c =
+    let none : is_some (lookup (is_at (nat_cmp c.args.id)) c.self.inside.by_id) ≡ false =
+    ap is_some (sym c.remove.ensures.value ∙ c.in_err-ended.was) in
+    let same : c.remove.new.self ≡ c.self.inside.by_id =
+    c.remove.ensures.entries ∙ sym (none_removed (is_at (nat_cmp c.args.id)) c.self.inside.by_id none) in
+    rw same c.self.invariant
 
 pub invariant_of-self-2 : goal.invariant_of-self-2
 invariant_of-self-2 c =
     let there = sym c.remove.ensures.value ∙ c.in_ok-ended.was in
-    let old = c.self.inside.by_id.entries in
-    let new = c.remove.new.self.entries in
+    let old = c.self.inside.by_id in
+    let new = c.remove.new.self in
     let sum = ended_bytes c.args.id old new c.in_ok-ended.ended there c.remove.ensures.entries in
     let count = ended_count c.args.id old new c.in_ok-ended.ended there c.remove.ensures.entries in
     let bytes = c.waiting_bytes.ensures in

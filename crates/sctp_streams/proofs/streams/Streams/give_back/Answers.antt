@@ -1,4 +1,7 @@
-use Rattle.std.proofs.Common.{ap, ◌∙◌, sym}
+use Rattle.std.proofs.Common.{ap, ◌∙◌, sym, refl}
+use Rattle.std.specs.BTreeMap.{is_at}
+use Rattle.std.specs.Map.{set_value}
+use Rattle.std.specs.Ordering.{nat_cmp}
 use Rattle.std.specs.Option.{option_copied_mut}
 use Rattle.sctp_streams.proofs.ReadableStreams.{given_gives, still_readable}
 use Rattle.sctp_streams.proofs.WaitingBytes.{given_reassembly, unchanged}
@@ -9,11 +12,10 @@ invariant_of-self-2 c =
     let there = sym c.get_mut.ensures.value ∙ ap option_copied_mut c.in-Some.is in
     let s = c.in-Some.stream.now in
     let last = c.give_back.new.self in
-    let old = c.self.inside.by_id.entries in
-    let new = (c.get_mut.follows.lender last).entries in
-    let holds = (c.get_mut.follows.holds last).0 in (
-      c.self.invariant.0 ∙ sym (unchanged c.args.id old new s last there holds
+    let old = c.self.inside.by_id in
+    let new = set_value (is_at (nat_cmp c.args.id)) c.self.inside.by_id last in (
+      c.self.invariant.0 ∙ sym (unchanged c.args.id old new s last there refl
           (rw c.give_back.ensures.given (given_reassembly s c.args.unordered c.args.bytes))),
-      c.self.invariant.1 ∙ sym (still_readable c.args.id old new s last there holds
+      c.self.invariant.1 ∙ sym (still_readable c.args.id old new s last there refl
           (rw c.give_back.ensures.given (given_gives s c.args.unordered c.args.bytes))),
     )

@@ -4,5 +4,5 @@ use Rattle.sctp_streams.proofs.streams.Streams.gives_messages.Goals as goal
 
 pub returns : goal.returns
 returns c =
-    let es = c.self.inside.by_id.entries in
+    let es = c.self.inside.by_id in
     rw (← c.self.view_is) (ap (nat_lt 0) c.self.invariant.1 ∙ sym (some_counted (map (λ e. e.1) es)))

@@ -16,9 +16,9 @@ pub invariant_of-self-2 : goal.invariant_of-self-2
 invariant_of-self-2 c = elim c.match-branch-2.branch [
   | in-Some w ↦ (
       let there = sym c.in_ok-replaced.ensures.old ∙ w.in-Some.is in
-      let sum = replaced_bytes c.self.inside.by_id.entries c.insert.new.self.entries c.args.id c.new-stream.result
+      let sum = replaced_bytes c.self.inside.by_id c.insert.new.self c.args.id c.new-stream.result
       w.in-Some.replaced c.insert.ensures.was_ordered c.in_ok-replaced.ensures.entries (empty c) there in
-      let count = replaced_count c.self.inside.by_id.entries c.insert.new.self.entries c.args.id c.new-stream.result
+      let count = replaced_count c.self.inside.by_id c.insert.new.self c.args.id c.new-stream.result
       w.in-Some.replaced c.insert.ensures.was_ordered c.in_ok-replaced.ensures.entries (silent c) there in
       let bytes = w.waiting_bytes.ensures in
       let less : w.saturating_sub-self-inside.result ≡ c.self.inside.waiting - w.waiting_bytes.result = search rules in
@@ -27,9 +27,9 @@ invariant_of-self-2 c = elim c.match-branch-2.branch [
   | in_default w ↦ (
       let none : c.in_ok-replaced.field-0 ≡ None = search rules in
       let there = sym c.in_ok-replaced.ensures.old ∙ none in
-      let sum = added_bytes c.self.inside.by_id.entries c.insert.new.self.entries c.args.id c.new-stream.result
+      let sum = added_bytes c.self.inside.by_id c.insert.new.self c.args.id c.new-stream.result
       c.insert.ensures.was_ordered c.in_ok-replaced.ensures.entries (empty c) there in
-      let count = added_count c.self.inside.by_id.entries c.insert.new.self.entries c.args.id c.new-stream.result
+      let count = added_count c.self.inside.by_id c.insert.new.self c.args.id c.new-stream.result
       c.insert.ensures.was_ordered c.in_ok-replaced.ensures.entries (silent c) there in
       rw w.self-inside-is (omega (arith, sum, c.self.invariant.0, count, c.self.invariant.1)))
 ]

@@ -9,12 +9,12 @@ use Rattle.sctp_streams.proofs.streams.Streams.skip_unordered.Goals as goal
 
 pub invariant_of-self : goal.invariant_of-self
 invariant_of-self c =
-    let es = c.self.inside.by_id.entries in
+    let es = c.self.inside.by_id in
     let passed = passed_each c.args.tsn es in
     let small : waiting_in passed < 2 ^ 64 = omega (arith, c.self.invariant.0, passed_sum c.args.tsn es) in
-    rw c.skip_each.ensures (
-      c.add_waiting-self-inside.ensures
-          ∙ rw c.skip_each.ensures
+    rw c.skip_unordered.ensures (
+      c.waiting_bytes-self-inside.ensures
+          ∙ rw c.skip_unordered.ensures
           (saturated_sum (λ (s : StreamView). bytes_waiting s.reassembly) (map (λ e. e.1) passed) small),
       c.self.invariant.1 ∙ sym (passed_count c.args.tsn es),
     )

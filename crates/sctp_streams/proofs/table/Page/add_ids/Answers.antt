@@ -1,7 +1,5 @@
-use Rattle.std.proofs.Common.{◌≡◌, ◌<◌, ◌++◌, ap, arith, length, sym, ◌∙◌, take, ℕ, List, map}
-use Rattle.std.proofs.lemmas.List.{length-map, map-append}
-use Rattle.std.specs.Map.{keys_of}
-use Rattle.sctp_streams.specs.Table.{entries_of, entry, slot_at}
+use Rattle.std.proofs.Common.{◌<◌, arith, length}
+use Rattle.std.proofs.lemmas.List.{length-map}
 use Rattle.sctp_streams.proofs.TableIsMap.{ids_more}
 use Rattle.sctp_streams.proofs.table.Page.add_ids.Goals as goal
 

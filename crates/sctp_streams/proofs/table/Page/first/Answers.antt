@@ -1,4 +1,4 @@
-use Rattle.std.proofs.Common.{◌≡◌, ◌<◌, arith, length, sym, ◌∙◌}
+use Rattle.std.proofs.Common.{◌<◌, arith, length, sym, ◌∙◌}
 use Rattle.std.proofs.lemmas.List.{length-map}
 use Rattle.sctp_streams.proofs.TableIsMap.{first_place, none_taken}
 use Rattle.sctp_streams.proofs.table.Page.first.Goals as goal

@@ -1,4 +1,4 @@
-use Rattle.std.proofs.Common.{◌≡◌, IsSome, map, refl, ◌∙◌}
+use Rattle.std.proofs.Common.{IsSome, map, refl, ◌∙◌}
 use Rattle.sctp_streams.specs.Table.{slot_at, stream_of}
 use Rattle.sctp_streams.proofs.TableIsMap.{page_lent, slot_is, slot_there}
 use Rattle.sctp_streams.proofs.table.Page.stream_mut.Goals as goal
@@ -13,6 +13,6 @@ returns c =
       record {
         writes_back = tt;
         value = rw (← c.self.view_is) (slot_is slots c.args.place slot (slot_there slots c.args.place some) is
-          ∙ c.stream_mut.ensures.value);
+            ∙ c.stream_mut.ensures.value);
       },
     )

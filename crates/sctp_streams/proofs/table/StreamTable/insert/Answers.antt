@@ -1,6 +1,4 @@
-use Rattle.std.proofs.Common.{◌≡◌, ◌∙◌, Some, None, arith, ap, sym, Option}
-use Rattle.sctp_streams.specs.Stream.{StreamView}
-use Rattle.sctp_streams.specs.Table.{entries_in, with_slot}
+use Rattle.std.proofs.Common.{◌≡◌, ◌∙◌, Some, arith, sym}
 use Rattle.sctp_streams.proofs.TableIsMap.{most_in, put_entries, put_new, put_over, put_replaces, sorted_in, table_with}
 use Rattle.sctp_streams.proofs.table.StreamTable.insert.Goals as goal
 

@@ -1,4 +1,4 @@
-use Rattle.std.proofs.Common.{◌≡◌, ◌∙◌, List, arith, ap, length, map, sym, take, drop, ◌++◌, refl}
+use Rattle.std.proofs.Common.{◌≡◌, ◌∙◌, List, arith, ap, length, map, take, drop, ◌++◌, refl}
 use Rattle.std.proofs.lemmas.List.{length-map}
 use Rattle.std.specs.Option.{option_map}
 use Rattle.sctp_streams.specs.Stream.{stream_passed}

@@ -41,7 +41,7 @@ returns c =
       (
         refl,
         λ w. rw (← c.self.view_is, c.page_of.ensures, c.place_of.ensures)
-          (lent_entries c.args.id ps p c.self.invariant.1 some is w),
+            (lent_entries c.args.id ps p c.self.invariant.1 some is w),
       ),
       record {
         writes_back = tt;
