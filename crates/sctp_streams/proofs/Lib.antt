@@ -3,3 +3,4 @@ pub mod WaitingBytes
 pub mod LowMarks
 pub mod StreamChanges
 pub mod TableIsMap
+pub mod TableWalks

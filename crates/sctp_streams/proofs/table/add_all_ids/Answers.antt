@@ -1,6 +1,7 @@
 use Rattle.std.proofs.Common.{◌≡◌, ◌<◌, arith, length}
 use Rattle.sctp_streams.specs.Table.{page_at}
-use Rattle.sctp_streams.proofs.TableIsMap.{all_ids_more, page_is}
+use Rattle.sctp_streams.proofs.TableIsMap.{page_is}
+use Rattle.sctp_streams.proofs.TableWalks.{all_ids_more}
 use Rattle.sctp_streams.proofs.table.add_all_ids.Goals as goal
 
 pub loop-index-preserved : goal.loop-index-preserved

@@ -1,7 +1,8 @@
 use Rattle.std.proofs.Common.{◌≡◌, ◌<◌, ◌+◌, ◌*◌, ap, arith, length, sym, ◌∙◌, slice_get, ℕ}
 use Rattle.std.specs.Map.{keys_of}
 use Rattle.sctp_streams.specs.Table.{entries_of, page_at}
-use Rattle.sctp_streams.proofs.TableIsMap.{Slots, first_page, none_in_pages, page_is}
+use Rattle.sctp_streams.proofs.TableIsMap.{Slots, page_is}
+use Rattle.sctp_streams.proofs.TableWalks.{first_page, none_in_pages}
 use Rattle.sctp_streams.proofs.table.first_of.Goals as goal
 
 pub returns-in-Some : goal.returns-in-Some

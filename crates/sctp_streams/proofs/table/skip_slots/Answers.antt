@@ -3,7 +3,7 @@ use Rattle.std.specs.Option.{option_map}
 use Rattle.sctp_streams.specs.Stream.{stream_passed}
 use Rattle.sctp_streams.specs.Table.{stream_of}
 use Rattle.sctp_streams.specs.declared.table.Slot.{Slot}
-use Rattle.sctp_streams.proofs.TableIsMap.{skipped_more}
+use Rattle.sctp_streams.proofs.TableWalks.{skipped_more}
 use Rattle.sctp_streams.proofs.table.skip_slots.Goals as goal
 
 pub loop-slot-preserved : goal.loop-slot-preserved

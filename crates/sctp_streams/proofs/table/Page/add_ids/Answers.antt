@@ -1,6 +1,6 @@
 use Rattle.std.proofs.Common.{◌<◌, arith, length}
 use Rattle.std.proofs.lemmas.List.{length-map}
-use Rattle.sctp_streams.proofs.TableIsMap.{ids_more}
+use Rattle.sctp_streams.proofs.TableWalks.{ids_more}
 use Rattle.sctp_streams.proofs.table.Page.add_ids.Goals as goal
 
 pub loop-place-preserved : goal.loop-place-preserved

@@ -1,6 +1,6 @@
 use Rattle.std.proofs.Common.{◌<◌, arith, length, sym, ◌∙◌}
 use Rattle.std.proofs.lemmas.List.{length-map}
-use Rattle.sctp_streams.proofs.TableIsMap.{first_place, none_taken}
+use Rattle.sctp_streams.proofs.TableWalks.{first_place, none_taken}
 use Rattle.sctp_streams.proofs.table.Page.first.Goals as goal
 
 pub returns-then-holds-clause-first : goal.returns-then-holds-clause-first

@@ -4,7 +4,8 @@ use Rattle.std.specs.Option.{option_map}
 use Rattle.sctp_streams.specs.Stream.{stream_passed}
 use Rattle.sctp_streams.specs.Streams.{passed_each}
 use Rattle.sctp_streams.specs.Table.{entries_in}
-use Rattle.sctp_streams.proofs.TableIsMap.{Entries, Slots, passed_in_pages, table_passed, whole}
+use Rattle.sctp_streams.proofs.TableIsMap.{Entries, Slots}
+use Rattle.sctp_streams.proofs.TableWalks.{passed_in_pages, table_passed, whole}
 use Rattle.sctp_streams.proofs.table.StreamTable.skip_unordered.Goals as goal
 
 all : (c : goal.After-self-1) → take c.self.inside.pages.len

@@ -1,5 +1,5 @@
 use Rattle.std.proofs.Common.{◌∙◌}
-use Rattle.sctp_streams.proofs.TableIsMap.{sum_in}
+use Rattle.sctp_streams.proofs.TableWalks.{sum_in}
 use Rattle.sctp_streams.proofs.table.StreamTable.waiting_bytes.Goals as goal
 
 pub returns : goal.returns
