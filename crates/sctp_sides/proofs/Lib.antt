@@ -1,6 +1,10 @@
+mod ActiveInChunks
+mod ActiveInPolls
+mod ActiveOverRuns
 mod ActsOfChunks
 mod ActsOfPolls
 mod ActsPast
+mod ActsWithoutWrites
 mod BeginsNoReset
 mod BlocksWithin
 mod BundleLengths
@@ -59,12 +63,14 @@ mod PiecesOfOne
 mod PollsInTime
 mod PollsLeave
 pub mod Proved
+mod QuietQueues
 mod ReconfigStatus
 mod ResetLosses
 mod RepeatsKnown
 mod RequestsTimed
 mod ResetsBeside
 mod ResetsNoMore
+mod RestartedStreams
 mod Retries
 mod RetriesInPolls
 mod RunsListed

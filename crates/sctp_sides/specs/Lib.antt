@@ -10,6 +10,7 @@ pub mod PastSpan
 pub mod OneSide
 pub mod SideLaws
 pub mod Repeats
+pub mod Restarts
 pub mod Witnesses
 pub mod Held
 pub mod Brought

@@ -58,6 +58,8 @@ ghost use Rattle.sctp_sides.specs.Repeats.{CompletedNumbersAreRepeats, Completed
 ghost use Rattle.sctp_sides.specs.Repeats.{KeptDataReachesNoStream, LaterDataStaysOut, OwnRequestsWait};
 ghost use Rattle.sctp_sides.specs.Repeats.{RepeatsAreOnlyAnswered, RepeatsEndNoGeneration};
 ghost use Rattle.sctp_sides.specs.Repeats.{RepeatsRetireNothing, RepeatsStayKnown};
+ghost use Rattle.sctp_sides.specs.Restarts.{CallsRestartQuietly, ChunksRestartQuietly, CreatedSidesAreQuiet};
+ghost use Rattle.sctp_sides.specs.Restarts.{JoinedSidesAreQuiet, ParametersRestartQuietly};
 ghost use Rattle.sctp_sides.specs.Runs.{ListsHoldWhatCame, LostRunsEndClosed, RunsAreListsOfCalls};
 ghost use Rattle.sctp_sides.specs.Runs.{RunsTellFinalsOnce, RunsTellOneLoss};
 ghost use Rattle.sctp_sides.specs.Witnesses.{CookiesAreTimedInCookieEchoedAlone, CreatedSidesAreFresh};
@@ -388,5 +390,19 @@ pub fn repeats_retire_nothing()
 {
     // what holds of requests by their numbers alone
     completed_requests_are_known();
+    requests_are_held_back();
+}
+
+/// Restarts: over every list of calls no DATA of the streams that an active request of this side resets waits or is in
+/// flight. So the stream sequence numbers of a stream, which begin again where such a request ends in success, do so
+/// only where nothing of the stream is outstanding (RFC 6525 section 5.1.2, RFC 4960 section 6.6).
+pub fn streams_restart_quietly()
+    ensures created { CreatedSidesAreQuiet }
+    ensures joined { JoinedSidesAreQuiet }
+    ensures calls { CallsRestartQuietly }
+    ensures chunks { ChunksRestartQuietly }
+    ensures parameters { ParametersRestartQuietly }
+{
+    // what holds of requests by what waits and is in flight alone
     requests_are_held_back();
 }

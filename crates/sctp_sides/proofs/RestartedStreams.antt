@@ -1,0 +1,168 @@
+-- As a request of this side ends, the stream sequence numbers of its streams alone begin again; and no DATA of those
+-- waits or is in flight.
+use Rattle.std.proofs.Common.{◌≡◌, refl, sym, ap, ◌∙◌, ⊎_elim, inl, inr, ℕ, ◌||◌, Bool, true, false, if◌then◌else◌}
+use Rattle.std.proofs.Common.{List, Option, Some, None, Ok}
+use Rattle.std.proofs.lemmas.Bool.{cases_Bool, false≢true}
+use Rattle.sctp_wire_types.specs.declared.param.Param.{Param}
+use Rattle.sctp_wire_types.specs.declared.param.Param.TheVariants as params
+use Rattle.sctp_wire_types.specs.declared.param.ParamOutgoingResetRequest.{ParamOutgoingResetRequest}
+use Rattle.sctp_wire_types.specs.declared.param.ParamReconfigResponse.{ParamReconfigResponse}
+use Rattle.sctp_wire_types.specs.declared.param.ReconfigResult.TheVariants as results
+use Rattle.sctp_outbound_queue.specs.Outbound.{has_stream}
+use Rattle.sctp_outbound.specs.declared.sender.Sender.{Sender}
+use Rattle.sctp_streams.specs.declared.event.Event.{Event}
+use Rattle.sctp_streams.specs.Stream.{StreamView}
+use Rattle.sctp_streams.specs.Streams.{StreamMap, stream_at}
+use Rattle.sctp_reset_requests.specs.declared.outcome.Answered.{Answered}
+use Rattle.sctp_reset_requests.specs.declared.outcome.Answered.TheVariants as answers
+use Rattle.sctp_reset_requests.specs.declared.own_request.OwnRequest.{OwnRequest}
+use Rattle.sctp_reset_requests.specs.declared.own_request.SentRequest.{SentRequest}
+use Rattle.sctp_reset_requests.specs.Ids.{has_id}
+use Rattle.sctp_reset_requests.specs.Own.{OwnView, ended_as, has_number, request_sent, with_active}
+use Rattle.sctp_resets.specs.declared.answers.TimerChange.{TimerChange}
+use Rattle.sctp_resets.specs.declared.performing.Handled.{Handled}
+use Rattle.sctp_resets.specs.Concerned.{active_ids, sent_ids}
+use Rattle.sctp_resets.specs.Resets.{Beside, ResetsView, Resetting, confirmed_by, confirmed_where, ended_as_answered}
+use Rattle.sctp_resets.specs.Resets.{handled, responded}
+use Rattle.sctp_resets.proofs.AnsweredBeside.{responded_stays}
+use Rattle.sctp_assoc.specs.Resets.{after_param, asking_if, channels_of, handled_with, on_request, on_response}
+use Rattle.sctp_assoc.specs.Resets.{responded_with, stopped_if, with_beside, with_resetting}
+use Rattle.sctp_assoc.specs.Shown.{Shown}
+use Rattle.sctp_sides.specs.Repeats.{confirmed}
+use Rattle.sctp_sides.specs.Restarts.{ActiveIsQuiet, ParametersRestartQuietly, RestartsQuietStreams}
+use Rattle.sctp_sides.specs.Restarts.{RestartsQuietly, is_reset_by}
+use Rattle.sctp_sides.proofs.ActiveInChunks.{param_leaves}
+
+-- a stream that is named in the active request is being reset
+named_if : (all found : Bool) → found ≡ true → (all || found) ≡ true
+named_if true found e = refl
+named_if false found e = e
+
+named_is_reset : (o : Option SentRequest) (id : ℕ) → has_id id (sent_ids o) ≡ true → is_reset_by o id ≡ true
+named_is_reset None id e = absurd (false≢true e)
+named_is_reset (Some s) id e = named_if s.request.names_all (has_id id s.request.ids) e
+
+some_same : (s t : StreamView) → Some s ≡ Some t → t ≡ s
+some_same s t e = cc
+
+-- Where the streams stay but those of the active request, and what waits and is in flight stays, the numbers of quiet
+-- streams alone begin again.
+stays_beside : (a b : Shown) → ActiveIsQuiet a → b.sender ≡ a.sender
+    → ((t : ℕ) → has_id t (active_ids a.resets) ≡ false → stream_at b.streams t ≡ stream_at a.streams t)
+    → RestartsQuietStreams a b
+stays_beside a b quiet sender stays id s t before behind =
+    ⊎_elim
+    (λ (named : has_id id (active_ids a.resets) ≡ true).
+    (let none : has_stream a.sender.queue id ≡ false = quiet id (named_is_reset a.resets.own.active id named) in
+    inr (none, ap (λ (z : Sender). has_stream z.queue id) sender ∙ none)))
+    (λ (apart : has_id id (active_ids a.resets) ≡ false).
+    inl (ap (λ (z : StreamView). z.next_ssn) (some_same s t (sym before ∙ sym (stays id apart) ∙ behind))))
+    (cases_Bool (has_id id (active_ids a.resets)))
+
+-- Responses
+
+responded_streams : (a : Shown) (x : Beside × TimerChange) → (responded_with a x).streams ≡ x.0.1
+responded_streams a ((r, m, told), change) = refl
+
+responded_sender : (a : Shown) (x : Beside × TimerChange) → (responded_with a x).sender ≡ a.sender
+responded_sender a ((r, m, told), change) = refl
+
+response_sender : (a : Shown) (response : ParamReconfigResponse) → (on_response a response).sender ≡ a.sender
+unfolding on_response
+response_sender a response = responded_sender a (responded response a.resets a.streams a.events)
+
+response_restarts : (a : Shown) (response : ParamReconfigResponse) → ActiveIsQuiet a
+    → RestartsQuietStreams a (on_response a response)
+unfolding on_response
+response_restarts a response quiet =
+    let x = responded response a.resets a.streams a.events in
+    stays_beside a (responded_with a x) quiet (responded_sender a x)
+    (λ t apart.
+    ap (λ (m : StreamMap). stream_at m t) (responded_streams a x)
+    ∙ responded_stays response a.resets a.streams a.events t apart)
+
+-- A request of the peer that names the active request ends it as a response does that tells of success.
+
+module _ (r : ResetsView) (m : StreamMap) (told : List Event) where
+  confirmed_if : (names_it : Bool) (o : OwnView) (active : Option SentRequest)
+      → (confirmed_where (if◌then◌else◌ {A = OwnView × Option OwnRequest} names_it
+      (with_active o None, request_sent active) (o, None)) r m told).0.1
+      ≡ (ended_as_answered (if◌then◌else◌ {A = OwnView × Answered} names_it
+      (ended_as (with_active o None, request_sent active) (Ok tt)) (o, answers.Ignored)) r m told).0.1
+  confirmed_if true o None = refl
+  confirmed_if true o (Some s) = refl
+  confirmed_if false o active = refl
+
+  -- that response
+  abbrev confirming_response : ℕ → ParamReconfigResponse
+  confirming_response number =
+      record { reconfig_response_sequence_number = number; result = results.SuccessPerformed }
+
+  confirmed_as : (number : ℕ)
+      → (confirmed_by number r m told).0.1 ≡ (responded (confirming_response number) r m told).0.1
+  confirmed_as number = confirmed_if (has_number r.own.active number) r.own r.own.active
+
+beside_streams : (a : Shown) (x : Beside) → (with_beside a x).streams ≡ x.1
+beside_streams a (r, m, told) = refl
+
+beside_sender : (a : Shown) (x : Beside) → (with_beside a x).sender ≡ a.sender
+beside_sender a (r, m, told) = refl
+
+confirmation_restarts : (a : Shown) (request : ParamOutgoingResetRequest) → ActiveIsQuiet a
+    → RestartsQuietStreams a (confirmed a request)
+confirmation_restarts a request quiet =
+    let number = request.reconfig_response_sequence_number in
+    let x = (confirmed_by number a.resets a.streams a.events).0 in
+    stays_beside a (with_beside a x) quiet (beside_sender a x)
+    (λ t apart.
+    ap (λ (m : StreamMap). stream_at m t)
+    (beside_streams a x ∙ confirmed_as a.resets a.streams a.events number)
+    ∙ responded_stays (confirming_response a.resets a.streams a.events number) a.resets a.streams a.events t apart)
+
+-- where the active request is quiet, both restart the numbers of quiet streams alone
+pub quiet_restarts : (a : Shown) → ActiveIsQuiet a → RestartsQuietly a
+quiet_restarts a quiet = record {
+  active = quiet;
+  responses = λ response. response_restarts a response quiet;
+  confirmations = λ request. confirmation_restarts a request quiet;
+}
+
+-- Parameters of a RE-CONFIG
+
+resetting_sender : (a : Shown) (x : Resetting) → (with_resetting a x).sender ≡ a.sender
+resetting_sender a (r, c) = refl
+
+stopped_sender : (stops : Bool) (a : Shown) → (stopped_if stops a).sender ≡ a.sender
+stopped_sender true a = refl
+stopped_sender false a = refl
+
+asking_sender : (asks : Bool) (a : Shown) → (asking_if asks a).sender ≡ a.sender
+asking_sender true a = refl
+asking_sender false a = refl
+
+handled_sender : (a : Shown) (number : ℕ) (x : Resetting × Handled) → (handled_with a number x).sender ≡ a.sender
+handled_sender a number (s, h) =
+    let b : Shown = with_resetting a s in
+    asking_sender h.asks (stopped_if h.confirms b) ∙ stopped_sender h.confirms b ∙ resetting_sender a s
+
+request_sender : (a : Shown) (request : ParamOutgoingResetRequest) → (on_request a request).sender ≡ a.sender
+unfolding on_request
+request_sender a request =
+    handled_sender a request.reconfig_request_sequence_number
+    (handled request a.receiver.peer_last_tsn a.sender.queue.next_message_id a.receiver.max_receive_message_size a.resets
+    (channels_of a))
+
+param_sender : (param : Param) (a : Shown) → (after_param param a).0.sender ≡ a.sender
+param_sender (params.OutgoingResetRequest request) a = request_sender a request
+param_sender (params.ReconfigResponse response) a = response_sender a response
+param_sender (params.HeartbeatInfo value) a = refl
+param_sender (params.StateCookie value) a = refl
+param_sender (params.SupportedExtensions value) a = refl
+param_sender (params.Other kind value) a = refl
+
+pub parameters_restart_quietly : ParametersRestartQuietly
+parameters_restart_quietly param a quiet =
+    let b : Shown = (after_param param a).0 in
+    quiet_restarts b (λ id named.
+    ap (λ (z : Sender). has_stream z.queue id) (param_sender param a)
+    ∙ quiet id ((param_leaves param a).from.from id named))
