@@ -57,7 +57,7 @@ use Rattle.sctp_sides.specs.Lifetimes.{DoInOrder, Does, acts_of_call}
 use Rattle.sctp_sides.specs.OneSide.{Call, FailsInside, IsCarriedOut, IsUnchanged, call_refusal, carried_out}
 use Rattle.sctp_sides.specs.OneSide.{with_told}
 use Rattle.sctp_sides.specs.Restarts.{ActiveIsQuiet, CallsRestartQuietly, ChunksRestartQuietly}
-use Rattle.sctp_sides.specs.Restarts.{CreatedSidesAreQuiet, is_reset_by}
+use Rattle.sctp_sides.specs.Restarts.{CreatedSidesAreQuiet, WritesWaitForResets, is_being_reset, is_reset_by}
 use Rattle.sctp_sides.proofs.ActiveInChunks.{LeavesActive, active_ended, active_repeated, active_same, beside_leaves}
 use Rattle.sctp_sides.proofs.ActiveInChunks.{by_active, chunk_leaves, cookie_leaves, resetting_leaves, then_on}
 use Rattle.sctp_sides.proofs.ActiveInPolls.{poll_quiet}
@@ -320,6 +320,14 @@ module _ (a : Shown) (id size : ℕ) where
   unblocked h =
       unblocked_at (stream_at a.streams id)
       (not_refused a.failed errors.ErrAssociationFailed (write_refusal_at a (stream_at a.streams id) id size) h).1
+
+pub writes_wait_for_resets : WritesWaitForResets
+writes_wait_for_resets a id size accepted =
+    ⊎_elim
+    (λ (named : is_being_reset a id ≡ true).
+    absurd (true≢false (sym (reset_is_blocked a.resets id named) ∙ unblocked a id size accepted)))
+    (λ (free : is_being_reset a id ≡ false). free)
+    (cases_Bool (is_being_reset a id))
 
 module _ (a : Shown) (id : ℕ) (named : Option PayloadProtocolIdentifier) (bytes : List ℕ)
     (free : is_blocked a.resets id ≡ false) (h : ActiveIsQuiet a) where

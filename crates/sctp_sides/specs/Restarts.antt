@@ -19,6 +19,7 @@ use Rattle.sctp_inbound.specs.declared.receiver.AckTrigger.{AckTrigger}
 use Rattle.sctp_reset_requests.specs.declared.own_request.SentRequest.{SentRequest}
 use Rattle.sctp_reset_requests.specs.Own.{resets}
 use Rattle.sctp_directions.specs.Acts.{Act, History}
+use Rattle.sctp_assoc.specs.Calls.{write_refusal}
 use Rattle.sctp_assoc.specs.Chunks.{on_chunk}
 use Rattle.sctp_assoc.specs.Created.{created, joined}
 use Rattle.sctp_assoc.specs.Leads.{Binds}
@@ -41,7 +42,7 @@ is_being_reset a id = is_reset_by a.resets.own.active id
 abbrev pub ActiveIsQuiet : Shown → Type 0
 ActiveIsQuiet a = (id : ℕ) → is_being_reset a id ≡ true → has_stream a.sender.queue id ≡ false
 
--- Both constructors leave an association in which no stream is being reset.
+-- Both constructors leave it so: no request was sent yet.
 abbrev pub CreatedSidesAreQuiet : Type 0
 CreatedSidesAreQuiet = (of_server : Option ServerConfig) (config : Settings) (size tag initial_tsn : ℕ)
     (cookie : List ℕ) (remote_addr : SocketAddr) (local_ip : Option IpAddr) (now : ℕ)
@@ -52,8 +53,13 @@ JoinedSidesAreQuiet = (config : Settings) (size : ℕ) (remote_addr : SocketAddr
     (own peer : ChunkInit)
     → ActiveIsQuiet (joined config size remote_addr local_ip own peer)
 
+-- A write is accepted only on a stream that is not being reset.
+abbrev pub WritesWaitForResets : Type 0
+WritesWaitForResets = (a : Shown) (id size : ℕ) → write_refusal a id size ≡ None → is_being_reset a id ≡ false
+
 -- What became of the streams of a side: a stream that was live and still is has the number of its next ordered message
--- as it was, unless no DATA of the stream waits or is in flight, neither before nor after.
+-- as it was, unless no DATA of the stream waits or is in flight, neither before nor after. (A stream that ended and was
+-- made again is another generation, of which nothing is said here.)
 abbrev pub RestartsQuietStreams : Shown → Shown → Type 0
 RestartsQuietStreams a b = (id : ℕ) (s t : StreamView) → stream_at a.streams id ≡ Some s
     → stream_at b.streams id ≡ Some t
@@ -65,7 +71,8 @@ pub record RestartsQuietly (a : Shown) : Type 0 where
   pub active : ActiveIsQuiet a
   -- a response of the peer (RFC 6525 section 5.2.7)
   pub responses : (response : ParamReconfigResponse) → RestartsQuietStreams a (on_response a response)
-  -- a request of the peer, by the request of this side that it names (RFC 6525 section 5.2.2)
+  -- a request of the peer, by the request of this side that it names (RFC 6525 section 5.2.2); what it asks for itself
+  -- comes behind that
   pub confirmations : (request : ParamOutgoingResetRequest) → RestartsQuietStreams a (confirmed a request)
 
 -- So it is over every list of calls of an association that begins so, whatever the peer sends, unless the association

@@ -59,7 +59,7 @@ ghost use Rattle.sctp_sides.specs.Repeats.{KeptDataReachesNoStream, LaterDataSta
 ghost use Rattle.sctp_sides.specs.Repeats.{RepeatsAreOnlyAnswered, RepeatsEndNoGeneration};
 ghost use Rattle.sctp_sides.specs.Repeats.{RepeatsRetireNothing, RepeatsStayKnown};
 ghost use Rattle.sctp_sides.specs.Restarts.{CallsRestartQuietly, ChunksRestartQuietly, CreatedSidesAreQuiet};
-ghost use Rattle.sctp_sides.specs.Restarts.{JoinedSidesAreQuiet, ParametersRestartQuietly};
+ghost use Rattle.sctp_sides.specs.Restarts.{JoinedSidesAreQuiet, ParametersRestartQuietly, WritesWaitForResets};
 ghost use Rattle.sctp_sides.specs.Runs.{ListsHoldWhatCame, LostRunsEndClosed, RunsAreListsOfCalls};
 ghost use Rattle.sctp_sides.specs.Runs.{RunsTellFinalsOnce, RunsTellOneLoss};
 ghost use Rattle.sctp_sides.specs.Witnesses.{CookiesAreTimedInCookieEchoedAlone, CreatedSidesAreFresh};
@@ -399,6 +399,7 @@ pub fn repeats_retire_nothing()
 pub fn streams_restart_quietly()
     ensures created { CreatedSidesAreQuiet }
     ensures joined { JoinedSidesAreQuiet }
+    ensures writes { WritesWaitForResets }
     ensures calls { CallsRestartQuietly }
     ensures chunks { ChunksRestartQuietly }
     ensures parameters { ParametersRestartQuietly }
