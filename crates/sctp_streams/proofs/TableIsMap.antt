@@ -320,7 +320,7 @@ page_lent (y ∷ xs) (suc n) x some is w = ap (λ (z : Slots). stream_of y ∷ z
 
 -- Pages stay small, and there are no more of them.
 
-set_length : {A : Type 0} (xs : List A) (n : ℕ) (x : A) → length (slice_set xs n x) ≡ length xs
+pub set_length : {A : Type 0} (xs : List A) (n : ℕ) (x : A) → length (slice_set xs n x) ≡ length xs
 set_length [] n x = refl
 set_length (y ∷ xs) zero x = refl
 set_length (y ∷ xs) (suc n) x = let same = set_length xs n x in omega (arith, same)
@@ -512,6 +512,23 @@ page_of_other : (k : ℕ) (ps : List Slots) (q : Slots) → k < length ps → pa
 page_of_other k [] q less = absurd (omega (arith, less))
 page_of_other zero (p ∷ ps) q less = refl
 page_of_other (suc k) (p ∷ ps) q less = page_of_other k ps q (omega (arith, less))
+
+none_elsewhere : (i j : ℕ) (p : Slots) → entries_of i p ≡ [] → entries_of j p ≡ []
+none_elsewhere i j [] none = refl
+none_elsewhere i j (None ∷ p) none = none_elsewhere (i + 1) (j + 1) p none
+none_elsewhere i j (Some s ∷ p) none =
+    let more = ap (λ (z : Entries). length z) none in absurd (omega (arith, more))
+
+-- a page without a stream lets its places go
+pub cleared : (i k : ℕ) (ps : List Slots) → IsTable ps → entries_of i (page_at ps k) ≡ []
+    → (entries_in (slice_set ps k []) ≡ entries_in ps) × IsTable (slice_set ps k [])
+cleared i k ps table none = (
+  same_pages_from 0 k ps [] (λ j. sym (none_elsewhere i j (page_at ps k) none)),
+  record {
+    small = small_other k ps [] table.small (omega arith);
+    few = rw (set_length ps k []) table.few;
+  },
+)
 
 -- An identifier gets its place in a page that is there.
 module _ (id : ℕ) (ps : List Slots) (p q : Slots) (table : IsTable ps) (there : id / 256 < length ps)

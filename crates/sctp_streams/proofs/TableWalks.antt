@@ -171,18 +171,23 @@ pub none_taken : (i n m : ℕ) (p : Slots) → m ≡ suc n → n < length p → 
 none_taken i n m p is less free none =
     taken_places i n m p is less ∙ ap (λ (z : Entries). z ++ entry (i + n) (slot_at p n)) none ∙ no_entry (i + n) (slot_at p n) free
 
-no_first : (es : Entries) → None ≡ slice_get (keys_of es) 0 → es ≡ []
+pub no_first : (es : Entries) → None ≡ slice_get (keys_of es) 0 → es ≡ []
 no_first [] none = refl
 no_first (e ∷ es) none = absurd (true≢false (ap is_some (sym none)))
 
--- and past a page of free places
-pub none_in_pages : (k m i : ℕ) (ps : List Slots) → m ≡ suc k → k < length ps → i ≡ k * 256
-    → None ≡ slice_get (keys_of (entries_of i (page_at ps k))) 0 → entries_from 0 (take k ps) ≡ []
-    → entries_from 0 (take m ps) ≡ []
-none_in_pages k m i ps next less is free none =
-    let same : 0 + 256 * k ≡ i = omega (arith, is) in
-    taken_pages 0 k m ps next less ∙ ap (λ (z : Entries). z ++ entries_of (0 + 256 * k) (page_at ps k)) none
-    ∙ ap (λ (z : ℕ). entries_of z (page_at ps k)) same ∙ no_first (entries_of i (page_at ps k)) free
+-- and up to a page that let its places go, where there was none before it
+pub none_before_cleared : (k m : ℕ) (ps : List Slots) → m ≡ suc k → entries_from 0 (take k ps) ≡ []
+    → entries_from 0 (take m (slice_set ps k [])) ≡ []
+none_before_cleared k m ps is none = ap (λ (z : ℕ). entries_from 0 (take z (slice_set ps k []))) is ∙ by 0 k ps none
+  where
+    by : (i k : ℕ) (ps : List Slots) → entries_from i (take k ps) ≡ []
+        → entries_from i (take (suc k) (slice_set ps k [])) ≡ []
+    by i k [] none = refl
+    by i zero (p ∷ ps) none = refl
+    by i (suc k) (p ∷ ps) none =
+        let both = none_of_both (entries_of i p) (entries_from (i + 256) (take k ps)) none in
+        ap (λ (z : Entries). z ++ entries_from (i + 256) (take (suc k) (slice_set ps k []))) both.0
+        ∙ by (i + 256) k ps both.1
 
 -- the first one is the one that a look-up of its identifier finds
 pub first_taken : (es : Entries) (id : ℕ) → Some id ≡ slice_get (keys_of es) 0

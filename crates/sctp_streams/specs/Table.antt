@@ -13,7 +13,7 @@ abbrev pub stream_of : Slot → Option StreamView
 stream_of Free = None
 stream_of (Held b) = Some b.value
 
--- a slot with another stream, if it holds one
+-- a slot with this stream in place of the one that it holds; a free one stays free
 abbrev pub holding : Slot → StreamView → Slot
 holding Free s = Free
 holding (Held b) s = Held (record b { value = s })
@@ -63,7 +63,7 @@ entries_of id (Some s ∷ slots) = (id, s) ∷ entries_of (id + 1) slots
 abbrev pub IsAsBefore : List (Option StreamView) → List (Option StreamView) → Type 0
 IsAsBefore old new = (id : ℕ) → entries_of id new ≡ entries_of id old
 
--- those of pages, of which the first one begins with this identifier
+-- the streams of pages, by their identifiers, of which the first page begins with this one
 abbrev pub entries_from : ℕ → List (List (Option StreamView)) → List (ℕ × StreamView)
 entries_from id [] = []
 entries_from id (p ∷ ps) = entries_of id p ++ entries_from (id + 256) ps

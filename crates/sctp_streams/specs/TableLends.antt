@@ -13,18 +13,18 @@ use Rattle.sctp_streams.specs.contracts.table.Page as page
 use Rattle.sctp_streams.specs.contracts.table.StreamTable as table
 use Rattle.sctp_streams.specs.contracts.stream_state.StreamState as stream
 
--- the last stream that was left there is in the slot
+-- what a borrower of its stream leaves stands in the slot
 abbrev pub LendsHeld : MutBor Slot → MutBor StreamView → Fml
 LendsHeld s r = Lends slot.the_row stream.the_row s r (holding s.now)
 
--- at the place of the page
+-- it stands at that place of the page
 abbrev pub LendsAt : MutBor (List (Option StreamView)) → ℕ → MutBor StreamView → Fml
 LendsAt s place r = Lends page.the_row stream.the_row s r (λ w. slice_set s.now place (Some w))
 
--- or under its identifier
+-- it stands under that identifier in the table
 abbrev pub LendsFound : MutBor (List (ℕ × StreamView)) → ℕ → MutBor StreamView → Fml
 LendsFound s id r = Lends table.the_row stream.the_row s r (set_value (is_at (nat_cmp id)) s.now)
 
--- where one was lent; else all is as it was
+-- it stands there where a stream was lent; else the table is as it was
 abbrev pub LendsIfFound : MutBor (List (ℕ × StreamView)) → ℕ → Option (MutBor StreamView) → Fml
 LendsIfFound s id r = LendsIf table.the_row stream.the_row s r (set_value (is_at (nat_cmp id)) s.now) s.now

@@ -51,7 +51,7 @@ pub enum Event {
     Connected,
     /// INIT or COOKIE ECHO was not answered, and its retries passed `max_init_retransmits`.
     HandshakeFailed { reason: AssociationError },
-    /// A fault closed the association, or its application, or the end of a shutdown.
+    /// The association was closed by a fault, by its application, or by the end of a shutdown.
     AssociationLost { reason: AssociationError },
     /// Something happened on a stream.
     Stream(StreamEvent),

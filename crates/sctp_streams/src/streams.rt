@@ -1,17 +1,15 @@
 // The live streams of an association.
 ghost use Rattle.std.specs.Prelude.{◌≡◌, ◌==◌, true, false, if◌then◌else◌, length, IfOk, OnOk, OnErr, is_some, IsOk};
 ghost use Rattle.std.specs.Prelude.{IfErr, ◌⊎◌, Some, None, min, ◌+◌, ◌-◌, ◌^◌};
-ghost use Rattle.std.specs.Prelude.{map};
 ghost use Rattle.std.specs.Option.{option_copied, option_map};
-ghost use Rattle.sctp_receive_queues.specs.Reassembly.{bytes_waiting as waiting_on, saturated_bytes};
 ghost use Rattle.sctp_streams.specs.Streams.{no_stream, stream_at, has_room, made, generation_left, bytes_waiting};
 ghost use Rattle.sctp_streams.specs.Streams.{first_ended, changed_stream, released_in, is_generation, pushed_in};
 ghost use Rattle.sctp_streams.specs.Streams.{refusal_in, read_in, is_readable_in};
 ghost use Rattle.sctp_streams.specs.Streams.{reaches_high_mark_at, falls_to_low_mark_in, live_ids};
 ghost use Rattle.sctp_streams.specs.Streams.{some_gives_messages};
-ghost use Rattle.sctp_streams.specs.Streams.{becomes_ready_in, given_back_in, passed_in, passed_each};
+ghost use Rattle.sctp_streams.specs.Streams.{becomes_ready_in, given_back_in, passed_in};
 ghost use Rattle.sctp_streams.specs.Streams.{bound_of_skip_in, waiting_of, without_stream};
-ghost use Rattle.sctp_streams.specs.Stream.{StreamView, with_halves, with_restarted_ssn, without_read_half};
+ghost use Rattle.sctp_streams.specs.Stream.{with_halves, with_restarted_ssn, without_read_half};
 ghost use Rattle.sctp_streams.specs.Stream.{accepted_by, stream_skipped, with_setting, without_unread};
 ghost use Rattle.sctp_streams.specs.LowMarks.{IsGathered};
 

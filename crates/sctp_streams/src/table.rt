@@ -12,8 +12,7 @@ ghost use Rattle.std.specs.Ordering.{nat_cmp};
 ghost use Rattle.sctp_receive_queues.specs.Reassembly.{bytes_waiting, saturated_bytes};
 ghost use Rattle.sctp_streams.specs.Stream.{StreamView, stream_passed};
 ghost use Rattle.sctp_streams.specs.Streams.{passed_each};
-ghost use Rattle.sctp_streams.specs.Table.{HasRoom, IsAsBefore, IsTable, added_waiting, entries_in, entries_of};
-ghost use Rattle.sctp_streams.specs.Table.{entry};
+ghost use Rattle.sctp_streams.specs.Table.{HasRoom, IsAsBefore, IsTable, added_waiting, entries_in, entries_of, entry};
 ghost use Rattle.sctp_streams.specs.Table.{slot_at, stream_in, stream_of, with_slot};
 ghost use Rattle.sctp_streams.specs.TableLends.{LendsAt, LendsHeld, LendsFound, LendsIfFound};
 
@@ -110,7 +109,7 @@ impl StreamTable {
     }
 
     /// Puts a stream under an identifier, and answers the one whose place it takes. Where memory is refused nothing
-    /// changes.
+    /// changes. That identifiers ascend holds of every table, and callers need it.
     pub(crate) fn insert(
         &mut self,
         alloc: Global,
@@ -145,7 +144,8 @@ impl StreamTable {
         exchange(&mut self.pages, id, Slot::Free)
     }
 
-    /// Takes the stream of the least identifier out. Goes over the places in front of it.
+    /// Takes the stream of the least identifier out. Goes over the free places in front of it, those of pages without a
+    /// stream once.
     pub(crate) fn pop_first(&mut self) -> Option<StreamState>
         ensures first { option_to_list result ≡ map (λ e. e.1) (take 1 self.old) }
         ensures entries { self.new ≡ drop 1 self.old }
@@ -154,10 +154,12 @@ impl StreamTable {
         self.remove(id)
     }
 
-    fn first(&self) -> Option<StreamId>
-        ensures { result ≡ slice_get (keys_of self.now) 0 }
+    // The least identifier. The pages in front of its own let their free places go, so that none is gone over again.
+    fn first(&mut self) -> Option<StreamId>
+        ensures first { result ≡ slice_get (keys_of self.old) 0 }
+        ensures same { self.new ≡ self.old }
     {
-        first_of(&self.pages)
+        first_of(&mut self.pages)
     }
 
     /// The identifiers, which ascend.
@@ -252,15 +254,18 @@ fn exchange(pages: &mut Vec<Page>, id: StreamId, slot: Slot) -> Option<StreamSta
     pages[page_of(id)].exchange(place_of(id), slot)
 }
 
-// The least identifier of a stream.
-fn first_of(pages: &Vec<Page>) -> Option<StreamId>
-    requires { IsTable pages.now.items }
-    ensures { result ≡ slice_get (keys_of (entries_in pages.now.items)) 0 }
+// The least identifier of a stream. The pages in front of its own let their places go, which are free.
+fn first_of(pages: &mut Vec<Page>) -> Option<StreamId>
+    requires { IsTable pages.old.items }
+    ensures first { result ≡ slice_get (keys_of (entries_in pages.old.items)) 0 }
+    ensures entries { entries_in pages.new.items ≡ entries_in pages.old.items }
+    ensures table { IsTable pages.new.items }
 {
     for index in 0..pages.len() {
         if let Some(id) = pages[index].first(index * 256) {
             return Some(id as StreamId);
         }
+        pages[index].clear();
     }
     None
 }
@@ -333,18 +338,25 @@ impl Page {
         mem::replace(&mut self.slots[place], slot).into_stream()
     }
 
-    // The least identifier of a stream, where the first place has this one.
-    fn first(&self, first: usize) -> Option<usize>
-        requires { first + length self.now ≤ 65536 }
-        ensures first { result ≡ slice_get (keys_of (entries_of first self.now)) 0 }
-        ensures bound { IfSome result (λ id. id < first + length self.now) }
+    // The least identifier of a stream, where that of the first place is `base`.
+    fn first(&self, base: usize) -> Option<usize>
+        requires { base + length self.now ≤ 65536 }
+        ensures first { result ≡ slice_get (keys_of (entries_of base self.now)) 0 }
+        ensures bound { IfSome result (λ id. id < base + length self.now) }
     {
         for place in 0..self.slots.len() {
             if self.holds(place) {
-                return Some(first + place);
+                return Some(base + place);
             }
         }
         None
+    }
+
+    // Lets all places go.
+    fn clear(&mut self)
+        ensures { self.new ≡ [] }
+    {
+        self.slots.clear();
     }
 
     // Adds the identifiers of the streams, where the first place has this one.

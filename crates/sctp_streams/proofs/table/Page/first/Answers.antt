@@ -7,12 +7,12 @@ pub returns-then-holds-clause-first : goal.returns-then-holds-clause-first
 returns-then-holds-clause-first c =
     let within : c.loop-place.place < length c.args.self.now =
     rw (← c.self.view_is, length-map) (omega (arith, c.loop-place-test.true, c.len-place-end.ensures, c.self.inside.slots.ok)) in
-    first_place c.args.first c.loop-place.place c.args.self.now within (sym c.holds.ensures ∙ c.if-holds.true)
+    first_place c.args.base c.loop-place.place c.args.self.now within (sym c.holds.ensures ∙ c.if-holds.true)
     c.loop-place.invariant
 
 pub loop-place-preserved : goal.loop-place-preserved
 loop-place-preserved c =
     let within : c.loop-place.place < length c.args.self.now =
     rw (← c.self.view_is, length-map) (omega (arith, c.loop-place-test.true, c.len-place-end.ensures, c.self.inside.slots.ok)) in
-    none_taken c.args.first c.loop-place.place _ c.args.self.now (omega arith) within
+    none_taken c.args.base c.loop-place.place _ c.args.self.now (omega arith) within
     (sym c.holds.ensures ∙ c.if-holds.false) c.loop-place.invariant
