@@ -86,7 +86,7 @@ impl Association {
         self.receiver.credit(waiting) == 0 && self.is_stuck()
     }
 
-    // The same where no credit is left. It stands apart, so that DATA and reads don't pay for it where some is.
+    // The same where no credit is left. It stands apart, so that DATA and reads do not pay for it where some is left.
     #[cold]
     #[inline(never)]
     fn is_stuck(&self) -> bool

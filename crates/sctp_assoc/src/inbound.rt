@@ -155,7 +155,7 @@ impl Association {
     }
 
     // DATA (RFC 4960 section 6.2). What is new is taken in, in whatever order it comes; without credit only what fills
-    // a gap. It stands apart, so that DATA does not pay for the values of the other chunks' handlers.
+    // a gap. It stands apart, so that DATA does not pay for the room that the handlers of other chunks take.
     #[inline(never)]
     #[tactic(auto, unfolding(crate::specs::Chunks::on_data))]
     fn on_data(&mut self, piece: ChunkPayloadData, trigger: AckTrigger) -> Result<Flow, AllocError>

@@ -19,7 +19,7 @@ put_front bytes buffer = if nat_lt (length buffer) (length bytes) then buffer el
 abbrev pub kept_of : ℕ → ReceivedMessage → KeptMessage
 kept_of id m = record { stream = id; payload_type = m.payload_type; bytes = bytes_left m }
 
--- a message of a stream of which the first piece was taken out, as it is kept
+-- a message of a stream of which the first piece was taken out and the rest was not, as it is kept
 abbrev pub begun_of : ℕ → List ℕ → ReceivedMessage → KeptMessage
 begun_of id first rest = record { stream = id; payload_type = rest.payload_type; bytes = first ++ bytes_left rest }
 
