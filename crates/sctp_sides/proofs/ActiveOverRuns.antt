@@ -303,6 +303,13 @@ reset_is_blocked r id e =
     blocked_if (is_asked_for r.own id) (bars r.debts id) (is_retiring r id)
     (asked_active r.own.active (has_id id r.own.waiting) r.own.queued id e)
 
+unblocked_is_not_reset : (r : ResetsView) (id : ℕ) → is_blocked r id ≡ false → is_reset_by r.own.active id ≡ false
+unblocked_is_not_reset r id free =
+    ⊎_elim
+    (λ (named : is_reset_by r.own.active id ≡ true). absurd (true≢false (sym (reset_is_blocked r id named) ∙ free)))
+    (λ (other : is_reset_by r.own.active id ≡ false). other)
+    (cases_Bool (is_reset_by r.own.active id))
+
 module _ (a : Shown) (id size : ℕ) where
   unblocked_in_state : state_refusal a id size ≡ None → is_blocked a.resets id ≡ false
   unblocked_in_state h =
@@ -323,11 +330,8 @@ module _ (a : Shown) (id size : ℕ) where
 
 pub writes_wait_for_resets : WritesWaitForResets
 writes_wait_for_resets a id size accepted =
-    ⊎_elim
-    (λ (named : is_being_reset a id ≡ true).
-    absurd (true≢false (sym (reset_is_blocked a.resets id named) ∙ unblocked a id size accepted)))
-    (λ (free : is_being_reset a id ≡ false). free)
-    (cases_Bool (is_being_reset a id))
+    let free : is_blocked a.resets id ≡ false = unblocked a id size accepted in
+    (free, unblocked_is_not_reset a.resets id free)
 
 module _ (a : Shown) (id : ℕ) (named : Option PayloadProtocolIdentifier) (bytes : List ℕ)
     (free : is_blocked a.resets id ≡ false) (h : ActiveIsQuiet a) where

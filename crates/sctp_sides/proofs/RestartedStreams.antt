@@ -1,8 +1,8 @@
--- As a request of this side ends, the stream sequence numbers of its streams alone begin again; and no DATA of those
--- waits or is in flight.
-use Rattle.std.proofs.Common.{◌≡◌, refl, sym, ap, ◌∙◌, ⊎_elim, inl, inr, ℕ, ◌||◌, Bool, true, false, if◌then◌else◌}
-use Rattle.std.proofs.Common.{List, Option, Some, None, Ok}
+-- As a request of this side ends, its streams alone change; and no DATA of those waits or is in flight.
+use Rattle.std.proofs.Common.{◌≡◌, refl, ap, ◌∙◌, ◌≢◌, ⊎_elim, inl, inr, ℕ, ◌||◌, Bool, true, false, if◌then◌else◌}
+use Rattle.std.proofs.Common.{List, Option, Some, None, Result, Ok, Err}
 use Rattle.std.proofs.lemmas.Bool.{cases_Bool, false≢true}
+use Rattle.sctp_wire_types.specs.declared.event.StreamResetError.{StreamResetError}
 use Rattle.sctp_wire_types.specs.declared.param.Param.{Param}
 use Rattle.sctp_wire_types.specs.declared.param.Param.TheVariants as params
 use Rattle.sctp_wire_types.specs.declared.param.ParamOutgoingResetRequest.{ParamOutgoingResetRequest}
@@ -11,14 +11,14 @@ use Rattle.sctp_wire_types.specs.declared.param.ReconfigResult.TheVariants as re
 use Rattle.sctp_outbound_queue.specs.Outbound.{has_stream}
 use Rattle.sctp_outbound.specs.declared.sender.Sender.{Sender}
 use Rattle.sctp_streams.specs.declared.event.Event.{Event}
-use Rattle.sctp_streams.specs.Stream.{StreamView}
 use Rattle.sctp_streams.specs.Streams.{StreamMap, stream_at}
 use Rattle.sctp_reset_requests.specs.declared.outcome.Answered.{Answered}
 use Rattle.sctp_reset_requests.specs.declared.outcome.Answered.TheVariants as answers
 use Rattle.sctp_reset_requests.specs.declared.own_request.OwnRequest.{OwnRequest}
 use Rattle.sctp_reset_requests.specs.declared.own_request.SentRequest.{SentRequest}
 use Rattle.sctp_reset_requests.specs.Ids.{has_id}
-use Rattle.sctp_reset_requests.specs.Own.{OwnView, ended_as, has_number, request_sent, with_active}
+use Rattle.sctp_reset_requests.specs.Own.{OwnView, answered_with, ended_as, has_number, outcome_of, request_sent}
+use Rattle.sctp_reset_requests.specs.Own.{with_active}
 use Rattle.sctp_resets.specs.declared.answers.TimerChange.{TimerChange}
 use Rattle.sctp_resets.specs.declared.performing.Handled.{Handled}
 use Rattle.sctp_resets.specs.Concerned.{active_ids, sent_ids}
@@ -30,7 +30,7 @@ use Rattle.sctp_assoc.specs.Resets.{responded_with, stopped_if, with_beside, wit
 use Rattle.sctp_assoc.specs.Shown.{Shown}
 use Rattle.sctp_sides.specs.Repeats.{confirmed}
 use Rattle.sctp_sides.specs.Restarts.{ActiveIsQuiet, ParametersRestartQuietly, RestartsQuietStreams}
-use Rattle.sctp_sides.specs.Restarts.{RestartsQuietly, is_reset_by}
+use Rattle.sctp_sides.specs.Restarts.{RestartsQuietly, UnperformedRequestsRestartNothing, is_being_reset, is_reset_by}
 use Rattle.sctp_sides.proofs.ActiveInChunks.{param_leaves}
 
 -- a stream that is named in the active request is being reset
@@ -42,21 +42,18 @@ named_is_reset : (o : Option SentRequest) (id : ℕ) → has_id id (sent_ids o) 
 named_is_reset None id e = absurd (false≢true e)
 named_is_reset (Some s) id e = named_if s.request.names_all (has_id id s.request.ids) e
 
-some_same : (s t : StreamView) → Some s ≡ Some t → t ≡ s
-some_same s t e = cc
-
--- Where the streams stay but those of the active request, and what waits and is in flight stays, the numbers of quiet
--- streams alone begin again.
+-- Where the streams stay but those of the active request, and what waits and is in flight stays, each stream is as it
+-- was, or it is being reset and quiet.
 stays_beside : (a b : Shown) → ActiveIsQuiet a → b.sender ≡ a.sender
     → ((t : ℕ) → has_id t (active_ids a.resets) ≡ false → stream_at b.streams t ≡ stream_at a.streams t)
     → RestartsQuietStreams a b
-stays_beside a b quiet sender stays id s t before behind =
+stays_beside a b quiet sender stays id =
     ⊎_elim
     (λ (named : has_id id (active_ids a.resets) ≡ true).
-    (let none : has_stream a.sender.queue id ≡ false = quiet id (named_is_reset a.resets.own.active id named) in
-    inr (none, ap (λ (z : Sender). has_stream z.queue id) sender ∙ none)))
-    (λ (apart : has_id id (active_ids a.resets) ≡ false).
-    inl (ap (λ (z : StreamView). z.next_ssn) (some_same s t (sym before ∙ sym (stays id apart) ∙ behind))))
+    (let reset : is_being_reset a id ≡ true = named_is_reset a.resets.own.active id named in
+    let none : has_stream a.sender.queue id ≡ false = quiet id reset in
+    inr (reset, none, ap (λ (z : Sender). has_stream z.queue id) sender ∙ none)))
+    (λ (apart : has_id id (active_ids a.resets) ≡ false). inl (stays id apart))
     (cases_Bool (has_id id (active_ids a.resets)))
 
 -- Responses
@@ -80,6 +77,31 @@ response_restarts a response quiet =
     (λ t apart.
     ap (λ (m : StreamMap). stream_at m t) (responded_streams a x)
     ∙ responded_stays response a.resets a.streams a.events t apart)
+
+-- A response that does not tell of success changes no stream.
+
+module _ (r : ResetsView) (m : StreamMap) (told : List Event) where
+  failed_unchanged : (o : OwnView) (active : Option SentRequest) (reason : StreamResetError)
+      → (ended_as_answered (ended_as (o, request_sent active) (Err reason)) r m told).0.1 ≡ m
+  failed_unchanged o None reason = refl
+  failed_unchanged o (Some s) reason = refl
+
+  unperformed_unchanged : (names_it : Bool) (outcome : Option (Result (Unit {0}) StreamResetError))
+      → outcome ≢ Some (Ok tt)
+      → (ended_as_answered (if◌then◌else◌ {A = OwnView × Answered} names_it (answered_with outcome r.own)
+      (r.own, answers.Ignored)) r m told).0.1 ≡ m
+  unperformed_unchanged false outcome other = refl
+  unperformed_unchanged true None other = refl
+  unperformed_unchanged true (Some (Ok done)) other = absurd (other refl)
+  unperformed_unchanged true (Some (Err reason)) other =
+      failed_unchanged (with_active r.own None) r.own.active reason
+
+pub unperformed_restart_nothing : UnperformedRequestsRestartNothing
+unfolding on_response
+unperformed_restart_nothing a response other =
+    responded_streams a (responded response a.resets a.streams a.events)
+    ∙ unperformed_unchanged a.resets a.streams a.events
+    (has_number a.resets.own.active response.reconfig_response_sequence_number) (outcome_of response.result) other
 
 -- A request of the peer that names the active request ends it as a response does that tells of success.
 

@@ -59,7 +59,8 @@ ghost use Rattle.sctp_sides.specs.Repeats.{KeptDataReachesNoStream, LaterDataSta
 ghost use Rattle.sctp_sides.specs.Repeats.{RepeatsAreOnlyAnswered, RepeatsEndNoGeneration};
 ghost use Rattle.sctp_sides.specs.Repeats.{RepeatsRetireNothing, RepeatsStayKnown};
 ghost use Rattle.sctp_sides.specs.Restarts.{CallsRestartQuietly, ChunksRestartQuietly, CreatedSidesAreQuiet};
-ghost use Rattle.sctp_sides.specs.Restarts.{JoinedSidesAreQuiet, ParametersRestartQuietly, WritesWaitForResets};
+ghost use Rattle.sctp_sides.specs.Restarts.{JoinedSidesAreQuiet, ParametersRestartQuietly};
+ghost use Rattle.sctp_sides.specs.Restarts.{UnperformedRequestsRestartNothing, WritesWaitForResets};
 ghost use Rattle.sctp_sides.specs.Runs.{ListsHoldWhatCame, LostRunsEndClosed, RunsAreListsOfCalls};
 ghost use Rattle.sctp_sides.specs.Runs.{RunsTellFinalsOnce, RunsTellOneLoss};
 ghost use Rattle.sctp_sides.specs.Witnesses.{CookiesAreTimedInCookieEchoedAlone, CreatedSidesAreFresh};
@@ -393,9 +394,12 @@ pub fn repeats_retire_nothing()
     requests_are_held_back();
 }
 
-/// Restarts: over every list of calls no DATA of the streams that an active request of this side resets waits or is in
-/// flight. So the stream sequence numbers of a stream, which begin again where such a request ends in success, do so
-/// only where nothing of the stream is outstanding (RFC 6525 section 5.1.2, RFC 4960 section 6.6).
+/// Restarts: over every list of calls, unless the association fails, no DATA of the streams that an active request of
+/// this side resets waits or is in flight. What ends such a request in success leaves each stream as it was, but those
+/// that it resets, of which nothing is outstanding: so the stream sequence numbers of live streams begin again on quiet
+/// streams alone (RFC 6525 sections 5.1.2 and 5.2.7, RFC 4960 section 6.6). A response that does not tell of success
+/// changes no stream. A write that nothing refuses is on a stream that is not blocked, which holds back the streams that
+/// are made anew, too.
 pub fn streams_restart_quietly()
     ensures created { CreatedSidesAreQuiet }
     ensures joined { JoinedSidesAreQuiet }
@@ -403,6 +407,7 @@ pub fn streams_restart_quietly()
     ensures calls { CallsRestartQuietly }
     ensures chunks { ChunksRestartQuietly }
     ensures parameters { ParametersRestartQuietly }
+    ensures unperformed { UnperformedRequestsRestartNothing }
 {
     // what holds of requests by what waits and is in flight alone
     requests_are_held_back();
