@@ -57,7 +57,7 @@ use Rattle.sctp_sides.specs.Lifetimes.{DoInOrder, Does, acts_of_call}
 use Rattle.sctp_sides.specs.OneSide.{Call, FailsInside, IsCarriedOut, IsUnchanged, call_refusal, carried_out}
 use Rattle.sctp_sides.specs.OneSide.{with_told}
 use Rattle.sctp_sides.specs.Restarts.{ActiveIsQuiet, CallsRestartQuietly, ChunksRestartQuietly}
-use Rattle.sctp_sides.specs.Restarts.{CreatedSidesAreQuiet, WritesWaitForResets, is_being_reset, is_reset_by}
+use Rattle.sctp_sides.specs.Restarts.{CreatedSidesAreQuiet, WritesWaitForResets, is_reset_by}
 use Rattle.sctp_sides.proofs.ActiveInChunks.{LeavesActive, active_ended, active_repeated, active_same, beside_leaves}
 use Rattle.sctp_sides.proofs.ActiveInChunks.{by_active, chunk_leaves, cookie_leaves, resetting_leaves, then_on}
 use Rattle.sctp_sides.proofs.ActiveInPolls.{poll_quiet}

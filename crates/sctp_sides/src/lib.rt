@@ -398,8 +398,8 @@ pub fn repeats_retire_nothing()
 /// this side resets waits or is in flight. What ends such a request in success leaves each stream as it was, but those
 /// that it resets, of which nothing is outstanding: so the stream sequence numbers of live streams begin again on quiet
 /// streams alone (RFC 6525 sections 5.1.2 and 5.2.7, RFC 4960 section 6.6). A response that does not tell of success
-/// changes no stream. A write that nothing refuses is on a stream that is not blocked, which holds back the streams that
-/// are made anew, too.
+/// changes no stream. A stream that is made anew begins at 0, too; a write that nothing refuses is on a stream that is
+/// not blocked.
 pub fn streams_restart_quietly()
     ensures created { CreatedSidesAreQuiet }
     ensures joined { JoinedSidesAreQuiet }
