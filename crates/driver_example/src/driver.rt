@@ -73,6 +73,8 @@ impl EchoServer {
         }
         self.tell_events(now, output)?;
         self.give_packets(now, output)?;
+        // Where a poll for packets gave messages up, or ended a shutdown, it left events, too.
+        self.tell_events(now, output)?;
         if let Some(moment) = self.association.poll_timeout() {
             writeln!(output, "{} wake", millis(moment))?;
         }
