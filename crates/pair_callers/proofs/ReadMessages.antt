@@ -18,7 +18,6 @@ use Rattle.sctp_pair.specs.declared.step.Step.{Step}
 use Rattle.sctp_pair.specs.declared.step.Step.TheVariants as steps
 use Rattle.sctp_pair.specs.Ends.{Ends}
 use Rattle.sctp_pair.specs.World.{IsWorldStep, World, is_side, message_read}
-use Rattle.sctp_pair.proofs.Counted.{within_before}
 use Rattle.pair_callers.specs.BetweenWorlds.{GoesOn, GoesOnWithin, to_side}
 use Rattle.pair_callers.specs.Reading.{AreNumbered, IsOfAccepted, ReadsNext, letter_at, letters_of, message_in}
 use Rattle.pair_callers.proofs.StepsByDirection.{Leads, goes_on, goes_on_within, is_own, promised_to, step_to}
@@ -61,10 +60,10 @@ reads_next side id r w v h =
     record {
       next = λ span. grows_by (message_in r) ((to_side side w).reads id) ((to_side side v).reads id)
           (subst (λ (m : Option ReceivedMessage). IsReadAs m ((to_side side w).reads id) ((to_side side v).reads id))
-          (read_here side id r) (d.read id span));
+          (read_here side id r) (d.read id));
       others = λ s span ne. ap (λ (gs : List Got). map letter_read gs)
           (subst (λ (m : Option ReceivedMessage). IsReadAs m ((to_side side w).reads s) ((to_side side v).reads s))
-          (read_other side id s r ne) (d.read s span));
+          (read_other side id s r ne) (d.read s));
     }
 
 pub reads_on : (side : Side2) (id : ℕ) (r : Reply) (p q : Ends) → Leads (steps.Read side id) r p q
@@ -114,10 +113,9 @@ reads_accepted side id (replies.Read (Some m)) p q leads =
     IsOfAccepted (to_side side v) id (letter_received m))
     (λ w v before after h safe span.
     let d = step_to side (steps.Read side id) (replies.Read (Some m)) w v h in
-    let within = within_before ((to_side side w).over id) ((to_side side v).over id) (d.span_over id) span in
     of_accepted (to_side side v) id m ((to_side side w).reads id)
     (subst (λ (x : Option ReceivedMessage). IsReadAs x ((to_side side w).reads id) ((to_side side v).reads id))
-    (read_here side id (replies.Read (Some m))) (d.read id within))
+    (read_here side id (replies.Read (Some m))) (d.read id))
     ((promised_to side v safe).safe id span))
     leads
 reads_accepted side id _ p q leads = tt

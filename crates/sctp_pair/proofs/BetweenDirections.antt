@@ -328,15 +328,15 @@ other_by_receiver x e at h =
     (λ (r : StandsClosed x.peer x.other x.out ⊎ StandsFailed x.other x.out). inr r)
     h
 
--- What a call does to a direction: which spans it may end, what it accepts there, what it reads on streams within their
--- span, and what may be taken in.
+-- What a call does to a direction: which spans it may end, what it accepts there, what it reads, and what may be taken
+-- in.
 pub record DoesEnding (Ended : ℕ → Type 0) (Added : ℕ → List Message) (Read : ℕ → Option letters.ReceivedMessage)
     (Brought : By → ℕ → Type 0) (w v : Direction) : Type 0 where
   pub events : List Event
   pub is : v ≡ run events w
   pub accepted : (s : ℕ) → v.sender.plan.accepted s ≡ w.sender.plan.accepted s ++ Added s
   pub size : v.sender.plan.size ≡ w.sender.plan.size
-  pub reads : (s : ℕ) → w.over s ≡ false → IsReadAs (Read s) (w.reads s) (v.reads s)
+  pub reads : (s : ℕ) → IsReadAs (Read s) (w.reads s) (v.reads s)
   pub taken : (o : ℕ) → mem o v.receiver.taken ≡ true → (mem o w.receiver.taken ≡ true) ⊎ Brought By.ByData o
   pub passed : (v.receiver.passed ≡ w.receiver.passed) ⊎ Brought By.ByForward v.receiver.passed
   pub datas : (k : ℕ) (d : Data) → slice_get w.datas k ≡ Some d → slice_get v.datas k ≡ Some d
@@ -371,7 +371,7 @@ does_by_goes B w v g = record {
   is = g.is;
   accepted = λ s. g.accepted s ∙ sym (append-nil (w.sender.plan.accepted s));
   size = g.size;
-  reads = λ s within. g.reads s;
+  reads = g.reads;
   taken = g.taken;
   passed = g.passed;
   datas = g.datas;

@@ -142,20 +142,20 @@ module _ (a : Step) (ss : List Step) (r : Reply) (rs : List Reply) (s : ℕ)
   stays_behind = (and_parts (not (ends_span a r s)) (stays_in_span ss rs s) stays).1
 
 -- What rows of steps made of the direction of which side x is the sender, as they tell it; these streams were loose
--- before. What was read is told of each stream that was within its span before and that none of the steps stopped.
+-- before. What was written and read is told of each stream; what stays, of each that was within its span before and
+-- that none of the steps stopped.
 record Grew (loose : ℕ → Bool) (ss : List Step) (rs : List Reply) (x : Side2) (before after : Direction) : Type 0 where
   written : (s : ℕ)
       → bytes_accepted (after.sender.plan.accepted s) ≡ bytes_accepted (before.sender.plan.accepted s)
       ++ written_in ss rs x s
-  read : (s : ℕ) → stays_in_span ss rs s ≡ true → before.over s ≡ false
-      → bytes_got (after.reads s) ≡ bytes_got (before.reads s) ++ read_in ss rs (other_side x) s
+  read : (s : ℕ) → bytes_got (after.reads s) ≡ bytes_got (before.reads s) ++ read_in ss rs (other_side x) s
   kept : (s : ℕ) → stays_in_span ss rs s ≡ true → before.over s ≡ false
       → stays_in_order ss rs x s ≡ true → loose s ≡ false
       → AllByRecursion IsOrderedAndReliable (before.sender.plan.accepted s)
       → AllByRecursion IsOrderedAndReliable (after.sender.plan.accepted s)
   told : (s : ℕ) (ws : List WrittenMessage) → AreTold (before.sender.plan.accepted s) ws
       → AreTold (after.sender.plan.accepted s) (ws ++ messages_written ss rs x s)
-  letters : (s : ℕ) → stays_in_span ss rs s ≡ true → before.over s ≡ false
+  letters : (s : ℕ)
       → map letter_read (after.reads s)
       ≡ map letter_read (before.reads s) ++ map letter_received (messages_read ss rs (other_side x) s)
   span : (s : ℕ) → stays_in_span ss rs s ≡ true → before.over s ≡ false → after.over s ≡ false
@@ -163,10 +163,10 @@ record Grew (loose : ℕ → Bool) (ss : List Step) (rs : List Reply) (x : Side2
 grew_nothing : (loose : ℕ → Bool) (x : Side2) (d : Direction) → Grew loose [] [] x d d
 grew_nothing loose x d = record {
   written = λ s. sym (append-nil (bytes_accepted (d.sender.plan.accepted s)));
-  read = λ s stays span. sym (append-nil (bytes_got (d.reads s)));
+  read = λ s. sym (append-nil (bytes_got (d.reads s)));
   kept = λ s stays span ordered tight k. k;
   told = λ s ws t. subst (AreTold (d.sender.plan.accepted s)) (sym (append-nil ws)) t;
-  letters = λ s stays span. sym (append-nil (map letter_read (d.reads s)));
+  letters = λ s. sym (append-nil (map letter_read (d.reads s)));
   span = λ s stays span. span;
 }
 
@@ -184,11 +184,11 @@ module _ (x : Side2) {a : Step} {r : Reply} {w v : World} (h : IsWorldStep a w r
       ∙ map-append (λ (m : Message). m.bytes) ((from x w).sender.plan.accepted s) (accepted_at a r x s w)
       ∙ ap (λ z. bytes_accepted ((from x w).sender.plan.accepted s) ++ z) (told_written s w v.ends a r x h.ends_step)
 
-  read_one : (s : ℕ) → (from x w).over s ≡ false
+  read_one : (s : ℕ)
       → bytes_got ((from x v).reads s) ≡ bytes_got ((from x w).reads s) ++ bytes_read a r (other_side x) s
-  read_one s span =
+  read_one s =
       read_grows (message_read a r (other_side x) s) ((from x w).reads s) ((from x v).reads s)
-      ((step_from x h).read s span)
+      ((step_from x h).read s)
       ∙ ap (λ z. bytes_got ((from x w).reads s) ++ z) (told_read a r (other_side x) s)
 
   -- only a step that stops a stream ends its span
@@ -206,11 +206,11 @@ module _ (x : Side2) {a : Step} {r : Reply} {w v : World} (h : IsWorldStep a w r
   tight_on s tight l =
       loose_step x h s ∙ ap (λ z. z || loosens a r x s) tight ∙ l
 
-  letters_one : (s : ℕ) → (from x w).over s ≡ false → map letter_read ((from x v).reads s)
+  letters_one : (s : ℕ) → map letter_read ((from x v).reads s)
       ≡ map letter_read ((from x w).reads s) ++ map letter_received (messages_of (message_read a r (other_side x) s))
-  letters_one s span =
+  letters_one s =
       letters_grow (message_read a r (other_side x) s) ((from x w).reads s) ((from x v).reads s)
-      ((step_from x h).read s span)
+      ((step_from x h).read s)
 
   told_one : (s : ℕ) (ws : List WrittenMessage) → AreTold ((from x w).sender.plan.accepted s) ws
       → AreTold ((from x v).sender.plan.accepted s) (ws ++ message_accepted (writing_of a) r x s)
@@ -225,8 +225,7 @@ module _ (x : Side2) {a : Step} {r : Reply} {w v : World} (h : IsWorldStep a w r
     written = λ s. more.written s ∙ ap (λ z. z ++ written_in ss rs x s) (wrote_one s)
         ∙ append_assoc (bytes_accepted ((from x w).sender.plan.accepted s)) (bytes_written a r x s)
         (written_in ss rs x s);
-    read = λ s stays span. more.read s (stays_behind a ss r rs s stays) (span_on s stays span)
-        ∙ ap (λ z. z ++ read_in ss rs (other_side x) s) (read_one s span)
+    read = λ s. more.read s ∙ ap (λ z. z ++ read_in ss rs (other_side x) s) (read_one s)
         ∙ append_assoc (bytes_got ((from x w).reads s)) (bytes_read a r (other_side x) s)
         (read_in ss rs (other_side x) s);
     kept = λ s stays span ordered tight k.
@@ -240,8 +239,8 @@ module _ (x : Side2) {a : Step} {r : Reply} {w v : World} (h : IsWorldStep a w r
         subst (AreTold (after.sender.plan.accepted s))
         (append_assoc ws (message_accepted (writing_of a) r x s) (messages_written ss rs x s))
         (more.told s (ws ++ message_accepted (writing_of a) r x s) (told_one s ws t));
-    letters = λ s stays span. more.letters s (stays_behind a ss r rs s stays) (span_on s stays span)
-        ∙ ap (λ z. z ++ map letter_received (messages_read ss rs (other_side x) s)) (letters_one s span)
+    letters = λ s. more.letters s
+        ∙ ap (λ z. z ++ map letter_received (messages_read ss rs (other_side x) s)) (letters_one s)
         ∙ append_assoc (map letter_read ((from x w).reads s))
         (map letter_received (messages_of (message_read a r (other_side x) s)))
         (map letter_received (messages_read ss rs (other_side x) s))
@@ -336,7 +335,7 @@ module _ {loose : ℕ → Bool} {ss : List Step} {rs : List Reply} {x : Side2} {
       let wrote : bytes_accepted (after.sender.plan.accepted s) ≡ written_in ss rs x s =
       grew.written s ∙ ap (λ ms. bytes_accepted ms ++ written_in ss rs x s) (first.accepted s) in
       let read : bytes_got (after.reads s) ≡ read_in ss rs (other_side x) s =
-      grew.read s stays within ∙ ap (λ gs. bytes_got gs ++ read_in ss rs (other_side x) s) (first.unread s) in
+      grew.read s ∙ ap (λ gs. bytes_got gs ++ read_in ss rs (other_side x) s) (first.unread s) in
       (front.0, sym wrote ∙ front.1 ∙ ap (λ z. z ++ front.0) read)
 
   -- each message that was read was written at an index of its own
@@ -347,7 +346,7 @@ module _ {loose : ℕ → Bool} {ss : List Step} {rs : List Reply} {x : Side2} {
       let named = (safe (grew.span s stays within)).read in
       let told = grew.told s [] (subst (λ ms. AreTold ms []) (sym (first.accepted s)) tt) in
       let letters : map letter_read (after.reads s) ≡ map letter_received (messages_read ss rs (other_side x) s) =
-      grew.letters s stays within
+      grew.letters s
       ∙ ap (λ gs. map letter_read gs ++ map letter_received (messages_read ss rs (other_side x) s))
       (first.unread s) in (
         named.0,
@@ -378,7 +377,7 @@ module _ (m : Made) (x : Side2) (s : ℕ) (q : Ends) where
       let unread = nothing_read_of_none (from x v) s (safe_from x s fits within) still (filled_from x s fits) in
       let this : bytes_read a r (other_side x) s ≡ [] =
       nothing_behind (bytes_got ((from x w).reads s)) (bytes_read a r (other_side x) s)
-      (sym (ap bytes_got unread) ∙ read_one x step s span) in
+      (sym (ap bytes_got unread) ∙ read_one x step s) in
       rw (b, this) (bare ss rs v (tallied_by m a r t) next (stays_behind a ss r rs s stays) still within))
       (cases_Bool (delivers_to (other_side x) a r))
   bare [] (r ∷ rs) w t h stays none span = absurd h

@@ -217,8 +217,8 @@ module _ (step : Step) (reply : Reply) (w : World) (q : Ends) where
           accepted = λ s. d.accepted s ∙ ap (λ (z : List Message). before.sender.plan.accepted s ++ z) (adds s);
           in_order = kept;
           read =
-              λ s within. subst (λ (z : Option letters.ReceivedMessage). IsReadAs z (before.reads s) (after.reads s))
-              (reads s) (d.reads s within);
+              λ s. subst (λ (z : Option letters.ReceivedMessage). IsReadAs z (before.reads s) (after.reads s))
+              (reads s) (d.reads s);
           taken = λ o m. ⊎_elim
               (λ (n : mem o before.receiver.taken ≡ true). inl n)
               (λ (b : Brought By.ByData o). inr (brings o b))

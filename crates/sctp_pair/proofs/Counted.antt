@@ -147,7 +147,7 @@ module _ {x : Side2} {step : Step} {r : Reply} {w : World} {q : Ends} {initial :
       let both = length-append (before.sender.plan.accepted s) (accepted_at step r x s w) in
       let one = accepted_one (writing_of step) r x s w in
       let read =
-      reads_grow (message_read step r (other_side x) s) (before.reads s) (after.reads s) (h.read s within) in
+      reads_grow (message_read step r (other_side x) s) (before.reads s) (after.reads s) (h.read s) in
       let old = a s within in
       omega (arith, grown, both, one, read, old)
 

@@ -8,6 +8,7 @@ pub mod CallsAreSteps
 pub mod CloseStreamCall
 pub mod Counted
 pub mod OutgoingData
+pub mod PastReads
 pub mod PastSpans
 pub mod ComingData
 pub mod FewInAll

@@ -3,7 +3,7 @@ use Rattle.std.proofs.Common.{◌≡◌, refl, sym, ap, ◌∙◌, subst, ⊎_el
 use Rattle.std.proofs.Common.{if◌then◌else◌, List, [], ◌∷◌, ◌++◌, Option, Some, None, is_some, arith}
 use Rattle.std.specs.Prelude.{◌==◌, slice_get}
 use Rattle.sctp_streams.specs.Streams.{read_in}
-use Rattle.std.proofs.lemmas.Bool.{cases_Bool, cases_eq, cond-false, cond-true, eq-eqb, ne_eqb, true≢false}
+use Rattle.std.proofs.lemmas.Bool.{cases_Bool, cases_eq, cond-false, cond-true, eq-eqb, eqb-false, ne_eqb}
 use Rattle.std.proofs.lemmas.List.{append-nil}
 use Rattle.sctp_wire_types.specs.declared.error.Error.{Error}
 use Rattle.sctp_receive_queues.specs.Messages.{ReceivedMessage}
@@ -42,7 +42,10 @@ use Rattle.sctp_pair.proofs.BetweenDirections.{orderly_acts_keep_order, passes_o
 use Rattle.sctp_pair.proofs.BetweenDirections.{ClosedAt, Does, DoesEnding, Faces, Goes, None_brought, OpenAt, OtherStands}
 use Rattle.sctp_pair.proofs.BetweenDirections.{Settles, SettlesQuietly, StandsAt, goes_by_receiver, run_append}
 use Rattle.sctp_pair.proofs.BetweenDirections.{Surroundings, does_by_goes, goes_nowhere, nothing_added}
-use Rattle.sctp_pair.proofs.BetweenDirections.{none_ends, other_by_receiver, same_spans_go_on, sound_after, spans_of}
+use Rattle.sctp_pair.proofs.BetweenDirections.{none_ends, nothing_read, other_by_receiver, same_spans_go_on}
+use Rattle.sctp_pair.proofs.BetweenDirections.{sound_after, spans_of}
+use Rattle.sctp_pair.proofs.PastReads.{given_does, given_is_read, given_is_sound, given_leaves_the_other}
+use Rattle.sctp_pair.proofs.PastReads.{given_leaves_what_comes, given_past, others_are_not_read}
 use Rattle.sctp_pair.proofs.PastSpans.{ChangesPast, changes_as, ends_are_not_peer_known, ends_change_past, past_coming}
 use Rattle.sctp_pair.proofs.PastSpans.{past_in_order, past_out, reading_changes_past}
 use Rattle.sctp_pair.proofs.QuietCalls.{by_working, closed_on, fails_settle, open_on, same_settles, still}
@@ -85,7 +88,7 @@ read_does w id message here others =
       is = refl;
       accepted = λ s. ap (λ x. x.plan.accepted s) event.sender ∙ sym (append-nil (w.sender.plan.accepted s));
       size = ap (λ x. x.plan.size) event.sender;
-      reads = λ s within. read_alone w.reads (happens w (Event.Read id)).reads id message here others s;
+      reads = λ s. read_alone w.reads (happens w (Event.Read id)).reads id message here others s;
       taken = λ o m. only_what_is_brought_is_taken_in w (Event.Read id) o tt m;
       passed = only_forwards_pass_over w (Event.Read id) tt;
       datas = λ k d e. subst (λ (ds : List Data). slice_get ds k ≡ Some d) (sym event.datas) e;
@@ -96,30 +99,31 @@ read_does w id message here others =
       reach_on = (let e = ap (λ x. x.reach) event.sender in omega arith);
     }
 
--- of a stream that is past its span the direction sees no read
-read_past_does : (w : Direction) (id : ℕ) (message : Option ReceivedMessage) → w.over id ≡ true
-    → Does nothing_added (read_by (replies.Read message) id) None_brought w w
-read_past_does w id message past =
-    let d = does_by_goes None_brought w w (goes_nowhere None_brought w) in
-    record {
-      events = d.events;
-      is = d.is;
-      accepted = d.accepted;
-      size = d.size;
-      reads = λ s within. subst (λ (b : Bool). IsReadAs (if b then message else None) (w.reads s) (w.reads s))
-          (sym (apart s within)) refl;
-      taken = d.taken;
-      passed = d.passed;
-      datas = d.datas;
-      forwards = d.forwards;
-      sacks = d.sacks;
-      spans = d.spans;
-      ends = d.ends;
-      reach_on = d.reach_on;
-    }
-  where
-    apart : (s : ℕ) → w.over s ≡ false → (id == s) ≡ false
-    apart s within = ne_eqb id s (λ (e : id ≡ s). true≢false (sym past ∙ ap w.over e ∙ within))
+-- no message is none, whoever looks
+none_either : (b : Bool) (message : Option ReceivedMessage) → message ≡ None → (if b then message else None) ≡ None
+none_either true message e = e
+none_either false message e = refl
+
+-- what reads nothing is a read that gave nothing, too
+none_does : (w v : Direction) (id : ℕ) (message : Option ReceivedMessage) → message ≡ None
+    → Does nothing_added nothing_read None_brought w v
+    → Does nothing_added (read_by (replies.Read message) id) None_brought w v
+none_does w v id message e d = record {
+  events = d.events;
+  is = d.is;
+  accepted = d.accepted;
+  size = d.size;
+  reads = λ s. subst (λ (z : Option ReceivedMessage). IsReadAs z (w.reads s) (v.reads s))
+      (sym (none_either (id == s) message e)) (d.reads s);
+  taken = d.taken;
+  passed = d.passed;
+  datas = d.datas;
+  forwards = d.forwards;
+  sacks = d.sacks;
+  spans = d.spans;
+  ends = d.ends;
+  reach_on = d.reach_on;
+}
 
 -- the direction that comes to an association, after a read of one of its streams
 abbrev after_one : Surroundings → ℕ → Direction
@@ -134,7 +138,7 @@ does_on R w v u d g = record {
   is = g.is ∙ ap (run g.events) d.is ∙ sym (run_append d.events g.events w);
   accepted = λ s. g.accepted s ∙ d.accepted s;
   size = g.size ∙ d.size;
-  reads = λ s within. subst (IsReadAs (R s) (w.reads s)) (sym (g.reads s)) (d.reads s within);
+  reads = λ s. subst (IsReadAs (R s) (w.reads s)) (sym (g.reads s)) (d.reads s);
   taken =
       λ o m. ⊎_elim (λ (n : mem o v.receiver.taken ≡ true). d.taken o n) (λ (n : ⊥). absurd n) (g.taken o m);
   passed = passes_on None_brought w.receiver.passed v.receiver.passed u.receiver.passed d.passed g.passed;
@@ -156,8 +160,7 @@ at_exhausted a closes at working =
     ∙ at (sym closes.failed ∙ working)
 
 -- A read of a stream of an open association, before it is seen whether it leaves the receive buffer exhausted: the
--- direction that comes went on to this one, and the association stands open there. Where the stream is past its span the
--- direction sees nothing of it.
+-- direction that comes went on to this one, and the association stands open there.
 record HasRead (x : Surroundings) (a : Shown) (id : ℕ) (message : Option ReceivedMessage) : Type 0 where
   pub coming2 : Direction
   pub does : Does nothing_added (read_by (replies.Read message) id) None_brought x.coming coming2
@@ -236,22 +239,43 @@ module _ {x : Surroundings} {a b : Shown} (id : ℕ) (message : Option ReceivedM
         stands = read_stands (after_one x id) same fits.0;
       }
 
-  read_past : x.coming.over id ≡ true → HasRead x a id message
-  read_past past = record {
+  -- what the directions see of a read of a stream past its span fits what comes, too
+  past_stays : x.coming.over id ≡ true → FitsIncoming (receiving was_read) x.coming
+  past_stays past =
+      past_coming x.coming (reading_changes_past x.coming.over (parts a s.past) id past) s.between.incoming
+
+  -- such a read may give any message
+  read_past : (answer : Option ReceivedMessage) → x.coming.over id ≡ true → HasRead x a id answer
+  read_past None past = record {
     coming2 = x.coming;
-    does = read_past_does x.coming id message past;
+    does = none_does x.coming x.coming id None refl
+        (does_by_goes None_brought x.coming x.coming (goes_nowhere None_brought x.coming));
     sound = f.sound_coming;
     same_spans = λ t. refl;
     sender = refl;
     other = f.other;
-    stands =
-        read_stands x.coming (λ t. refl)
-        (past_coming x.coming (reading_changes_past x.coming.over (parts a s.past) id past) s.between.incoming);
+    stands = read_stands x.coming (λ t. refl) (past_stays past);
   }
+  read_past (Some m) past =
+      let coming2 : Direction = given_past x.coming id m in
+      let is_open = s.between.incoming.is_open in
+      record {
+        coming2 = coming2;
+        does = given_does x.coming id m past is_open (read_by (replies.Read (Some m)) id)
+            (read_alone x.coming.reads coming2.reads id (Some m) (given_is_read x.coming id m)
+            (λ t apart. others_are_not_read x.coming id m t (eqb-false t id apart)));
+        sound = given_is_sound x.coming id m past is_open f.within_coming f.sound_coming;
+        same_spans = λ t. refl;
+        sender = refl;
+        other = given_leaves_the_other x id m f.other;
+        stands =
+            read_stands coming2 (λ t. refl)
+            (given_leaves_what_comes x.coming id m past (receiving was_read) (past_stays past));
+      }
 
   has_read : HasRead x a id message
   has_read = ⊎_elim
-      (λ (past : x.coming.over id ≡ true). read_past past)
+      (λ (past : x.coming.over id ≡ true). read_past message past)
       (λ (within : x.coming.over id ≡ false). read_within within)
       (cases_Bool (x.coming.over id))
 
@@ -382,37 +406,16 @@ read_closed a b id message live e s =
           (subst HoldsNothing left nothing.1) s,
     )
 
--- no message is none, whoever looks
-none_either : (b : Bool) (message : Option ReceivedMessage) → message ≡ None → (if b then message else None) ≡ None
-none_either true message e = e
-none_either false message e = refl
-
 -- a read that gave nothing
 none_read : {x : Surroundings} {b : Shown} (id : ℕ) (message : Option ReceivedMessage) → message ≡ None
     → SettlesQuietly x b → Settles x b nothing_added (read_by (replies.Read message) id) None_brought
 none_read {x} id message e h =
-    let d = h.does_coming in
     record {
       out2 = h.out2;
       coming2 = h.coming2;
       here2 = h.here2;
       does_out = h.does_out;
-      does_coming = record {
-        events = d.events;
-        is = d.is;
-        accepted = d.accepted;
-        size = d.size;
-        reads = λ s within. subst (λ (z : Option ReceivedMessage). IsReadAs z (x.coming.reads s) (h.coming2.reads s))
-            (sym (none_either (id == s) message e)) (d.reads s within);
-        taken = d.taken;
-        passed = d.passed;
-        datas = d.datas;
-        forwards = d.forwards;
-        sacks = d.sacks;
-        spans = d.spans;
-        ends = d.ends;
-        reach_on = d.reach_on;
-      };
+      does_coming = none_does x.coming h.coming2 id message e h.does_coming;
       sound_out = h.sound_out;
       sound_coming = h.sound_coming;
       both = h.both;

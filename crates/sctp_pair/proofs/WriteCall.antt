@@ -76,7 +76,7 @@ write_does a id n named bytes t w there some =
       accepted = λ s. writes_are_accepted_last w id s t kind bytes some
           ∙ ap (λ o. w.sender.plan.accepted s ++ (if id == s then messages_on o named bytes else [])) (sym there);
       size = sent.0.size;
-      reads = λ s within. ap (λ f. f s) sent.0.reads;
+      reads = λ s. ap (λ f. f s) sent.0.reads;
       taken = λ o m. inl (subst (λ (r : Receiver). mem o r.taken ≡ true) sent.0.receiver m);
       passed = inl (ap (λ (r : Receiver). r.passed) sent.0.receiver);
       datas = sent.0.datas;

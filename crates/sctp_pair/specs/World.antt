@@ -167,11 +167,11 @@ EndsSpan step reply s = ends_span step reply s ≡ true
 abbrev pub IsOpen : Shown → Type 0
 IsOpen a = (a.failed ≡ false) × (is_closed_state a.state ≡ false)
 
--- What a step does to the direction from one side to the other, of this initial TSN: its write is accepted, its read of
--- a stream within its span gives the next message, and nothing is taken in but DATA of the packet that it delivers.
--- Whatever else it does are events of the model; the acknowledged reach never moves back, and a sender that isn't open
--- afterwards assigned no offset. What a step may leave out of the promise is bounded, too: whose span ends, what is
--- passed over or given up, and who stops receiving.
+-- What a step does to the direction from one side to the other, of this initial TSN: its write is accepted, what its
+-- read answers is read, and nothing is taken in but DATA of the packet that it delivers. Whatever else it does are
+-- events of the model; the acknowledged reach never moves back, and a sender that isn't open afterwards assigned no
+-- offset. What a step may leave out of the promise is bounded, too: whose span ends, what is passed over or given up,
+-- and who stops receiving.
 pub record IsDirectionStep (step : Step) (reply : Reply) (sender receiver : Side2) (w : World) (q : Ends) (initial : ℕ)
     (before after : Direction) : Type 0 where
   pub events : List Event
@@ -181,8 +181,10 @@ pub record IsDirectionStep (step : Step) (reply : Reply) (sender receiver : Side
   -- on a stream within its span that is not loose it is ordered and reliable
   pub in_order : (s : ℕ) → before.over s ≡ false → loose_of sender w s ≡ false
       → AllByRecursion IsOrderedAndReliable (accepted_at step reply sender s w)
-  pub read : (s : ℕ) → before.over s ≡ false
-      → IsReadAs (message_read step reply receiver s) (before.reads s) (after.reads s)
+  -- On each stream what was read grows by the message that the step's read answers, and by nothing else. Within the
+  -- stream's span it is the one that the model's own queue gives next. Past it that queue may become anything first
+  -- (`Event.Replace`), and so nothing more is said of the message.
+  pub read : (s : ℕ) → IsReadAs (message_read step reply receiver s) (before.reads s) (after.reads s)
   pub taken : (o : ℕ) → mem o after.receiver.taken ≡ true
       → (mem o before.receiver.taken ≡ true) ⊎ HasData (packet_brought step reply receiver w) (tsn initial o)
   pub reach_on : before.sender.reach ≤ after.sender.reach
