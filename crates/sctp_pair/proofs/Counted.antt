@@ -120,10 +120,9 @@ reads_grow (Some m) before after (g, e, l) =
     let more = length-append before (g ∷ []) in
     omega (arith, f, more)
 
--- On each stream within its span, at most so many of the messages that were accepted were not read.
+-- On each stream, at most so many of the messages that were accepted were not read.
 abbrev IsRead : (ℕ → ℕ) → Direction → Type 0
-IsRead waiting w =
-    (s : ℕ) → w.over s ≡ false → length (w.sender.plan.accepted s) ≤ length (w.reads s) + waiting s
+IsRead waiting w = (s : ℕ) → length (w.sender.plan.accepted s) ≤ length (w.reads s) + waiting s
 
 -- a span that is not over after a step was not before it
 pub within_before : (before after : Bool) → (before ≡ true → after ≡ true) → after ≡ false → before ≡ false
@@ -141,14 +140,13 @@ module _ {x : Side2} {step : Step} {r : Reply} {w : World} {q : Ends} {initial :
 
   reads_counted : (waiting : ℕ → ℕ) → IsRead waiting before
       → IsRead (λ s. waiting s + one_written step r x s - one_read step r (other_side x) s) after
-  reads_counted waiting a s span =
-      let within = within_before (before.over s) (after.over s) (h.span_over s) span in
+  reads_counted waiting a s =
       let grown = ap (λ (ms : List Message). length ms) (h.accepted s) in
       let both = length-append (before.sender.plan.accepted s) (accepted_at step r x s w) in
       let one = accepted_one (writing_of step) r x s w in
       let read =
       reads_grow (message_read step r (other_side x) s) (before.reads s) (after.reads s) (h.read s) in
-      let old = a s within in
+      let old = a s in
       omega (arith, grown, both, one, read, old)
 
   -- Side x stands between the next direction and what comes, and these are since a call that began at `begin`.
@@ -164,7 +162,7 @@ module _ {x : Side2} {step : Step} {r : Reply} {w : World} {q : Ends} {initial :
           flight = few_in_flight h own peer stands begin pieces since few.flight places within.flight;
           unread = λ s span.
               let left = waiting_counted after s sound.invariant span in
-              let some = read s span in
+              let some = read s in
               let most = few.waiting s in
               omega (arith, left, some, most);
         }
@@ -267,6 +265,6 @@ fits_with_none p initial_a initial_b size_a size_b f = record {
   fits = f;
   of_a = nothing_is_accepted_at_first size_a;
   of_b = nothing_is_accepted_at_first size_b;
-  unread_a = λ s span. omega arith;
-  unread_b = λ s span. omega arith;
+  unread_a = λ s. omega arith;
+  unread_b = λ s. omega arith;
 }

@@ -88,15 +88,13 @@ pub record AreFew (t : Tally) (initial_a initial_b : ℕ) (begin : Ends) : Type 
   pub of_b : IsFew t.pieces_b t.unread_b initial_b begin.b
 
 -- A pair fits a world that the tally counts: the messages that were accepted have at most so many pieces, and on each
--- stream within its span at most so many of them were not read.
+-- stream, also past its span, no more of them were accepted than were read and are counted as unread.
 pub record FitsCounted (t : Tally) (p : Ends) (w : World) : Type 0 where
   pub fits : Fits p w
   pub of_a : HasAccepted t.pieces_a w.ab
   pub of_b : HasAccepted t.pieces_b w.ba
-  pub unread_a : (s : ℕ) → w.ab.over s ≡ false
-      → length (w.ab.sender.plan.accepted s) ≤ length (w.ab.reads s) + t.unread_a s
-  pub unread_b : (s : ℕ) → w.ba.over s ≡ false
-      → length (w.ba.sender.plan.accepted s) ≤ length (w.ba.reads s) + t.unread_b s
+  pub unread_a : (s : ℕ) → length (w.ab.sender.plan.accepted s) ≤ length (w.ab.reads s) + t.unread_a s
+  pub unread_b : (s : ℕ) → length (w.ba.sender.plan.accepted s) ≤ length (w.ba.reads s) + t.unread_b s
 
 -- The tally after a step from this world. The payload sizes are those that the pair was made with, and stay
 -- (`IsDirectionStep.size`).
