@@ -18,6 +18,7 @@ pub mod HandshakeStages
 pub mod CountedRuns
 pub mod MessageBytes
 pub mod NeverTakenBack
+pub mod NumbersAnew
 pub mod NewPairs
 pub mod NoReset
 pub mod NumbersCounted
@@ -31,6 +32,7 @@ pub mod RunsOfWorlds
 pub mod SaidStaysSaid
 pub mod ShutdownSteps
 pub mod QuietCalls
+pub mod RequestsWait
 pub mod SinceBegun
 pub mod StepsLead
 pub mod StopCall
