@@ -27,11 +27,12 @@ use Rattle.sctp_pair.specs.Ends.{Ends, end_of}
 use Rattle.sctp_assoc.specs.Replies.{packet_in}
 use Rattle.sctp_pair.specs.Steps.{Steps}
 use Rattle.sctp_fit.specs.Incoming.{tsn_before}
-use Rattle.sctp_pair.specs.World.{EndsSpan, HasData, HasForward, IsDirectionStep, IsOpen, World, accepted_at}
+use Rattle.sctp_pair.specs.World.{EndsReset, EndsSpan, HasData, HasForward, HasRestarted, IsDirectionStep, IsOpen}
+use Rattle.sctp_pair.specs.World.{World, accepted_at}
 use Rattle.sctp_pair.specs.World.{message_read}
 use Rattle.sctp_pair.specs.World.{other_side}
 use Rattle.sctp_pair.specs.World.{IsOrderedAndReliable, loose_after, loose_of, loosens, packet_brought}
-use Rattle.sctp_pair.specs.Fits.{AreSaid, Fits, IsAt, IsSaidBy, IsSilent, LeadsSafely, Stands, StandsIn}
+use Rattle.sctp_pair.specs.Fits.{AreSaid, Fits, IsAt, IsSaidBy, IsSilent, LeadsSafely, ResetsQuietly, Stands, StandsIn}
 use Rattle.sctp_pair.proofs.BetweenDirections.{By, DoesEnding, Faces, None_ended, OpenAt, SettlesEnding, Surroundings}
 use Rattle.sctp_pair.proofs.BetweenDirections.{moved, spans_stay_put, stands_between}
 use Rattle.sctp_pair.proofs.AcceptedInOrder.{accepted_in_order}
@@ -40,6 +41,9 @@ use Rattle.sctp_pair.proofs.Promised.{receives_or_stopped, safe_world}
 use Rattle.sctp_pair.proofs.SaidStaysSaid.{StageGoesOn, said_grows}
 use Rattle.sctp_pair.proofs.HandshakeStages.{stays_put, turned}
 use Rattle.sctp_pair.proofs.QuietCalls.{closed_is_beginning}
+use Rattle.sctp_pair.proofs.QuietSteps.{steps_stay_quiet}
+use Rattle.sctp_pair.proofs.Restarts.{ended_can_restart, has_restarted, none_ended, reset_between, resets_quietly}
+use Rattle.sctp_pair.proofs.Restarts.{restarting, said_still}
 use Rattle.sctp_pair.proofs.ShutdownSteps.{shutdowns_end_in_order}
 
 -- an association stands there still where more streams may be loose
@@ -192,6 +196,13 @@ module _ {Ended : ℕ → Type 0} {x : Surroundings} {b : Shown} {Added : ℕ �
     spans = s.does_coming.spans;
   }
 
+-- a receiver that is closed before a call is closed after it
+stays_closed_after : {Ended : ℕ → Type 0} {Added : ℕ → List Message} {Read : ℕ → Option letters.ReceivedMessage}
+    {Brought : By → ℕ → Type 0} {before after : Direction} → DoesEnding Ended Added Read Brought before after
+    → before.receiver.is_open ≡ false → after.receiver.is_open ≡ false
+stays_closed_after {before = before} d closed =
+    ap (λ (z : Direction). z.receiver.is_open) d.is ∙ (runs_are_onward d.events before).closed closed
+
 -- This step of the world's pair has this reply and leads to q.
 module _ (step : Step) (reply : Reply) (w : World) (q : Ends) where
   -- what a call does to a direction is what a step does there, where it adds, reads and brings the same
@@ -209,9 +220,10 @@ module _ (step : Step) (reply : Reply) (w : World) (q : Ends) where
         → IsOpen (end_of sender q) ⊎ (after.sender.plan.places ≡ before.sender.plan.places)
         → IsSound after
         → (after.receiver.is_open ≡ true) ⊎ (IsOpen (end_of receiver q) → ⊥)
+        → ((s : ℕ) → EndsReset (end_of sender w.ends) (end_of sender q) s → HasRestarted after s)
         → IsDirectionStep step reply sender receiver w q initial before after
     direction_step {before} {after} {Ended} {Brought = Brought} d ends adds reads brings passes kept no_more is
-        receives = record {
+        receives restarted = record {
           events = d.events;
           happened = d.is;
           accepted = λ s. d.accepted s ∙ ap (λ (z : List Message). before.sender.plan.accepted s ++ z) (adds s);
@@ -239,18 +251,21 @@ module _ (step : Step) (reply : Reply) (w : World) (q : Ends) where
           closes =
               ⊎_elim (λ (o : after.receiver.is_open ≡ true). inl o)
               (λ (n : IsOpen (end_of receiver q) → ⊥). inr (inr n)) receives;
-          stays_closed = λ c. ap (λ (z : Direction). z.receiver.is_open) d.is ∙ (runs_are_onward d.events before).closed c;
+          stays_closed = stays_closed_after d;
+          restarted = restarted;
         }
 
   -- A call of A that settles leads from the world to one in which the pair stands: the packets that it gave out are A's
-  -- next ones.
-  pub settled_a : {Ended : ℕ → Type 0} {Added : ℕ → List Message} {Read : ℕ → Option letters.ReceivedMessage}
-      {Brought : By → ℕ → Type 0} (given : List (List ℕ)) (fits : Fits w.ends w) → q.b ≡ w.ends.b → q.packets_a ≡ w.ends.packets_a ++ given
+  -- next ones. It settles where the sequence numbers of those streams began again whose reset ended in success.
+  led_a : {Ended : ℕ → Type 0} {Added : ℕ → List Message} {Read : ℕ → Option letters.ReceivedMessage}
+      {Brought : By → ℕ → Type 0} (given : List (List ℕ)) (fits : Fits w.ends w) → q.b ≡ w.ends.b
+      → q.packets_a ≡ w.ends.packets_a ++ given
       → q.packets_b ≡ w.ends.packets_b → Steps step w.ends reply q
       → (s : SettlesEnding Ended (around_a step reply w fits) q.a Added Read Brought)
       → AreSaid w.initial_a w.initial_b s.here2 s.out2 s.coming2 given
+      → ((t : ℕ) → EndsReset w.ends.a q.a t → HasRestarted s.out2 t)
       → IsCallEnding Ended step reply sides.A w w.initial_b Added Read Brought → LeadsSafely step reply w q
-  settled_a given fits same_b more same_packets ends s said call = (
+  led_a given fits same_b more same_packets ends s said restarted call = (
     v,
     record {
       ends_step = ends;
@@ -261,12 +276,13 @@ module _ (step : Step) (reply : Reply) (w : World) (q : Ends) where
       ab_step =
           direction_step sides.A sides.B w.initial_a s.does_out call.ends call.adds call.reads_alone (λ o n. absurd n)
           (λ o n. absurd n) (accepted_in_order step reply w q fits ends sides.A) (is_open s) s.sound_out
-          (receives_or_stopped w.initial_b w.initial_a q.b s.coming2 s.out2 stands.side_b);
+          (receives_or_stopped w.initial_b w.initial_a q.b s.coming2 s.out2 stands.side_b) restarted;
       ba_step =
           direction_step sides.B sides.A w.initial_b s.does_coming call.ends call.adds_alone call.reads call.brings call.passes
           (accepted_in_order step reply w q fits ends sides.B)
           (inr (ap (λ (z : Sender). z.plan.places) s.coming_still)) s.sound_coming
-          (receives_or_stopped w.initial_a w.initial_b q.a s.out2 s.coming2 stands.side_a);
+          (receives_or_stopped w.initial_a w.initial_b q.a s.out2 s.coming2 stands.side_a)
+          (λ t e. absurd (none_ended t same_b e));
     },
     stands,
     λ within. safe_world q v (record { within = within; stand = stands }),
@@ -310,16 +326,41 @@ module _ (step : Step) (reply : Reply) (w : World) (q : Ends) where
             (said_grows w.initial_b w.initial_a (other_goes_on s) w.ends.packets_b fits.stand.said_b);
         ends_a = shutdowns_end_in_order step reply w.ends q sides.A ends fits.stand.ends_a;
         ends_b = shutdowns_end_in_order step reply w.ends q sides.B ends fits.stand.ends_b;
+        resets_a =
+            resets_quietly fits.stand.side_a s.stands (stays_closed_after s.does_coming)
+            (steps_stay_quiet step reply w.ends q sides.A ends) fits.stand.resets_a;
+        resets_b = subst ResetsQuietly (sym same_b) fits.stand.resets_b;
       }
 
+  -- Where it settles without that, they can begin again behind it.
+  pub settled_a : {Ended : ℕ → Type 0} {Added : ℕ → List Message} {Read : ℕ → Option letters.ReceivedMessage}
+      {Brought : By → ℕ → Type 0} (given : List (List ℕ)) (fits : Fits w.ends w) → q.b ≡ w.ends.b
+      → q.packets_a ≡ w.ends.packets_a ++ given
+      → q.packets_b ≡ w.ends.packets_b → Steps step w.ends reply q
+      → (s : SettlesEnding Ended (around_a step reply w fits) q.a Added Read Brought)
+      → AreSaid w.initial_a w.initial_b s.here2 s.out2 s.coming2 given
+      → IsCallEnding Ended step reply sides.A w w.initial_b Added Read Brought → LeadsSafely step reply w q
+  settled_a given fits same_b more same_packets ends s said call =
+      let ids = reset_between w.ends.a q.a in
+      led_a given fits same_b more same_packets ends (restarting ids s) (said_still ids s given said)
+      (λ t e.
+      let can =
+      ended_can_restart fits.stand.side_a s.stands (stays_closed_after s.does_coming)
+      (steps_stay_quiet step reply w.ends q sides.A ends) fits.stand.resets_a t e
+      (λ over. s.does_out.spans.over t (fits.stand.spans t ∙ over)) in
+      has_restarted ids s t can.0 can.1)
+      call
+
   -- The same of a call of B.
-  pub settled_b : {Ended : ℕ → Type 0} {Added : ℕ → List Message} {Read : ℕ → Option letters.ReceivedMessage}
-      {Brought : By → ℕ → Type 0} (given : List (List ℕ)) (fits : Fits w.ends w) → q.a ≡ w.ends.a → q.packets_b ≡ w.ends.packets_b ++ given
+  led_b : {Ended : ℕ → Type 0} {Added : ℕ → List Message} {Read : ℕ → Option letters.ReceivedMessage}
+      {Brought : By → ℕ → Type 0} (given : List (List ℕ)) (fits : Fits w.ends w) → q.a ≡ w.ends.a
+      → q.packets_b ≡ w.ends.packets_b ++ given
       → q.packets_a ≡ w.ends.packets_a → Steps step w.ends reply q
       → (s : SettlesEnding Ended (around_b step reply w fits) q.b Added Read Brought)
       → AreSaid w.initial_b w.initial_a s.here2 s.out2 s.coming2 given
+      → ((t : ℕ) → EndsReset w.ends.b q.b t → HasRestarted s.out2 t)
       → IsCallEnding Ended step reply sides.B w w.initial_a Added Read Brought → LeadsSafely step reply w q
-  settled_b given fits same_a more same_packets ends s said call = (
+  led_b given fits same_a more same_packets ends s said restarted call = (
     v,
     record {
       ends_step = ends;
@@ -331,11 +372,12 @@ module _ (step : Step) (reply : Reply) (w : World) (q : Ends) where
           direction_step sides.A sides.B w.initial_a s.does_coming call.ends call.adds_alone call.reads call.brings call.passes
           (accepted_in_order step reply w q fits ends sides.A)
           (inr (ap (λ (z : Sender). z.plan.places) s.coming_still)) s.sound_coming
-          (receives_or_stopped w.initial_b w.initial_a q.b s.out2 s.coming2 stands.side_b);
+          (receives_or_stopped w.initial_b w.initial_a q.b s.out2 s.coming2 stands.side_b)
+          (λ t e. absurd (none_ended t same_a e));
       ba_step =
           direction_step sides.B sides.A w.initial_b s.does_out call.ends call.adds call.reads_alone (λ o n. absurd n)
           (λ o n. absurd n) (accepted_in_order step reply w q fits ends sides.B) (is_open s) s.sound_out
-          (receives_or_stopped w.initial_a w.initial_b q.a s.coming2 s.out2 stands.side_a);
+          (receives_or_stopped w.initial_a w.initial_b q.a s.coming2 s.out2 stands.side_a) restarted;
     },
     stands,
     λ within. safe_world q v (record { within = within; stand = stands }),
@@ -379,4 +421,26 @@ module _ (step : Step) (reply : Reply) (w : World) (q : Ends) where
             (said_grows w.initial_b w.initial_a (own_goes_on s) w.ends.packets_b fits.stand.said_b) said);
         ends_a = shutdowns_end_in_order step reply w.ends q sides.A ends fits.stand.ends_a;
         ends_b = shutdowns_end_in_order step reply w.ends q sides.B ends fits.stand.ends_b;
+        resets_a = subst ResetsQuietly (sym same_a) fits.stand.resets_a;
+        resets_b =
+            resets_quietly fits.stand.side_b s.stands (stays_closed_after s.does_coming)
+            (steps_stay_quiet step reply w.ends q sides.B ends) fits.stand.resets_b;
       }
+
+  pub settled_b : {Ended : ℕ → Type 0} {Added : ℕ → List Message} {Read : ℕ → Option letters.ReceivedMessage}
+      {Brought : By → ℕ → Type 0} (given : List (List ℕ)) (fits : Fits w.ends w) → q.a ≡ w.ends.a
+      → q.packets_b ≡ w.ends.packets_b ++ given
+      → q.packets_a ≡ w.ends.packets_a → Steps step w.ends reply q
+      → (s : SettlesEnding Ended (around_b step reply w fits) q.b Added Read Brought)
+      → AreSaid w.initial_b w.initial_a s.here2 s.out2 s.coming2 given
+      → IsCallEnding Ended step reply sides.B w w.initial_a Added Read Brought → LeadsSafely step reply w q
+  settled_b given fits same_a more same_packets ends s said call =
+      let ids = reset_between w.ends.b q.b in
+      led_b given fits same_a more same_packets ends (restarting ids s) (said_still ids s given said)
+      (λ t e.
+      let can =
+      ended_can_restart fits.stand.side_b s.stands (stays_closed_after s.does_coming)
+      (steps_stay_quiet step reply w.ends q sides.B ends) fits.stand.resets_b t e
+      (λ over. s.does_out.spans.over t (sym (fits.stand.spans t) ∙ over)) in
+      has_restarted ids s t can.0 can.1)
+      call

@@ -32,7 +32,9 @@ pub mod RunsOfWorlds
 pub mod SaidStaysSaid
 pub mod ShutdownSteps
 pub mod QuietCalls
+pub mod QuietSteps
 pub mod RequestsWait
+pub mod Restarts
 pub mod SinceBegun
 pub mod StepsLead
 pub mod StopCall

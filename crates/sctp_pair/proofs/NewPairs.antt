@@ -23,6 +23,7 @@ use Rattle.sctp_assoc.specs.Handshake.{sends_init}
 use Rattle.sctp_assoc.specs.Shown.{Shown}
 use Rattle.sctp_sides.specs.Ending.{IsInOrder}
 use Rattle.sctp_sides.specs.Meeting.{stage_of}
+use Rattle.sctp_sides.specs.Restarts.{ActiveIsQuiet}
 use Rattle.sctp_pair.specs.Ends.{Ends}
 use Rattle.sctp_pair.specs.World.{empty_world, none_loose}
 use Rattle.sctp_pair.specs.Fits.{Fits, StagesAgree, StandsOpen}
@@ -52,6 +53,7 @@ record Begins (own peer size other : ℕ) (a : Shown) : Type 0 where
   some : 0 < size
   stands : StandsOpen none_loose own peer a (fresh size) (fresh other)
   ends : IsInOrder a
+  quiet : ActiveIsQuiet a
 
 -- Two associations that begin, and whose stages fit, fit the empty world.
 fits_begin : {own_a own_b size_a size_b : ℕ} {a b : Shown} → Begins own_a own_b size_a size_b a
@@ -79,6 +81,8 @@ fits_begin {own_a} {own_b} {size_a} {size_b} {a} {b} of_a of_b meets p is =
         said_b = tt;
         ends_a = λ working. inl of_a.ends;
         ends_b = λ working. inl of_b.ends;
+        resets_a = λ working. of_a.quiet;
+        resets_b = λ working. of_b.quiet;
       };
     }
 
@@ -109,6 +113,7 @@ joined_begins {size} {own} {peer} other j = record {
       subst (λ (z : Shown). StandsOpen none_loose own.initial_tsn peer.initial_tsn z (fresh size) (fresh other))
       (sym j.is) stands;
   ends = subst IsInOrder (sym j.is) ends;
+  quiet = subst ActiveIsQuiet (sym j.is) (λ id is. absurd (false≢true is));
 }
   where
     ends : IsInOrder (joined j.config size j.remote None own peer)
@@ -187,6 +192,7 @@ client_begins {size} {own} other peer c = record {
   some = some_size size _ _ _ c.unrefused;
   stands = subst (λ (z : Shown). StandsOpen none_loose own peer z (fresh size) (fresh other)) (sym c.is) stands;
   ends = subst IsInOrder (sym c.is) ends;
+  quiet = subst ActiveIsQuiet (sym c.is) (λ id is. absurd (false≢true is));
 }
   where
     ends : IsInOrder (client c.config size c.tag own c.cookie c.remote None c.now)
@@ -246,6 +252,7 @@ server_begins {size} {own} other peer c = record {
   some = some_size size _ _ _ c.unrefused;
   stands = subst (λ (z : Shown). StandsOpen none_loose own peer z (fresh size) (fresh other)) (sym c.is) stands;
   ends = subst IsInOrder (sym c.is) ends;
+  quiet = subst ActiveIsQuiet (sym c.is) (λ id is. absurd (false≢true is));
 }
   where
     ends : IsInOrder (server c.config size c.tag own c.cookie c.remote None)

@@ -56,7 +56,8 @@ module _ (q : Outbound) (id : ℕ) (held : has_stream q id ≡ true) where
   not_quiet r named = by r.names_all named
     where
       by : (all : Bool) → (all || has_id id r.ids) ≡ true
-          → cond all ((length q.pending == 0) && (length q.in_flight == 0)) (not (list_any (has_stream q) r.ids)) ≡ false
+          → cond all ((length q.pending == 0) && (length q.in_flight == 0)) (not (list_any (has_stream q) r.ids))
+          ≡ false
       by true is = not_empty
       by false is = one_held r.ids is
 

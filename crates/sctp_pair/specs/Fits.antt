@@ -11,6 +11,7 @@ use Rattle.sctp_sides.specs.Ending.{IsInOrderOrLost}
 use Rattle.sctp_sides.specs.Meeting.{Greets, HasCome, IsDoneAmongClients, IsTruthful, MayHear, Stage, stage_of}
 use Rattle.sctp_sides.specs.NoReset.{HasNoReset}
 use Rattle.sctp_sides.specs.PastSpan.{ResetsPast, ResetsPastOnly}
+use Rattle.sctp_sides.specs.Restarts.{ActiveIsQuiet}
 use Rattle.sctp_sides.specs.SideLaws.{HoldsNothing, OfEachChunk}
 use Rattle.sctp_assoc.specs.Shown.{Shown}
 use Rattle.sctp_directions.specs.Said.{Says}
@@ -93,6 +94,10 @@ AreSaid own peer s out coming packets =
 abbrev pub EndsInOrder : Shown → Type 0
 EndsInOrder a = a.failed ≡ false → IsInOrderOrLost a
 
+-- no DATA of a stream that an association which did not fail is resetting waits or is in flight (RFC 6525 section 5.1.2)
+abbrev pub ResetsQuietly : Shown → Type 0
+ResetsQuietly a = a.failed ≡ false → ActiveIsQuiet a
+
 -- A pair stands in a world: both directions are sound, the same streams are past their span in both, and both sides
 -- stand between them.
 pub record StandsIn (p : Ends) (w : World) : Type 0 where
@@ -113,6 +118,8 @@ pub record StandsIn (p : Ends) (w : World) : Type 0 where
   pub said_b : AreSaid w.initial_b w.initial_a stage_b w.ba w.ab w.ends.packets_b
   pub ends_a : EndsInOrder w.ends.a
   pub ends_b : EndsInOrder w.ends.b
+  pub resets_a : ResetsQuietly w.ends.a
+  pub resets_b : ResetsQuietly w.ends.b
 
 -- It fits the world where that is within the limits, too.
 pub record Fits (p : Ends) (w : World) : Type 0 where

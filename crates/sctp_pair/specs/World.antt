@@ -16,12 +16,14 @@ use Rattle.sctp_model.specs.Messages.{accepted_bytes, is_reliable, message_at}
 use Rattle.sctp_model.specs.Packets.{mem}
 use Rattle.sctp_serial.specs.Serial.{tsn}
 use Rattle.sctp_model.specs.Reassembly as queue
-use Rattle.sctp_model.specs.Machine.{Direction, Event, fresh, live, run}
+use Rattle.sctp_model.specs.Machine.{Direction, Event, can_restart, fresh, live, run}
 use Rattle.sctp_model.specs.Safe.{IsSafe, IsWithin, letter_read}
 use Rattle.sctp_fit.specs.Incoming.{tsn_before}
 use Rattle.sctp_assoc.specs.Calls.{buffered_of, ready_messages}
 use Rattle.sctp_assoc.specs.Closing.{is_closed_state}
 use Rattle.sctp_assoc.specs.Shown.{Shown}
+use Rattle.sctp_reset_requests.specs.Ids.{has_id}
+use Rattle.sctp_sides.specs.Restarts.{is_being_reset}
 use Rattle.sctp_reassembly.specs.Stands.{IsReadAs, letter_received}
 use Rattle.sctp_wire_types.specs.declared.reliability.ReliabilityType.{ReliabilityType}
 use Rattle.sctp_wire_types.specs.declared.reliability.ReliabilityType.TheVariants as types
@@ -167,6 +169,21 @@ EndsSpan step reply s = ends_span step reply s ≡ true
 abbrev pub IsOpen : Shown → Type 0
 IsOpen a = (a.failed ≡ false) × (is_closed_state a.state ≡ false)
 
+-- A request of a side to reset stream s ended in success (RFC 6525 section 5.2.7) between before and after: it was sent
+-- and not answered before, and is over after; the reset of the stream did not fail, and the side is neither closed nor
+-- failed.
+pub record EndsReset (before after : Shown) (s : ℕ) : Type 0 where
+  pub active : is_being_reset before s ≡ true
+  pub ended : is_being_reset after s ≡ false
+  pub unfailed : has_id s after.resets.debts.failed ≡ false
+  pub opens : IsOpen after
+
+-- The sequence numbers of stream s began again at the sender. The stream is past its span, and nothing of it is
+-- outstanding: each of its offsets lies below the acknowledged reach, and no message of it goes on.
+pub record HasRestarted (w : Direction) (s : ℕ) : Type 0 where
+  pub quiet : can_restart w s ≡ true
+  pub anew : w.sender.ssn s ≡ 0
+
 -- What a step does to the direction from one side to the other, of this initial TSN: its write is accepted, what its
 -- read answers is read, and nothing is taken in but DATA of the packet that it delivers. Whatever else it does are
 -- events of the model; the acknowledged reach never moves back, and a sender that isn't open afterwards assigned no
@@ -206,6 +223,8 @@ pub record IsDirectionStep (step : Step) (reply : Reply) (sender receiver : Side
   -- open again
   pub closes : (after.receiver.is_open ≡ true) ⊎ ((before.receiver.is_open ≡ false) ⊎ (IsOpen (end_of receiver q) → ⊥))
   pub stays_closed : before.receiver.is_open ≡ false → after.receiver.is_open ≡ false
+  -- where a request of the sender to reset a stream ended in success, the stream's sequence numbers began again
+  pub restarted : (s : ℕ) → EndsReset (end_of sender w.ends) (end_of sender q) s → HasRestarted after s
 
 -- A step with its reply, from one world to the next.
 pub record IsWorldStep (step : Step) (w : World) (reply : Reply) (v : World) : Type 0 where

@@ -65,3 +65,8 @@ pub use Rattle.sctp_sides.proofs.TimersOverRuns.{created_sides_are_fresh, joined
 pub use Rattle.sctp_sides.proofs.TimersOverRuns.{lost_sides_wait_for_nothing}
 pub use Rattle.sctp_sides.proofs.RunsListed.{laws_hold_over_runs, listed, run_listed, runs_are_lists_of_calls}
 pub use Rattle.sctp_sides.proofs.RunsListed.{runs_joined}
+pub use Rattle.sctp_sides.proofs.ActiveOverRuns.{calls_restart_quietly}
+pub use Rattle.sctp_sides.proofs.ActsWithoutWrites.{AreNoWrites, close_stream_writes_nothing, close_writes_nothing}
+pub use Rattle.sctp_sides.proofs.ActsWithoutWrites.{packet_writes_nothing, poll_writes_nothing, read_writes_nothing}
+pub use Rattle.sctp_sides.proofs.ActsWithoutWrites.{stop_writes_nothing, timeouts_write_nothing}
+pub use Rattle.sctp_sides.proofs.QuietQueues.{acts_add_none}
