@@ -348,7 +348,7 @@ module _ (step : Step) (reply : Reply) (w : World) (q : Ends) where
       ended_can_restart fits.stand.side_a s.stands (stays_closed_after s.does_coming)
       (steps_stay_quiet step reply w.ends q sides.A ends) fits.stand.resets_a t e
       (λ over. s.does_out.spans.over t (fits.stand.spans t ∙ over)) in
-      has_restarted ids s t can.0 can.1)
+      has_restarted ids s t can.0 can.1 can.2)
       call
 
   -- The same of a call of B.
@@ -442,5 +442,5 @@ module _ (step : Step) (reply : Reply) (w : World) (q : Ends) where
       ended_can_restart fits.stand.side_b s.stands (stays_closed_after s.does_coming)
       (steps_stay_quiet step reply w.ends q sides.B ends) fits.stand.resets_b t e
       (λ over. s.does_out.spans.over t (sym (fits.stand.spans t) ∙ over)) in
-      has_restarted ids s t can.0 can.1)
+      has_restarted ids s t can.0 can.1 can.2)
       call

@@ -1,9 +1,10 @@
 -- The sequence numbers of streams past their span begin again in a direction: its sender's next numbers change, and
 -- nothing else does.
-use Rattle.std.proofs.Common.{◌≡◌, refl, sym, ap, ◌∙◌, ℕ, suc, ◌%◌, Bool, true, false, eqb, not, ◌&&◌, ◌||◌}
+use Rattle.std.proofs.Common.{◌≡◌, refl, sym, ap, ◌∙◌, arith, ℕ, suc, ◌%◌, Bool, true, false, eqb, not, ◌&&◌, ◌||◌}
 use Rattle.std.proofs.Common.{if◌then◌else◌, drop, filter, is_eq, map, nat_cmp, List, [], ◌∷◌, Option, Some, None}
 use Rattle.std.proofs.Math.Seq.{drop-cons, drop-length}
-use Rattle.std.proofs.lemmas.Bool.{and_from, and_parts, eq-eqb, eqb-true, false≢true, not-true, or_parts, true≢false}
+use Rattle.std.proofs.lemmas.Bool.{and_from, and_parts, eq-eqb, eqb-true, false≢true, ne_eqb, not-true, or_parts}
+use Rattle.std.proofs.lemmas.Bool.{true≢false}
 use Rattle.std.specs.List.{list_any}
 use Rattle.sctp_outbound_queue.specs.declared.message.Attributes.{Attributes}
 use Rattle.sctp_outbound_queue.specs.declared.message.InFlight.{InFlight}
@@ -276,6 +277,42 @@ waiting_none n p unsent numbers s (Some y) [] h none = absurd h
 waiting_none n p unsent numbers s (Some y) (x ∷ xs) (first, rest) none =
     ap (λ (z : ℕ). not (eqb z s)) (sym first.stream)
     ∙ ap not (or_parts (is_waiting_of_stream s x) (list_any (is_waiting_of_stream s) xs) none).0
+
+-- Where nothing of a stream waits, each of its messages that are unsent would be one behind all that waits, and there
+-- is none. Nothing of it was passed on the way, so that this holds from its first message on.
+unsent_none : (n : Names) (p : Plan) (unsent : ℕ → ℕ → Bool) (from numbers : ℕ → ℕ) (s : ℕ) (xs : List Waiting)
+    → from s ≡ 0 → AreUnsent n p unsent from numbers xs → list_any (is_waiting_of_stream s) xs ≡ false
+    → (i : ℕ) → unsent s i ≡ false
+unsent_none n p unsent from numbers s [] start h none i = h s i (omega (arith, start))
+unsent_none n p unsent from numbers s (x ∷ xs) start (j, u, us) none i =
+    let parts = or_parts (is_waiting_of_stream s x) (list_any (is_waiting_of_stream s) xs) none in
+    unsent_none n p unsent (put from x.message.stream_identifier (suc j)) (numbers_past numbers x.message) s xs
+    (ap (λ (c : Bool). if c then suc j else from s) (apart parts.0) ∙ start) us parts.1 i
+  where
+    apart : eqb x.message.stream_identifier s ≡ false → eqb s x.message.stream_identifier ≡ false
+    apart other =
+        ne_eqb s x.message.stream_identifier
+        (λ (q : s ≡ x.message.stream_identifier).
+        true≢false (sym (eq-eqb x.message.stream_identifier s (sym q)) ∙ other))
+
+waiting_has_none : (n : Names) (p : Plan) (unsent : ℕ → ℕ → Bool) (numbers : ℕ → ℕ) (s : ℕ) (current : Option Place)
+    (xs : List Waiting) → AreWaiting n p unsent numbers current xs → list_any (is_waiting_of_stream s) xs ≡ false
+    → (i : ℕ) → unsent s i ≡ false
+waiting_has_none n p unsent numbers s None xs h none i =
+    unsent_none n p unsent (λ z. 0) numbers s xs refl h none i
+waiting_has_none n p unsent numbers s (Some y) [] h none i = absurd h
+waiting_has_none n p unsent numbers s (Some y) (x ∷ xs) (first, rest) none i =
+    unsent_none n p unsent (λ z. 0) numbers s xs refl rest
+    (or_parts (is_waiting_of_stream s x) (list_any (is_waiting_of_stream s) xs) none).1 i
+
+-- Of a stream of which no DATA waits or is in flight no message is unsent.
+pub quiet_has_none_unsent : (a : Sending) (w : Direction) (s : ℕ) → FitsOutgoing a w → has_stream a.queue s ≡ false
+    → (i : ℕ) → is_unsent w.sender s i ≡ false
+quiet_has_none_unsent a w s f quiet i =
+    let parts =
+    or_parts (list_any (is_waiting_of_stream s) a.queue.pending) (list_any (is_of_stream s) a.queue.in_flight) quiet in
+    waiting_has_none f.named w.sender.plan (is_unsent w.sender) w.sender.ssn s w.sender.current a.queue.pending
+    f.waiting parts.0 i
 
 -- Those of a stream past its span of which no DATA waits or is in flight can.
 pub quiet_can_restart : (a : Sending) (w : Direction) (s : ℕ) → FitsOutgoing a w → has_stream a.queue s ≡ false

@@ -10,7 +10,7 @@ use Rattle.sctp_resets.specs.Concerned.{active_ids, sent_ids}
 use Rattle.sctp_resets.specs.Within.{SentOver}
 use Rattle.sctp_resets.proofs.OwnOver.{has_over}
 use Rattle.sctp_model.specs.Messages.{Message}
-use Rattle.sctp_model.specs.Machine.{Direction, can_restart, run}
+use Rattle.sctp_model.specs.Machine.{Direction, can_restart, is_unsent, run}
 use Rattle.sctp_directions.specs.Acts.{receiving, sending}
 use Rattle.sctp_directions.specs.Between.{IsSound}
 use Rattle.sctp_assoc.specs.Calls.{is_beginning}
@@ -25,7 +25,8 @@ use Rattle.sctp_pair.proofs.BetweenDirections.{StandsAt, Surroundings, moved, no
 use Rattle.sctp_pair.proofs.BetweenDirections.{same_spans_go_on, spans_stay_put, stands_between}
 use Rattle.sctp_pair.proofs.HandshakeStages.{stays_put}
 use Rattle.sctp_pair.proofs.NumbersAnew.{anew, begins_anew, has_filtered, numbered, numbered_coming, numbered_out}
-use Rattle.sctp_pair.proofs.NumbersAnew.{quiet_can_restart, restarts_are, restarts_are_sound, restarts_of, within_stay}
+use Rattle.sctp_pair.proofs.NumbersAnew.{quiet_can_restart, quiet_has_none_unsent, restarts_are, restarts_are_sound}
+use Rattle.sctp_pair.proofs.NumbersAnew.{restarts_of, within_stay}
 use Rattle.sctp_pair.proofs.Promised.{stands_open}
 use Rattle.sctp_pair.proofs.QuietSteps.{StaysQuiet}
 use Rattle.sctp_pair.proofs.SaidStaysSaid.{StageGoesOn, said_grows}
@@ -105,18 +106,20 @@ module _ {loose more : ℕ → Bool} {own peer : ℕ} {a b : Shown} {out coming 
         r)
         after
 
-    -- Of a stream whose reset ended in success nothing is outstanding, and it is past its span, so that its numbers can
-    -- begin again.
+    -- Of a stream whose reset ended in success nothing is outstanding or unsent, and it is past its span, so that its
+    -- numbers can begin again.
     pub ended_can_restart : (t : ℕ) → EndsReset a b t → (coming.over t ≡ true → out2.over t ≡ true)
         → (has_id t (reset_between a b) ≡ true) × (can_restart out2 t ≡ true)
+        × ((i : ℕ) → is_unsent out2.sender t i ≡ false)
     ended_can_restart t e over =
         let o = stands_open own peer b out2 coming2 e.opens after in
         let s = stood_open o in
-        let asks = s.resets.resets.own.active in (
+        let asks = s.resets.resets.own.active in
+        let none_left = stays.ended s.past s.binds (quiet s.working) e.opens.0 t e.active e.ended in (
           ended_is_between coming.over a b t asks e,
-          quiet_can_restart (sending (parts b o.past)) out2 t o.between.outgoing
-              (stays.ended s.past s.binds (quiet s.working) e.opens.0 t e.active e.ended)
+          quiet_can_restart (sending (parts b o.past)) out2 t o.between.outgoing none_left
               (over (reset_is_over coming.over a.resets.own.active t asks e.active)),
+          quiet_has_none_unsent (sending (parts b o.past)) out2 t o.between.outgoing none_left,
         )
 
 -- A call that settles
@@ -211,11 +214,12 @@ module _ {Ended : ℕ → Type 0} {x : Surroundings} {b : Shown} {Added : ℕ �
     coming_still = s.coming_still;
   }
 
-  -- a stream of these whose numbers can begin again did begin again
-  pub has_restarted : (t : ℕ) → has_id t ids ≡ true → can_restart s.out2 t ≡ true → HasRestarted restarting.out2 t
+  -- a stream of these whose numbers can begin again, and of which no message is unsent, did begin again
+  pub has_restarted : (t : ℕ) → has_id t ids ≡ true → can_restart s.out2 t ≡ true
+      → ((i : ℕ) → is_unsent s.out2.sender t i ≡ false) → HasRestarted restarting.out2 t
   unfolding restarting
-  has_restarted t named can =
-      record { quiet = can; anew = begins_anew ids s.out2 s.out2.sender.ssn t named can }
+  has_restarted t named can none =
+      record { quiet = can; none_waits = none; anew = begins_anew ids s.out2 s.out2.sender.ssn t named can }
 
   -- what was said stays said
   pub said_still : (given : List (List ℕ)) → AreSaid x.own x.peer s.here2 s.out2 s.coming2 given

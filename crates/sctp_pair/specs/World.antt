@@ -16,7 +16,7 @@ use Rattle.sctp_model.specs.Messages.{accepted_bytes, is_reliable, message_at}
 use Rattle.sctp_model.specs.Packets.{mem}
 use Rattle.sctp_serial.specs.Serial.{tsn}
 use Rattle.sctp_model.specs.Reassembly as queue
-use Rattle.sctp_model.specs.Machine.{Direction, Event, can_restart, fresh, live, run}
+use Rattle.sctp_model.specs.Machine.{Direction, Event, can_restart, fresh, is_unsent, live, run}
 use Rattle.sctp_model.specs.Safe.{IsSafe, IsWithin, letter_read}
 use Rattle.sctp_fit.specs.Incoming.{tsn_before}
 use Rattle.sctp_assoc.specs.Calls.{buffered_of, ready_messages}
@@ -182,6 +182,8 @@ pub record EndsReset (before after : Shown) (s : ℕ) : Type 0 where
 -- outstanding: each of its offsets lies below the acknowledged reach, and no message of it goes on.
 pub record HasRestarted (w : Direction) (s : ℕ) : Type 0 where
   pub quiet : can_restart w s ≡ true
+  -- and no message that was accepted waits unsent
+  pub none_waits : (i : ℕ) → is_unsent w.sender s i ≡ false
   pub anew : w.sender.ssn s ≡ 0
 
 -- What a step does to the direction from one side to the other, of this initial TSN: its write is accepted, what its
