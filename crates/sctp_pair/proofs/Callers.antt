@@ -142,8 +142,8 @@ module _ (a : Step) (ss : List Step) (r : Reply) (rs : List Reply) (s : ℕ)
   stays_behind = (and_parts (not (ends_span a r s)) (stays_in_span ss rs s) stays).1
 
 -- What rows of steps made of the direction of which side x is the sender, as they tell it; these streams were loose
--- before. What was written and read is told of each stream; what stays, of each that was within its span before and
--- that none of the steps stopped.
+-- before. What was written and read is told of each stream; what is kept in order, of each that was within its span
+-- before and that none of the steps stopped or closed: it is within it after them, too.
 record Grew (loose : ℕ → Bool) (ss : List Step) (rs : List Reply) (x : Side2) (before after : Direction) : Type 0 where
   written : (s : ℕ)
       → bytes_accepted (after.sender.plan.accepted s) ≡ bytes_accepted (before.sender.plan.accepted s)

@@ -326,13 +326,13 @@ module _ (step : Step) (reply : Reply) (w : World) (q : Ends) where
             (said_grows w.initial_b w.initial_a (other_goes_on s) w.ends.packets_b fits.stand.said_b);
         ends_a = shutdowns_end_in_order step reply w.ends q sides.A ends fits.stand.ends_a;
         ends_b = shutdowns_end_in_order step reply w.ends q sides.B ends fits.stand.ends_b;
-        resets_a =
+        quiet_a =
             resets_quietly fits.stand.side_a s.stands (stays_closed_after s.does_coming)
-            (steps_stay_quiet step reply w.ends q sides.A ends) fits.stand.resets_a;
-        resets_b = subst ResetsQuietly (sym same_b) fits.stand.resets_b;
+            (steps_stay_quiet step reply w.ends q sides.A ends) fits.stand.quiet_a;
+        quiet_b = subst ResetsQuietly (sym same_b) fits.stand.quiet_b;
       }
 
-  -- Where it settles without that, they can begin again behind it.
+  -- Where it settles without that, they begin again behind it, and so it leads there.
   pub settled_a : {Ended : ℕ → Type 0} {Added : ℕ → List Message} {Read : ℕ → Option letters.ReceivedMessage}
       {Brought : By → ℕ → Type 0} (given : List (List ℕ)) (fits : Fits w.ends w) → q.b ≡ w.ends.b
       → q.packets_a ≡ w.ends.packets_a ++ given
@@ -346,7 +346,7 @@ module _ (step : Step) (reply : Reply) (w : World) (q : Ends) where
       (λ t e.
       let can =
       ended_can_restart fits.stand.side_a s.stands (stays_closed_after s.does_coming)
-      (steps_stay_quiet step reply w.ends q sides.A ends) fits.stand.resets_a t e
+      (steps_stay_quiet step reply w.ends q sides.A ends) fits.stand.quiet_a t e
       (λ over. s.does_out.spans.over t (fits.stand.spans t ∙ over)) in
       has_restarted ids s t can.0 can.1 can.2)
       call
@@ -421,10 +421,10 @@ module _ (step : Step) (reply : Reply) (w : World) (q : Ends) where
             (said_grows w.initial_b w.initial_a (own_goes_on s) w.ends.packets_b fits.stand.said_b) said);
         ends_a = shutdowns_end_in_order step reply w.ends q sides.A ends fits.stand.ends_a;
         ends_b = shutdowns_end_in_order step reply w.ends q sides.B ends fits.stand.ends_b;
-        resets_a = subst ResetsQuietly (sym same_a) fits.stand.resets_a;
-        resets_b =
+        quiet_a = subst ResetsQuietly (sym same_a) fits.stand.quiet_a;
+        quiet_b =
             resets_quietly fits.stand.side_b s.stands (stays_closed_after s.does_coming)
-            (steps_stay_quiet step reply w.ends q sides.B ends) fits.stand.resets_b;
+            (steps_stay_quiet step reply w.ends q sides.B ends) fits.stand.quiet_b;
       }
 
   pub settled_b : {Ended : ℕ → Type 0} {Added : ℕ → List Message} {Read : ℕ → Option letters.ReceivedMessage}
@@ -440,7 +440,7 @@ module _ (step : Step) (reply : Reply) (w : World) (q : Ends) where
       (λ t e.
       let can =
       ended_can_restart fits.stand.side_b s.stands (stays_closed_after s.does_coming)
-      (steps_stay_quiet step reply w.ends q sides.B ends) fits.stand.resets_b t e
+      (steps_stay_quiet step reply w.ends q sides.B ends) fits.stand.quiet_b t e
       (λ over. s.does_out.spans.over t (sym (fits.stand.spans t) ∙ over)) in
       has_restarted ids s t can.0 can.1 can.2)
       call

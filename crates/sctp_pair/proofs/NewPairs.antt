@@ -81,8 +81,8 @@ fits_begin {own_a} {own_b} {size_a} {size_b} {a} {b} of_a of_b meets p is =
         said_b = tt;
         ends_a = λ working. inl of_a.ends;
         ends_b = λ working. inl of_b.ends;
-        resets_a = λ working. of_a.quiet;
-        resets_b = λ working. of_b.quiet;
+        quiet_a = λ working. of_a.quiet;
+        quiet_b = λ working. of_b.quiet;
       };
     }
 

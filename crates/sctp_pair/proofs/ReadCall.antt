@@ -239,7 +239,7 @@ module _ {x : Surroundings} {a b : Shown} (id : ℕ) (message : Option ReceivedM
         stands = read_stands (after_one x id) same fits.0;
       }
 
-  -- what the directions see of a read of a stream past its span fits what comes, too
+  -- after a read of a stream past its span the association still fits what comes
   past_stays : x.coming.over id ≡ true → FitsIncoming (receiving was_read) x.coming
   past_stays past =
       past_coming x.coming (reading_changes_past x.coming.over (parts a s.past) id past) s.between.incoming

@@ -69,7 +69,7 @@ ended_is_between over a b t asks e =
     has_filtered (is_reset_in b) t (active_ids a.resets) (reset_is_named over a.resets.own.active t asks e.active)
     (and_from (not (is_being_reset b t)) _ (ap not e.ended)
     (and_from (not (has_id t b.resets.debts.failed)) _ (ap not e.unfailed)
-    (and_from (not b.failed) (not (is_closed_state b.state)) (ap not e.opens.0) (ap not e.opens.1))))
+    (and_from (not b.failed) (not (is_closed_state b.state)) (ap not e.stays_open.0) (ap not e.stays_open.1))))
 
 -- where nothing changed no request ended
 pub none_ended : {a b : Shown} (t : ℕ) → b ≡ a → EndsReset a b t → ⊥
@@ -112,10 +112,10 @@ module _ {loose more : ℕ → Bool} {own peer : ℕ} {a b : Shown} {out coming 
         → (has_id t (reset_between a b) ≡ true) × (can_restart out2 t ≡ true)
         × ((i : ℕ) → is_unsent out2.sender t i ≡ false)
     ended_can_restart t e over =
-        let o = stands_open own peer b out2 coming2 e.opens after in
+        let o = stands_open own peer b out2 coming2 e.stays_open after in
         let s = stood_open o in
         let asks = s.resets.resets.own.active in
-        let none_left = stays.ended s.past s.binds (quiet s.working) e.opens.0 t e.active e.ended in (
+        let none_left = stays.ended s.past s.binds (quiet s.working) e.stays_open.0 t e.active e.ended in (
           ended_is_between coming.over a b t asks e,
           quiet_can_restart (sending (parts b o.past)) out2 t o.between.outgoing none_left
               (over (reset_is_over coming.over a.resets.own.active t asks e.active)),

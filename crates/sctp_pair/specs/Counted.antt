@@ -88,7 +88,7 @@ pub record AreFew (t : Tally) (initial_a initial_b : ℕ) (begin : Ends) : Type 
   pub of_b : IsFew t.pieces_b t.unread_b initial_b begin.b
 
 -- A pair fits a world that the tally counts: the messages that were accepted have at most so many pieces, and on each
--- stream, also past its span, no more of them were accepted than were read and are counted as unread.
+-- stream, also past its span, no more of them were accepted than were read and are counted as unread, together.
 pub record FitsCounted (t : Tally) (p : Ends) (w : World) : Type 0 where
   pub fits : Fits p w
   pub of_a : HasAccepted t.pieces_a w.ab

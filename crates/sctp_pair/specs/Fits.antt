@@ -89,12 +89,13 @@ abbrev pub AreSaid : ℕ → ℕ → Stage → Direction → Direction → List 
 AreSaid own peer s out coming packets =
     AllByRecursion (λ (bytes : List ℕ). OfEachChunk (IsSaidBy own peer s out coming) (packet_in bytes)) packets
 
--- the shutdown of an association that did not fail goes on in order, as that there is nothing left to send while it waits
--- for an answer, or it was lost (RFC 4960 section 9.2)
+-- the shutdown of an association that did not fail goes on in order, as that there is nothing left to send while it
+-- waits for an answer, or it was lost (RFC 4960 section 9.2)
 abbrev pub EndsInOrder : Shown → Type 0
 EndsInOrder a = a.failed ≡ false → IsInOrderOrLost a
 
--- no DATA of a stream that an association which did not fail is resetting waits or is in flight (RFC 6525 section 5.1.2)
+-- an association that did not fail has no DATA waiting or in flight of the streams that its active request resets
+-- (RFC 6525 section 5.1.2)
 abbrev pub ResetsQuietly : Shown → Type 0
 ResetsQuietly a = a.failed ≡ false → ActiveIsQuiet a
 
@@ -118,8 +119,8 @@ pub record StandsIn (p : Ends) (w : World) : Type 0 where
   pub said_b : AreSaid w.initial_b w.initial_a stage_b w.ba w.ab w.ends.packets_b
   pub ends_a : EndsInOrder w.ends.a
   pub ends_b : EndsInOrder w.ends.b
-  pub resets_a : ResetsQuietly w.ends.a
-  pub resets_b : ResetsQuietly w.ends.b
+  pub quiet_a : ResetsQuietly w.ends.a
+  pub quiet_b : ResetsQuietly w.ends.b
 
 -- It fits the world where that is within the limits, too.
 pub record Fits (p : Ends) (w : World) : Type 0 where

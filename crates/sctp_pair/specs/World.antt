@@ -169,20 +169,22 @@ EndsSpan step reply s = ends_span step reply s ≡ true
 abbrev pub IsOpen : Shown → Type 0
 IsOpen a = (a.failed ≡ false) × (is_closed_state a.state ≡ false)
 
--- A request of a side to reset stream s ended in success (RFC 6525 section 5.2.7) between before and after: it was sent
--- and not answered before, and is over after; the reset of the stream did not fail, and the side is neither closed nor
--- failed.
+-- A request of a side to reset stream s ended in success between before and after: it was sent and not answered before,
+-- and is over after; the reset of the stream did not fail, and the side is neither closed nor failed. A response of the
+-- peer ends it (RFC 6525 section 5.2.7), or a request of the peer that confirms it (section 5.2.2). Of a request that
+-- names all streams, which no side of a pair makes, the failure of each stream is not marked.
 pub record EndsReset (before after : Shown) (s : ℕ) : Type 0 where
   pub active : is_being_reset before s ≡ true
   pub ended : is_being_reset after s ≡ false
   pub unfailed : has_id s after.resets.debts.failed ≡ false
-  pub opens : IsOpen after
+  pub stays_open : IsOpen after
 
--- The sequence numbers of stream s began again at the sender. The stream is past its span, and nothing of it is
--- outstanding: each of its offsets lies below the acknowledged reach, and no message of it goes on.
+-- The machine's sequence numbers of stream s began again at the sender. The stream is past its span, and nothing of it
+-- is outstanding: each of its offsets lies below the acknowledged reach, no message of it goes on, and none that was
+-- accepted waits unsent.
 pub record HasRestarted (w : Direction) (s : ℕ) : Type 0 where
   pub quiet : can_restart w s ≡ true
-  -- and no message that was accepted waits unsent
+  -- each message that was accepted was begun, or was given up
   pub none_waits : (i : ℕ) → is_unsent w.sender s i ≡ false
   pub anew : w.sender.ssn s ≡ 0
 
@@ -247,8 +249,8 @@ IsWithinLimits w = IsWithin w.ab × IsWithin w.ba
 -- safety speaks of are the associations' own values: the receiver is open where it is neither closed nor failed. Of a
 -- stream within its span: where the receiver is neither, what is ready is what reads would answer one after another;
 -- where the sender is neither, what is released is what was accepted and is not buffered. Past its span a stream may
--- have begun anew at either end, while the direction counts on. A span ends by such a step alone
--- (`IsDirectionStep.span`), and none is over in the empty world.
+-- have begun anew at either end, while the direction's messages and offsets count on; its sequence numbers may begin
+-- again. A span ends by such a step alone (`IsDirectionStep.span`), and none is over in the empty world.
 pub record IsPromised (sender receiver : Shown) (w : Direction) : Type 0 where
   pub safe : (s : ℕ) → w.over s ≡ false → IsSafe w s
   pub opens : IsOpen receiver → w.receiver.is_open ≡ true
