@@ -32,6 +32,7 @@ use Rattle.sctp_wire.specs.DataPackets.{DataWritten, datagrams_of, nothing_writt
 use Rattle.sctp_outbound.specs.Abandonment.{expires}
 use Rattle.sctp_outbound.specs.Forward.{gives_forward}
 use Rattle.sctp_wire_types.specs.declared.chunk.SkippedStream.{SkippedStream}
+use Rattle.sctp_assoc.specs.declared.inbound.Flow.{Flow}
 use Rattle.sctp_assoc.specs.declared.inbound.Flow.TheVariants as flows
 use Rattle.sctp_assoc.specs.Calls.{is_established}
 use Rattle.sctp_assoc.specs.Closing.{is_closed_state}
@@ -212,22 +213,13 @@ module _ (header : CommonHeader) (c : Chunk) (cs : List Chunk) (a : Shown) (trig
       (takes_memory_after (on_chunk a header c trigger now) (λ b next. chunks_take_memory header cs b next now))
       (rw e takes)
 
-  pub fault_takes : (b : Shown) (fault : Error)
-      → on_chunk a header c trigger now ≡ (b, flows.Fault fault) → is_closed_state b.state ≡ false
+  pub flow_takes : (b : Shown) (flow : Flow) → on_chunk a header c trigger now ≡ (b, flow)
+      → takes_memory_after (b, flow) (λ b next. chunks_take_memory header cs b next now) ≡ true
       → chunks_take_memory header (c ∷ cs) a trigger now ≡ true
-  fault_takes b fault e still =
+  flow_takes b flow e takes =
       or_right (chunk_takes_memory a header c now)
       (takes_memory_after (on_chunk a header c trigger now) (λ b next. chunks_take_memory header cs b next now))
-      (rw (e, still) refl)
-
-  -- so does the end of a shutdown
-  pub closed_takes : (b : Shown)
-      → on_chunk a header c trigger now ≡ (b, flows.Closed) → is_closed_state b.state ≡ false
-      → chunks_take_memory header (c ∷ cs) a trigger now ≡ true
-  closed_takes b e still =
-      or_right (chunk_takes_memory a header c now)
-      (takes_memory_after (on_chunk a header c trigger now) (λ b next. chunks_take_memory header cs b next now))
-      (rw (e, still) refl)
+      (rw e takes)
 
 -- polling
 

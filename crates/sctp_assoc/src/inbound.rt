@@ -1,13 +1,17 @@
 // One datagram, chunk by chunk.
-ghost use Rattle.std.specs.Prelude.{◌≡◌, ◌≢◌, ◌⊎◌, true, false, is_ok, OnErr, OnOk, IfOk, Ok, None, if◌then◌else◌};
+ghost use Rattle.std.specs.Prelude.{◌≡◌, ◌≢◌, ◌⊎◌, ◌∷◌, [], true, false, is_ok, OnErr, OnOk, IfOk, Ok, None};
+ghost use Rattle.std.specs.Prelude.{if◌then◌else◌};
+ghost use Rattle.sctp_wire.specs.ChunkLists.{chunks_in};
 ghost use Rattle.sctp_wire.specs.Packets.{checked, finished};
 ghost use Rattle.sctp_inbound.specs.Receiver.{admits, asked, is_new_to};
 ghost use Rattle.sctp_streams.specs.Streams.{refusal_in};
 ghost use Rattle.sctp_assoc.specs.Inbound.{packet_read, taken_packet};
 ghost use Rattle.sctp_assoc.specs.Memory.{chunk_takes_memory, chunks_take_memory, data_takes_memory, makes_stream};
 ghost use Rattle.sctp_assoc.specs.Memory.{packet_takes_memory, sack_takes_memory, taking_takes_memory, takes_memory};
+ghost use Rattle.sctp_assoc.specs.Memory.{takes_memory_after};
 ghost use Rattle.sctp_assoc.specs.Chunks.{after_chunks, after_packet, dispatched, on_chunk, on_data, on_sack};
 ghost use Rattle.sctp_assoc.specs.Chunks.{asks, asks_or_faults, deferred, deferred_where_admitted, stream_found};
+ghost use Rattle.sctp_assoc.specs.Chunks.{ended, goes_on};
 ghost use Rattle.sctp_assoc.specs.Chunks.{taken_in, taken_where_admitted};
 ghost use Rattle.sctp_assoc.specs.Resets.{settled, settling_takes_memory};
 ghost use Rattle.sctp_assoc.specs.Shown.{all_waiting};
@@ -18,7 +22,8 @@ use sctp_inbound::AckTrigger;
 use sctp_outbound::SackOutcome;
 use sctp_wire_queues::{
     AssociationError, Chunk, ChunkPayloadData, CommonHeader, Error, Event, GapAckBlock, Instant,
-    List, Packet, PartialDecode, PayloadProtocolIdentifier, StreamEvent, check_packet,
+    List, Packet, PacketChunks, PartialDecode, PayloadProtocolIdentifier, StreamEvent,
+    check_packet,
 };
 use std::alloc::AllocError;
 use std::mem;
@@ -75,7 +80,54 @@ impl Association {
         if self.lost || check_packet(&packet).is_err() {
             return Ok(());
         }
-        self.on_chunks(packet.common_header, packet.chunks.into_vec(), now)
+        let Packet {
+            common_header,
+            chunks,
+        } = packet;
+        let chunks = chunks.into_chunks();
+        self.on_packet_chunks(common_header, chunks, now)
+    }
+
+    fn on_packet_chunks(
+        &mut self,
+        header: CommonHeader,
+        chunks: PacketChunks,
+        now: Instant,
+    ) -> Result<(), AllocError>
+        ensures exact { OnOk result (self.new ≡ after_chunks header (chunks_in chunks) self.old AckTrigger.None now) }
+        ensures grows { OnErr result (chunks_take_memory header (chunks_in chunks) self.old AckTrigger.None now ≡ true) }
+    {
+        match chunks {
+            PacketChunks::One(only) => self.on_only(header, only, now),
+            PacketChunks::Several(chunks) => self.on_chunks(header, chunks.into_vec(), now),
+        }
+    }
+
+    // The chunk of a packet that has no other.
+    fn on_only(
+        &mut self,
+        header: CommonHeader,
+        only: [Chunk; 1],
+        now: Instant,
+    ) -> Result<(), AllocError>
+        ensures exact { OnOk result (self.new ≡ after_chunks header only self.old AckTrigger.None now) }
+        ensures grows { OnErr result (chunks_take_memory header only self.old AckTrigger.None now ≡ true) }
+    {
+        let [chunk] = only;
+        self.on_only_chunk(header, chunk, now)
+    }
+
+    fn on_only_chunk(
+        &mut self,
+        header: CommonHeader,
+        chunk: Chunk,
+        now: Instant,
+    ) -> Result<(), AllocError>
+        ensures exact { OnOk result (self.new ≡ after_chunks header (chunk ∷ []) self.old AckTrigger.None now) }
+        ensures grows { OnErr result (chunks_take_memory header (chunk ∷ []) self.old AckTrigger.None now ≡ true) }
+    {
+        let flow = self.on_chunk(header, chunk, AckTrigger::None, now)?;
+        self.end_packet(flow, now)
     }
 
     // The chunks in order; a fault ends the packet and closes an open association, and so do an exhausted receive
@@ -93,13 +145,26 @@ impl Association {
         for chunk in chunks {
             match self.on_chunk(header, chunk, trigger, now)? {
                 Flow::Next(next) => trigger = next,
-                Flow::Fault(_) => return self.close_with(AssociationError::AssociationClosed),
-                Flow::Closed => return self.close_with(AssociationError::AssociationClosed),
-                Flow::Exhausted => return self.exhaust(),
+                flow => return self.end_packet(flow, now),
             }
         }
-        self.receiver.end_of_packet(&mut self.timers, trigger, now);
-        Ok(())
+        self.end_packet(Flow::Next(trigger), now)
+    }
+
+    // Ends a packet by what its last chunk led to, or the one by which it ends early: the acknowledgement is arranged
+    // that the chunks asked for, or an open association is closed, and of an exhausted receive buffer the peer is told.
+    fn end_packet(&mut self, flow: Flow, now: Instant) -> Result<(), AllocError>
+        ensures exact { OnOk result (self.new ≡ goes_on (self.old, flow) (λ a trigger. ended a trigger now)) }
+        ensures grows { OnErr result (takes_memory_after (self.old, flow) (λ a trigger. false) ≡ true) }
+    {
+        match flow {
+            Flow::Next(trigger) => {
+                self.receiver.end_of_packet(&mut self.timers, trigger, now);
+                Ok(())
+            }
+            Flow::Fault(_) | Flow::Closed => self.close_with(AssociationError::AssociationClosed),
+            Flow::Exhausted => self.exhaust(),
+        }
     }
 
     #[tactic(auto, unfolding(crate::specs::Chunks::on_chunk))]

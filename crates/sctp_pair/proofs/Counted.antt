@@ -124,11 +124,6 @@ reads_grow (Some m) before after (g, e, l) =
 abbrev IsRead : (ℕ → ℕ) → Direction → Type 0
 IsRead waiting w = (s : ℕ) → length (w.sender.plan.accepted s) ≤ length (w.reads s) + waiting s
 
--- a span that is not over after a step was not before it
-pub within_before : (before after : Bool) → (before ≡ true → after ≡ true) → after ≡ false → before ≡ false
-within_before true after stays e = absurd (true≢false (sym (stays refl) ∙ e))
-within_before false after stays e = refl
-
 -- A step of the direction from side x.
 module _ {x : Side2} {step : Step} {r : Reply} {w : World} {q : Ends} {initial : ℕ} {before after : Direction}
     (h : IsDirectionStep step r x (other_side x) w q initial before after) where

@@ -11,7 +11,7 @@ use Rattle.sctp_wire.specs.declared.error.WireError.TheVariants as wire
 use Rattle.sctp_wire.specs.declared.frame.Frame.{Frame}
 use Rattle.sctp_wire.specs.Results.{◌>>=◌, IsFaultOrNoMemory}
 use Rattle.sctp_wire.specs.Numbers.{u16_at}
-use Rattle.sctp_wire.specs.Frames.{padded_len, frame_at, items_within, items_at, entries_at}
+use Rattle.sctp_wire.specs.Frames.{padded_len, frame_at, items_within, items_at, entries_at, with_front}
 
 -- a test that did not fail
 pub guard_ok : {A : Type 0} (b : Bool) (d : Fault) (read : Result A Fault) (y : A) → cond b (Err d) read ≡ Ok y
@@ -111,9 +111,6 @@ items_fault item_of least bytes d le e =
 
 -- ---- the loop that collects the items
 
-abbrev pub with_front : {A : Type 0} → List A → Result (List A) Fault → Result (List A) Fault
-with_front front read = read >>= λ items. Ok (front ++ items)
-
 regroup : {A : Type 0} (front : List A) (x : A) (r : Result (List A) Fault)
     → with_front front (r >>= λ items. Ok (x ∷ items)) ≡ with_front (front ++ x ∷ []) r
 regroup front x (Ok xs) = ap done (simp append_assoc)
@@ -153,6 +150,11 @@ pub is_done : {A : Type 0} (item_of : Frame → Result A Fault) (least : ℕ) (f
     → length bytes < least → with_front front (items_at item_of least bytes) ≡ total → total ≡ Ok front
 is_done item_of least front bytes total lt so_far =
     sym so_far ∙ ap (with_front front) (items_end item_of least bytes lt) ∙ ap done (append-nil front)
+
+-- nothing stands in front
+pub none_in_front : {A : Type 0} (read : Result (List A) Fault) → with_front [] read ≡ read
+none_in_front (Ok xs) = refl
+none_in_front (Err d) = refl
 
 -- ---- entries of one width
 

@@ -41,6 +41,10 @@ items_within (suc n) item_of least bytes =
 unfoldable pub items_at : {A : Type 0} → (Frame → Result A Fault) → ℕ → List ℕ → Result (List A) Fault
 items_at item_of least bytes = items_within (suc (length bytes)) item_of least bytes
 
+-- what was read, behind what stands in front of it
+abbrev pub with_front : {A : Type 0} → List A → Result (List A) Fault → Result (List A) Fault
+with_front front read = read >>= λ items. Ok (front ++ items)
+
 -- a number of entries of one width
 unfoldable pub entries_at : {A : Type 0} → (List ℕ → A) → ℕ → ℕ → List ℕ → List A
 entries_at entry_at width zero bytes = []

@@ -10,3 +10,4 @@ pub mod Reconfig
 pub mod Chunks
 pub mod Packets
 pub mod DataPackets
+pub mod ChunkLists

@@ -12,9 +12,10 @@ ghost use Rattle.sctp_wire.specs.Results.{Yields, Appends};
 ghost use Rattle.sctp_wire.specs.Frames.{padded, frame_fits};
 ghost use Rattle.sctp_wire.specs.Chunks.{chunk_of, chunks_at, chunk_frame, parts_fit, chunk_fits, chunk_bytes, IsChunk};
 
+use crate::ChunkList;
 use crate::error::WireError;
-use crate::frame::{Frame, put_padded};
-use crate::items::{Item, read_items};
+use crate::frame::{Frame, put_padded, read_frame};
+use crate::items::{Item, read_behind};
 use crate::param::{read_causes, read_params};
 use bytes::Bytes;
 use forward_tsn::{put_forward_tsn, put_i_forward_tsn, read_forward_tsn, read_i_forward_tsn};
@@ -110,10 +111,21 @@ fn put_chunk(alloc: Global, out: &mut Vec<u8>, chunk: &Chunk) -> Result<(), Wire
 }
 
 /// The chunks that the bytes after a packet's header spell.
-pub(crate) fn read_chunks(alloc: Global, bytes: Bytes) -> Result<List<Chunk>, WireError>
+pub(crate) fn read_chunks(alloc: Global, bytes: Bytes) -> Result<ChunkList, WireError>
     ensures { Yields result (chunks_at bytes) }
 {
-    read_items(alloc, 1, bytes)
+    let mut rest = bytes;
+    if rest.is_empty() {
+        return Ok(ChunkList::from_list(List::new(alloc)));
+    }
+    let frame = read_frame(&mut rest)?;
+    let first = Chunk::read(alloc, frame)?;
+    if rest.is_empty() {
+        return Ok(ChunkList::of(first));
+    }
+    let mut chunks = List::new(alloc);
+    chunks.push(first)?;
+    Ok(ChunkList::from_list(read_behind(alloc, 1, chunks, rest)?))
 }
 
 /// The chunks, one behind the other, each with its padding.

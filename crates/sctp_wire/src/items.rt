@@ -4,7 +4,7 @@ ghost use Rattle.std.specs.List.{list_all, AllByRecursion};
 ghost use Rattle.sctp_wire_types.specs.declared.error.Fault.{Fault as Faults};
 ghost use Rattle.sctp_wire.specs.declared.frame.Frame.{Frame as Framed};
 ghost use Rattle.sctp_wire.specs.Results.{Yields, Appends};
-ghost use Rattle.sctp_wire.specs.Frames.{items_at, bare, frame_fits, joined, WritesBare};
+ghost use Rattle.sctp_wire.specs.Frames.{items_at, with_front, bare, frame_fits, joined, WritesBare};
 
 use crate::error::WireError;
 use crate::frame::{Frame, put_padding, read_frame};
@@ -29,14 +29,27 @@ pub(crate) fn read_items<T: Item>(
     requires { 0 < least }
     ensures { Yields result (items_at T.item_of least bytes) }
 {
-    let mut items = Vec::new(alloc);
+    read_behind(alloc, least, List::new(alloc), bytes)
+}
+
+/// The same behind items that were read before.
+pub(crate) fn read_behind<T: Item>(
+    alloc: Global,
+    least: usize,
+    before: List<T>,
+    bytes: Bytes,
+) -> Result<List<T>, WireError>
+    requires { 0 < least }
+    ensures { Yields result (with_front before (items_at T.item_of least bytes)) }
+{
+    let mut items = before;
     let mut rest = bytes;
     'items: while rest.len() >= least {
         let frame = read_frame(&mut rest)?;
         let item = T::read(alloc, frame)?;
         items.push(item)?;
     }
-    Ok(List::from_vec(items))
+    Ok(items)
 }
 
 /// What stands in a list inside a chunk.

@@ -3,6 +3,7 @@
 #![tactic(auto)]
 
 mod chunk;
+mod chunk_list;
 mod data_packets;
 mod entries;
 mod error;
@@ -16,6 +17,7 @@ mod refuse;
 mod transmit;
 mod written;
 
+pub use chunk_list::{ChunkList, PacketChunks};
 pub use data_packets::DataPackets;
 pub use packet::Packet;
 pub use partial::PartialDecode;

@@ -1,16 +1,16 @@
 // A packet.
 ghost use Rattle.std.specs.Prelude.{◌≡◌, IfOk, IsTrue};
 
-use crate::marshal;
+use crate::{ChunkList, marshal};
 use bytes::Bytes;
-use sctp_wire_types::{Chunk, CommonHeader, Error, List};
+use sctp_wire_types::{CommonHeader, Error};
 use std::alloc::Global;
 
 /// One packet, as it is or will be spelled in a datagram (RFC 4960 section 3).
 #[derive(Debug, Drop)]
 pub struct Packet {
     pub common_header: CommonHeader,
-    pub chunks: List<Chunk>,
+    pub chunks: ChunkList,
 }
 
 impl Packet {
