@@ -58,10 +58,10 @@ reads_next : (side : Side2) (id : ℕ) (r : Reply) (w v : World) → IsWorldStep
 reads_next side id r w v h =
     let d = step_to side (steps.Read side id) r w v h in
     record {
-      next = λ span. grows_by (message_in r) ((to_side side w).reads id) ((to_side side v).reads id)
+      next = grows_by (message_in r) ((to_side side w).reads id) ((to_side side v).reads id)
           (subst (λ (m : Option ReceivedMessage). IsReadAs m ((to_side side w).reads id) ((to_side side v).reads id))
           (read_here side id r) (d.read id));
-      others = λ s span ne. ap (λ (gs : List Got). map letter_read gs)
+      others = λ s ne. ap (λ (gs : List Got). map letter_read gs)
           (subst (λ (m : Option ReceivedMessage). IsReadAs m ((to_side side w).reads s) ((to_side side v).reads s))
           (read_other side id s r ne) (d.read s));
     }

@@ -1,5 +1,5 @@
 -- What a side reads.
-use Rattle.std.specs.Prelude.{◌≡◌, ◌<◌, ℕ, false, List, [], ◌∷◌, ◌++◌, length, map, filter, Option, Some, None}
+use Rattle.std.specs.Prelude.{◌≡◌, ◌<◌, ℕ, List, [], ◌∷◌, ◌++◌, length, map, filter, Option, Some, None}
 use Rattle.std.specs.List.{AllByRecursion}
 use Rattle.sctp_receive_queues.specs.Messages.{ReceivedMessage}
 use Rattle.sctp_model.specs.Messages.{Plan, message_at}
@@ -21,10 +21,10 @@ letters_of (Some m) = letter_received m ∷ []
 abbrev pub letters_read : Direction → ℕ → List Letter
 letters_read w s = map letter_read (w.reads s)
 
--- This message, if there is one, was read next on the stream, and nothing on any other, of streams within their span.
+-- This message, if there is one, was read next on the stream, and nothing on any other, past their spans too.
 pub record ReadsNext (id : ℕ) (message : Option ReceivedMessage) (before after : Direction) : Type 0 where
-  pub next : before.over id ≡ false → letters_read after id ≡ letters_read before id ++ letters_of message
-  pub others : (s : ℕ) → before.over s ≡ false → (s ≡ id → ⊥) → letters_read after s ≡ letters_read before s
+  pub next : letters_read after id ≡ letters_read before id ++ letters_of message
+  pub others : (s : ℕ) → (s ≡ id → ⊥) → letters_read after s ≡ letters_read before s
 
 -- The letter is that of a message that was accepted on stream s, and each piece of that was taken in.
 pub record IsOfAccepted (w : Direction) (s : ℕ) (letter : Letter) : Type 0 where

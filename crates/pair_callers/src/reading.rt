@@ -1,4 +1,4 @@
-// Reading: what a read of a stream within its span answers comes next, and what was read is some of what was accepted.
+// Reading: what a read answers is read next, and what was read within a span is some of what was accepted.
 ghost use Rattle.std.specs.Prelude.{◌≡◌, ℕ, false, IfSome};
 ghost use Rattle.sctp_pair.specs.Steps.{Steps};
 ghost use Rattle.pair_callers.specs.BetweenWorlds.{GoesOn, GoesOnWithin, to_side};
