@@ -1,8 +1,9 @@
 -- The first expired message of which nothing was sent.
-use Rattle.std.proofs.Common.{◌≡◌, ℕ, zero, suc, ◌+◌, ◌<◌, Bool, true, false, not, nat_lt, List, [], ◌∷◌, ◌++◌, Some}
-use Rattle.std.proofs.Common.{None, length, map, take, drop, slice_index_or, refl, ap, sym, ⊎_elim, arith}
-use Rattle.std.specs.Prelude.{find, position, remove}
+use Rattle.std.proofs.Common.{◌≡◌, ℕ, zero, suc, ◌+◌, ◌<◌, ◌≤◌, Bool, true, false, not, nat_lt, List, [], ◌∷◌, ◌++◌, Some}
+use Rattle.std.proofs.Common.{None, length, map, take, drop, slice_index_or, refl, ap, sym, ◌∙◌, ⊎_elim, arith}
+use Rattle.std.specs.Prelude.{find, get_or, position, remove}
 use Rattle.std.specs.List.{position_or_len}
+use Rattle.std.proofs.lemmas.List.{take-append-drop}
 use Rattle.std.proofs.lemmas.List.Sums.{sum_by-cons, prefix_len-le-length}
 use Rattle.std.proofs.lemmas.Bool.{cases_Bool}
 use Rattle.std.proofs.lemmas.Bool.Decides.{nat_tests}
@@ -124,3 +125,58 @@ none_there now (m ∷ ms) e =
     ⊎_elim (λ (a : is_expired_unsent now m ≡ true). absurd (zero_suc _ (rw a at e))) (
     λ (a : is_expired_unsent now m ≡ false). rw a (none_there now ms (one_more_same _ _ (rw a at e)))
     ) (cases_Bool (is_expired_unsent now m))
+
+-- a look goes on
+
+pub found_first : (now : ℕ) (ms : List Waiting) (i : ℕ) (m : Waiting) → i < length ms → m ≡ get_or ms i m
+    → is_expired_unsent now m ≡ true → i ≤ position_or_len (is_expired_unsent now) ms
+    → i ≡ position_or_len (is_expired_unsent now) ms
+found_first now [] i m lt here e le = absurd (omega arith)
+found_first now (x ∷ xs) zero m lt here e le =
+    let own : is_expired_unsent now x ≡ true = ap (is_expired_unsent now) (sym here) ∙ e in
+    rw own refl
+found_first now (x ∷ xs) (suc i) m lt here e le =
+    ⊎_elim (λ (a : is_expired_unsent now x ≡ true). let none = rw a at le in absurd (omega (arith, none)))
+    (λ (a : is_expired_unsent now x ≡ false).
+    let behind = rw a at le in
+    let more = found_first now xs i m (omega arith) here e (omega (arith, behind)) in
+    rw a (omega (arith, more)))
+    (cases_Bool (is_expired_unsent now x))
+
+pub passed_on : (now : ℕ) (ms : List Waiting) (i : ℕ) (m : Waiting) → i < length ms → m ≡ get_or ms i m
+    → is_expired_unsent now m ≡ false → i ≤ position_or_len (is_expired_unsent now) ms
+    → i + 1 ≤ position_or_len (is_expired_unsent now) ms
+passed_on now [] i m lt here e le = absurd (omega arith)
+passed_on now (x ∷ xs) zero m lt here e le =
+    let own : is_expired_unsent now x ≡ false = ap (is_expired_unsent now) (sym here) ∙ e in
+    rw own (omega arith)
+passed_on now (x ∷ xs) (suc i) m lt here e le =
+    ⊎_elim (λ (a : is_expired_unsent now x ≡ true). let none = rw a at le in absurd (omega (arith, none)))
+    (λ (a : is_expired_unsent now x ≡ false).
+    let behind = rw a at le in
+    let more = passed_on now xs i m (omega arith) here e (omega (arith, behind)) in
+    rw a (omega (arith, more)))
+    (cases_Bool (is_expired_unsent now x))
+
+pub all_passed : (now : ℕ) (ms : List Waiting) (i : ℕ) → length ms ≤ i → i ≤ position_or_len (is_expired_unsent now) ms
+    → length ms ≡ position_or_len (is_expired_unsent now) ms
+all_passed now ms i all le =
+    let within = prefix_len-le-length (λ (m : Waiting). not (is_expired_unsent now m)) ms in
+    omega (arith, within, all, le)
+
+-- an unordered message gives no number back
+pub unordered_stays : (d : Attributes) (ms : List Waiting) → d.unordered ≡ true → map (moved_down d) ms ≡ ms
+unordered_stays d [] e = refl
+unordered_stays d (m ∷ ms) e =
+    let none : share_ssns d m.message ≡ false = rw e refl in
+    rw none (ap (λ z. m ∷ z) (unordered_stays d ms e))
+
+pub unordered_parts : (d : Attributes) (n : ℕ) (ms : List Waiting) → d.unordered ≡ true
+    → ms ≡ take n ms ++ map (moved_down d) (drop n ms)
+unordered_parts d n ms e = rw (unordered_stays d (drop n ms) e) (sym (take-append-drop n ms))
+
+pub none_behind : (now : ℕ) (ms : List Waiting) → length ms ≤ position_or_len (is_expired_unsent now) ms
+    → find (is_expired_unsent now) ms ≡ None
+none_behind now ms le =
+    let within = prefix_len-le-length (λ (m : Waiting). not (is_expired_unsent now m)) ms in
+    none_there now ms (omega (arith, within, le))

@@ -1,11 +1,10 @@
 -- Sums over what waits and what is in flight.
-use Rattle.std.proofs.Common.{◌≡◌, ℕ, zero, suc, ◌+◌, ◌-◌, ◌^◌, ◌<◌, ◌≤◌, ◌==◌, ◌&&◌, not, Bool, true, false, List, []}
+use Rattle.std.proofs.Common.{◌≡◌, ℕ, zero, suc, ◌+◌, ◌-◌, ◌^◌, ◌<◌, ◌≤◌, ◌==◌, true, false, List, []}
 use Rattle.std.proofs.Common.{◌∷◌, ◌++◌, Option, Some, None}
 use Rattle.std.proofs.Common.{length, map, min, fold, drop, slice_get, slice_index_or, refl, ap, sym, ◌∙◌, ⊎_elim}
 use Rattle.std.proofs.Common.{arith}
 use Rattle.std.proofs.Math.Bool.{cond}
 use Rattle.std.specs.Prelude.{sum_by, find, slice_set}
-use Rattle.sctp_serial.specs.Serial.{tsn_past}
 use Rattle.sctp_outbound_queue.proofs.ExpiredUnsent.{without_none, without_bytes}
 use Rattle.std.specs.Option.{option_map}
 use Rattle.std.proofs.lemmas.List.Sums.{sum_by-cons, sum_by_push}
@@ -20,12 +19,20 @@ use Rattle.sctp_outbound_queue.specs.Message.{flagged}
 use Rattle.sctp_outbound_queue.specs.Expiry.{without_expired, after_expiry}
 use Rattle.sctp_outbound_queue.specs.Outbound.{abandoned_at, all_flagged, released, Outbound, AreKept, waiting_of}
 use Rattle.sctp_outbound_queue.specs.Outbound.{outstanding_of, outstanding_of_message, left_behind, after_piece}
-use Rattle.sctp_outbound_queue.specs.Outbound.{marked_of, next_deadline_of, tail_dropped, tail_dropped_from}
+use Rattle.sctp_outbound_queue.specs.Outbound.{marked_of, tail_dropped, tail_dropped_from}
 use Rattle.sctp_outbound_queue.proofs.FirstOutstanding.{abandoned, acknowledged, after_change, after_change_at}
 use Rattle.sctp_outbound_queue.proofs.FirstOutstanding.{after_more}
 use Rattle.sctp_outbound_queue.proofs.FirstOutstanding.{started_too}
 use Rattle.sctp_outbound_queue.proofs.Timely.{acked_keeps, flagged_keeps, timely_at, timely_changed, timely_dropped}
-use Rattle.sctp_outbound_queue.proofs.Timely.{timely_more, timely_sent, timely_started}
+use Rattle.sctp_outbound_queue.proofs.Timely.{timely_looked, timely_marker, timely_more, timely_sent, timely_started}
+use Rattle.sctp_outbound_queue.specs.Message.{marker_of}
+use Rattle.sctp_outbound_queue.specs.declared.clocks.Clocks.{Clocks}
+use Rattle.sctp_outbound_queue.specs.declared.clocks.Look.{Look}
+use Rattle.sctp_outbound_queue.specs.Clocks.{AllFrom, AllRun, AreSentTimely, accepted_by, dropped_by, sent_by}
+use Rattle.sctp_outbound_queue.specs.Clocks.{started_with}
+use Rattle.std.specs.List.{position_or_len}
+use Rattle.std.proofs.Common.{take}
+use Rattle.std.proofs.lemmas.List.{length-map}
 use Rattle.sctp_outbound_queue.specs.Message.{sent_started, waiting_started}
 
 -- a sum that stops at a greatest number
@@ -151,10 +158,10 @@ tail_from (m ∷ ms) q id =
     λ (a : (m.message.message_id == id) ≡ false). rw a (omega arith)
     ) (cases_Bool (m.message.message_id == id))
 
-pub released_bound : (run : Bool) (next : Option ℕ) (q : Outbound) (id waiting outstanding marked settled : ℕ)
-    → AreKept q.pending q.in_flight waiting outstanding marked settled run next
+pub released_bound : (c : Clocks) (q : Outbound) (id waiting outstanding marked settled : ℕ)
+    → AreKept q.pending q.in_flight waiting outstanding marked settled c
     → outstanding_of_message id q.in_flight + (tail_dropped q id).1 < 2 ^ 64
-released_bound run next q id waiting outstanding marked settled kept =
+released_bound c q id waiting outstanding marked settled kept =
     let tail = tail_from q.pending q id in
     let sent = flagged_sum id q.in_flight in
     omega (arith, tail, sent, kept.0, kept.1, kept.2)
@@ -162,28 +169,27 @@ released_bound run next q id waiting outstanding marked settled kept =
 -- the kept sums after a change
 
 -- a message more waits, under a number that is its own
-module _ (run : Bool) (next : Option ℕ) (id : ℕ) (ms : List Waiting) (ps : List InFlight) (m : Waiting) where
-  pub kept_more : {ms2 : List Waiting} {w w2 o b all k s : ℕ} → AreKept ms ps w o k s run next
+module _ (clocks : Clocks) (id : ℕ) (ms : List Waiting) (ps : List InFlight) (m : Waiting) where
+  pub kept_more : {ms2 : List Waiting} {w w2 o b all k s n : ℕ} → n ≡ length ms → AreKept ms ps w o k s clocks
       → b ≡ min (message_bytes m) (2 ^ 64 - 1) → w2 ≡ min (w + b) (2 ^ 64 - 1) → all ≡ min (w2 + o) (2 ^ 64 - 1)
       → (all ≡ 2 ^ 64 - 1 → ⊥) → ms2 ≡ ms ++ accepted id m ∷ []
-      → AreKept ms2 ps w2 o k s (run && not (is_timed m.message.policy)) next
-  kept_more kept bytes waiting total below more =
+      → AreKept ms2 ps w2 o k s (accepted_by (is_timed m.message.policy) n clocks)
+  kept_more others kept bytes waiting total below more =
       let push = sum_by_push message_bytes ms (accepted id m) in
-      rw more (
+      rw (more, others) (
         omega (arith, push, kept.0, bytes, waiting, total, below, kept.2),
         kept.1,
         omega (arith, push, kept.0, bytes, waiting, total, below, kept.2),
         kept.3,
         kept.4,
-        timely_more run next ms ps (accepted id m) refl kept.5,
+        timely_more clocks ms ps (accepted id m) refl kept.5,
       )
 
-pub kept_sent : {ms2 : List Waiting} {ps1 ps2 : List InFlight} {w o k b s : ℕ} {p : InFlight} (run : Bool)
-    (next : Option ℕ) (now : ℕ) (ms : List Waiting)
-    (ps : List InFlight) → AreKept ms ps w o k s run next
+pub kept_sent : {ms2 : List Waiting} {ps1 ps2 : List InFlight} {w o k b s : ℕ} {p : InFlight} (clocks : Clocks) (now : ℕ)
+    (ms : List Waiting) (ps : List InFlight) → AreKept ms ps w o k s clocks
     → Some p ≡ option_map (sent_once now) (slice_get ms 0) → ms2 ≡ after_piece ms → ps1 ≡ ps → ps2 ≡ ps1 ++ p ∷ []
-    → b ≡ outstanding_bytes p → AreKept ms2 ps2 (w - b) (o + b) k s run next
-kept_sent {p} run next now ms ps kept first left same more bytes =
+    → b ≡ outstanding_bytes p → AreKept ms2 ps2 (w - b) (o + b) k s (sent_by p.message p.ending_fragment clocks)
+kept_sent {p} clocks now ms ps kept first left same more bytes =
     let a = after_piece_bytes now ms p (sym first) in
     let push = sum_by_push outstanding_bytes ps p in
     let unmarked = unmarked_more ps p (sent_unmarked now ms p (sym first)) in
@@ -192,7 +198,7 @@ kept_sent {p} run next now ms ps kept first left same more bytes =
     let e = kept.2 in
     let f = kept.3 in
     let places = after_more ps p in
-    let timely = timely_sent now _ _ ms ps p (sym first) kept.5 in
+    let timely = timely_sent now clocks ms ps p (sym first) kept.5 in
     rw (left, more, same, bytes) (
       omega (arith, a, c),
       omega (arith, push, d),
@@ -201,6 +207,28 @@ kept_sent {p} run next now ms ps kept first left same more bytes =
           ∙ sym unmarked,
       omega (arith, places, kept.4),
       timely,
+    )
+
+-- the rest of the first message is dropped, and a marker stands for it
+pub kept_marker : {ms2 : List Waiting} {ps2 : List InFlight} {w o k b s : ℕ} (clocks : Clocks) (m : Waiting)
+    (ms : List Waiting) (ps : List InFlight) → AreKept ms ps w o k s clocks → Some m ≡ slice_get ms 0
+    → ms2 ≡ drop 1 ms → ps2 ≡ ps ++ marker_of m.message ∷ [] → b ≡ min (message_bytes m) (2 ^ 64 - 1)
+    → AreKept ms2 ps2 (w - b) o k s (sent_by m.message true clocks)
+kept_marker clocks m [] ps kept first left more bytes = absurd (cc)
+kept_marker clocks m (x ∷ ms) ps kept first left more bytes =
+    let same : x ≡ m = cc in
+    let all = sum_by-cons message_bytes x ms in
+    let push = sum_by_push outstanding_bytes ps (marker_of m.message) in
+    let unmarked = unmarked_more ps (marker_of m.message) refl in
+    let places = after_more ps (marker_of m.message) in
+    let own : message_bytes x ≡ message_bytes m = ap message_bytes same in
+    rw (left, more) (
+      omega (arith, all, own, bytes, kept.0, kept.2),
+      kept.1 ∙ sym (push ∙ omega arith),
+      omega (arith, kept.2),
+      kept.3 ∙ sym unmarked,
+      omega (arith, places, kept.4),
+      timely_marker clocks (x ∷ ms) ps m (marker_of m.message) (ap Some same) refl refl kept.5,
     )
 
 -- a sum once one piece changed
@@ -218,11 +246,11 @@ set_sum f (p ∷ ps) (suc i) x y e =
     let b = sum_by-cons f p ps in
     omega (arith, a, b, more)
 
-pub kept_acked : {w o k b m s : ℕ} {x y : InFlight} (run : Bool) (next : Option ℕ) (ms : List Waiting)
+pub kept_acked : {w o k b m s : ℕ} {x y : InFlight} (clocks : Clocks) (ms : List Waiting)
     (ps : List InFlight) (i : ℕ)
-    → AreKept ms ps w o k s run next → slice_get ps i ≡ Some x → b ≡ outstanding_bytes x → m ≡ cond x.retransmit 1 0
-    → y ≡ acked x → AreKept ms (slice_set ps i y) w (o - b) (k - m) s run next
-kept_acked {x} run next ms ps i kept there bytes mark now_acked =
+    → AreKept ms ps w o k s clocks → slice_get ps i ≡ Some x → b ≡ outstanding_bytes x → m ≡ cond x.retransmit 1 0
+    → y ≡ acked x → AreKept ms (slice_set ps i y) w (o - b) (k - m) s clocks
+kept_acked {x} clocks ms ps i kept there bytes mark now_acked =
     let sum = set_sum outstanding_bytes ps i x (acked x) there in
     let marks = set_sum (λ (q : InFlight). cond q.retransmit 1 0) ps i x (acked x) there in
     let first = after_change_at acked acknowledged ps i x there in
@@ -235,7 +263,7 @@ kept_acked {x} run next ms ps i kept there bytes mark now_acked =
       omega (arith, d),
       omega (arith, marks, e),
       omega (arith, first, kept.4),
-      timely_at _ _ acked (acked_keeps _ _) ms ps i x there kept.5,
+      timely_at _ acked (acked_keeps _ _) ms ps i x there kept.5,
     )
 
 -- a sum over what a change leaves as it is
@@ -249,24 +277,32 @@ same_sum f g same (x ∷ xs) =
     let one = same x in
     omega (arith, a, b, more, one)
 
-pub kept_started : {ms2 : List Waiting} {ps2 : List InFlight} {w o k s : ℕ} (run : Bool) (next : Option ℕ) (now : ℕ)
-    (ms : List Waiting)
-    (ps : List InFlight) → AreKept ms ps w o k s run next → ms2 ≡ map (waiting_started now) ms
-    → ps2 ≡ map (sent_started now) ps
-    → AreKept ms2 ps2 w o k s true (next_deadline_of ms2 ps2)
-kept_started run next now ms ps kept waiting sent =
+pub kept_started : {ms2 : List Waiting} {ps2 : List InFlight} {w o k s n : ℕ} (next_waiting next_sent : Option ℕ)
+    (clocks : Clocks) (now : ℕ) (ms : List Waiting) (ps : List InFlight) → AreKept ms ps w o k s clocks
+    → ms2 ≡ map (waiting_started now) ms → ps2 ≡ map (sent_started now) ps → n ≡ length ms → AllFrom next_waiting ms2
+    → AllRun ms2 → AreSentTimely (record clocks { sent_run = true; next_sent = next_sent }) ps2
+    → AreKept ms2 ps2 w o k s (started_with n next_waiting next_sent)
+kept_started next_waiting next_sent clocks now ms ps kept waiting sent all from run timely =
     let a = same_sum message_bytes (waiting_started now) (λ m. refl) ms in
     let b = same_sum outstanding_bytes (sent_started now) (λ p. refl) ps in
     let c = same_sum (λ (p : InFlight). cond p.retransmit 1 0) (sent_started now) (λ p. refl) ps in
     let first = after_change (sent_started now) (started_too now) ps in
-    rw (waiting, sent)
-    (kept.0 ∙ sym a, kept.1 ∙ sym b, kept.2, kept.3 ∙ sym c, omega (arith, first, kept.4), timely_started now ms ps)
+    let length : length ms ≡ length (map (waiting_started now) ms) = sym (length-map ms (waiting_started now)) in
+    rw (waiting, sent, all, length) (
+      kept.0 ∙ sym a,
+      kept.1 ∙ sym b,
+      kept.2,
+      kept.3 ∙ sym c,
+      omega (arith, first, kept.4),
+      timely_started clocks next_waiting next_sent (map (waiting_started now) ms) (map (sent_started now) ps)
+          (rw waiting at from) (rw waiting at run) (rw sent at timely),
+    )
 
-pub kept_flagged : {ps2 : List InFlight} {w o k b left s : ℕ} (run : Bool) (next : Option ℕ) (id : ℕ)
+pub kept_flagged : {ps2 : List InFlight} {w o k b left s : ℕ} (clocks : Clocks) (id : ℕ)
     (ms : List Waiting) (ps : List InFlight)
-    → AreKept ms ps w o k s run next → b ≡ min (outstanding_of_message id ps) (2 ^ 64 - 1)
-    → ps2 ≡ map (flagged id) ps → left ≡ marked_of ps2 → AreKept ms ps2 w (o - b) left s run next
-kept_flagged run next id ms ps kept bytes flags counted =
+    → AreKept ms ps w o k s clocks → b ≡ min (outstanding_of_message id ps) (2 ^ 64 - 1)
+    → ps2 ≡ map (flagged id) ps → left ≡ marked_of ps2 → AreKept ms ps2 w (o - b) left s clocks
+kept_flagged clocks id ms ps kept bytes flags counted =
     let a = flagged_sum id ps in
     let c = kept.0 in
     let d = kept.1 in
@@ -277,53 +313,59 @@ kept_flagged run next id ms ps kept bytes flags counted =
       omega (arith, e),
       counted,
       rw flags (omega (arith, first, kept.4)),
-      rw flags (timely_changed _ _ (flagged id) (flagged_keeps id _ _) ms ps kept.5),
+      rw flags (timely_changed _ (flagged id) (flagged_keeps id _ _) ms ps kept.5),
     )
 
-pub kept_same : {ms2 : List Waiting} {w o k s : ℕ} (run : Bool) (next : Option ℕ) (now : ℕ) (ms : List Waiting)
-    (ps : List InFlight)
-    → AreKept ms ps w o k s run next → None ≡ find (is_expired_unsent now) ms
-    → ms2 ≡ without_expired now ms → AreKept ms2 ps w o k s run next
-kept_same run next now ms ps kept none left =
-    rw (left, without_none now ms (sym none)) kept
+-- a look found none
+pub kept_same : {ms2 : List Waiting} {w o k s : ℕ} (clocks : Clocks) (look : Look) (now : ℕ) (ms : List Waiting)
+    (ps : List InFlight) → AreKept ms ps w o k s clocks → None ≡ find (is_expired_unsent now) ms
+    → ms2 ≡ without_expired now ms → look.index ≡ position_or_len (is_expired_unsent now) ms
+    → AllFrom look.next (take look.index ms) → AreKept ms2 ps w o k s (record clocks { next_waiting = look.next })
+kept_same clocks look now ms ps kept none left at known =
+    let bytes : waiting_of (without_expired now ms) ≡ waiting_of ms = ap waiting_of (without_none now ms (sym none)) in
+    rw left (
+      kept.0 ∙ sym bytes,
+      kept.1,
+      kept.2,
+      kept.3,
+      kept.4,
+      timely_looked now look clocks ms ps at none known kept.5,
+    )
 
-pub kept_dropped : {ms2 : List Waiting} {w o k b s : ℕ} {d : Waiting} (run : Bool) (next : Option ℕ) (now : ℕ)
-    (ms : List Waiting) (ps : List InFlight)
-    → AreKept ms ps w o k s run next
+pub kept_dropped : {ms2 : List Waiting} {w o k b s : ℕ} {d : Waiting} (clocks : Clocks) (look : Look) (now : ℕ)
+    (ms : List Waiting) (ps : List InFlight) → AreKept ms ps w o k s clocks
     → Some d ≡ find (is_expired_unsent now) ms → ms2 ≡ without_expired now ms → b ≡ min (message_bytes d) (2 ^ 64 - 1)
-    → AreKept ms2 ps (w - b) o k s run next
-kept_dropped run next now ms ps kept found left bytes =
+    → look.index ≡ position_or_len (is_expired_unsent now) ms → AllFrom look.next (take look.index ms)
+    → AreKept ms2 ps (w - b) o k s (dropped_by look now clocks)
+kept_dropped clocks look now ms ps kept found left bytes at known =
     let a = without_bytes now ms _ (sym found) in
     let c = kept.0 in
     let e = kept.2 in
     rw left (
       omega (arith, a, bytes, c, e),
       kept.1,
-      omega
-          (arith, e),
+      omega (arith, e),
       kept.3,
       kept.4,
-      timely_dropped now _ _ ms ps kept.5,
+      timely_dropped now look clocks ms ps at known kept.5,
     )
 
-pub dropped_bytes : {w o k b s : ℕ} {d : Waiting} (run : Bool) (next : Option ℕ) (now : ℕ) (ms : List Waiting)
-    (ps : List InFlight)
-    → AreKept ms ps w o k s run next
+pub dropped_bytes : {w o k b s : ℕ} {d : Waiting} (clocks : Clocks) (now : ℕ) (ms : List Waiting) (ps : List InFlight)
+    → AreKept ms ps w o k s clocks
     → Some d ≡ find (is_expired_unsent now) ms
     → b ≡ min (message_bytes d) (2 ^ 64 - 1) → (b ≡ message_bytes d) × (b ≤ w)
-dropped_bytes run next now ms ps kept found bytes =
+dropped_bytes clocks now ms ps kept found bytes =
     let a = without_bytes now ms _ (sym found) in
     let c = kept.0 in
     let e = kept.2 in
     (omega (arith, a, bytes, c, e), omega (arith, a, bytes, c, e))
 
-pub expiry_is : {ms : List Waiting} {d : Waiting} {b w o k s : ℕ} (run : Bool) (next : Option ℕ) (now : ℕ)
-    (q : Outbound)
-    → AreKept q.pending q.in_flight w o k s run next → Some d ≡ find (is_expired_unsent now) q.pending
+pub expiry_is : {ms : List Waiting} {d : Waiting} {b w o k s : ℕ} (clocks : Clocks) (now : ℕ) (q : Outbound)
+    → AreKept q.pending q.in_flight w o k s clocks → Some d ≡ find (is_expired_unsent now) q.pending
     → ms ≡ without_expired now q.pending → b ≡ min (message_bytes d) (2 ^ 64 - 1)
     → after_expiry now q ≡ (record q { pending = ms }, Some (released d.message b))
-expiry_is run next now q kept found left bytes =
-    let same = (dropped_bytes _ _ now q.pending q.in_flight kept found bytes).0 in
+expiry_is clocks now q kept found left bytes =
+    let same = (dropped_bytes clocks now q.pending q.in_flight kept found bytes).0 in
     rw (left, same, ← found)
 
 pub abandoned_is : {q1 q2 : Outbound} {p : InFlight} {sent tail : ℕ} (q : Outbound) (index : ℕ)

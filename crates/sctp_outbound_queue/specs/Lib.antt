@@ -1,3 +1,4 @@
+pub mod Clocks
 pub mod Expiry
 pub mod Laws
 pub mod Message

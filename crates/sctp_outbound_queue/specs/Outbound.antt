@@ -1,9 +1,9 @@
 -- What waits to be sent and what is in flight (RFC 4960 section 6.1).
 use Rattle.std.specs.Prelude.{◌≡◌, ℕ, Bool, List, [], ◌∷◌, ◌++◌, ◌+◌, ◌-◌, ◌<◌, ◌≤◌, ◌%◌, ◌^◌, ◌==◌, ◌||◌}
 use Rattle.std.specs.Prelude.{if◌then◌else◌}
-use Rattle.std.specs.Prelude.{drop, length, map, sum_by, slice_get, slice_set, take, Option, Some, None, not, true}
+use Rattle.std.specs.Prelude.{drop, length, map, sum_by, slice_get, slice_set, take, Option, Some, None, not}
 use Rattle.std.specs.Prelude.{false}
-use Rattle.std.specs.List.{AllByRecursion, count_by, fold, list_any, position_or_len}
+use Rattle.std.specs.List.{count_by, list_any, position_or_len}
 use Rattle.sctp_serial.specs.Serial.{tsn_past}
 use Rattle.sctp_outbound_queue.specs.declared.message.InFlight.{InFlight}
 use Rattle.sctp_outbound_queue.specs.declared.message.Attributes.{Attributes}
@@ -13,7 +13,8 @@ use Rattle.sctp_outbound_queue.specs.Message.{message_bytes, piece_count, accept
 use Rattle.sctp_outbound_queue.specs.Message.{is_of_stream, is_outstanding, is_third_report, is_waiting_of_stream}
 use Rattle.sctp_outbound_queue.specs.Message.{outstanding_bytes}
 use Rattle.sctp_outbound_queue.specs.Message.{outstanding_bytes_of, acked, marked_again, flagged, reported_missing}
-use Rattle.sctp_outbound_queue.specs.Message.{is_timely, is_timely_piece, sooner, sooner_piece}
+use Rattle.sctp_outbound_queue.specs.declared.clocks.Clocks.{Clocks}
+use Rattle.sctp_outbound_queue.specs.Clocks.{AreTimely}
 
 pub record Outbound : Type 0 where
   -- the messages that wait to be sent, in the order in which they were accepted; of the first one a part may be sent
@@ -49,24 +50,13 @@ abbrev pub is_outstanding_piece : Option InFlight → Bool
 is_outstanding_piece None = false
 is_outstanding_piece (Some p) = is_outstanding p
 
--- where the times of all messages run nothing waits to be started, and no deadline lies before the next one
-abbrev pub AreTimely : Bool → Option ℕ → List Waiting → List InFlight → Type 0
-AreTimely run next pending in_flight =
-    AllByRecursion (λ (m : Waiting). is_timely run next m.message ≡ true) pending
-    × AllByRecursion (λ (p : InFlight). is_timely_piece run next p ≡ true) in_flight
-
--- the least deadline of what waits and of what is in flight and not abandoned
-abbrev pub next_deadline_of : List Waiting → List InFlight → Option ℕ
-next_deadline_of pending in_flight =
-    fold sooner_piece (fold (λ next (m : Waiting). sooner next m.message) None pending) in_flight
-
 -- what is kept as the queue changes: the bytes that wait and the outstanding bytes, which together are below the
 -- greatest number of 64 bits, how many pieces in flight are marked to be sent again, an index before which no piece
--- in flight is outstanding, whether the times of all messages run, and a moment before which none is over
-abbrev pub AreKept : List Waiting → List InFlight → ℕ → ℕ → ℕ → ℕ → Bool → Option ℕ → Type 0
-AreKept pending in_flight waiting outstanding marked settled run next =
+-- in flight is outstanding, and what is known of the times of messages
+abbrev pub AreKept : List Waiting → List InFlight → ℕ → ℕ → ℕ → ℕ → Clocks → Type 0
+AreKept pending in_flight waiting outstanding marked settled clocks =
     (waiting ≡ waiting_of pending) × (outstanding ≡ outstanding_of in_flight) × (waiting + outstanding < 2 ^ 64 - 1)
-    × (marked ≡ marked_of in_flight) × (settled ≤ first_outstanding_of in_flight) × AreTimely run next pending in_flight
+    × (marked ≡ marked_of in_flight) × (settled ≤ first_outstanding_of in_flight) × AreTimely clocks pending in_flight
 
 abbrev pub empty_outbound : ℕ → Outbound
 empty_outbound tsn = record { pending = []; in_flight = []; first_tsn = tsn; next_message_id = 0 }

@@ -2,6 +2,7 @@
 //! acknowledged cumulatively.
 #![tactic(auto)]
 
+mod clocks;
 mod laws;
 mod message;
 mod queue;

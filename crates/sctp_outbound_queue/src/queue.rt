@@ -17,11 +17,12 @@ ghost use Rattle.std.specs.List.{list_any};
 ghost use Rattle.sctp_outbound_queue.specs.Expiry.{all_started, first_tsn_that, without_expired, after_expiry};
 ghost use Rattle.sctp_outbound_queue.specs.Expiry.{after_tail_expiry, is_expired_tail};
 
+use crate::clocks::Clocks;
 use crate::walks::{
     any_of_message, any_of_stream, any_waiting_of_stream, bytes_of_message, count_marked,
     drop_expired, first_expired_piece, first_missing, first_not_abandoned, first_outstanding,
-    flag_all, mark_all, next_deadline, pieces_of, report_missing, start_all_sent,
-    start_all_waiting, take_piece,
+    flag_all, mark_all, next_sent, pieces_of, report_missing, start_sent, start_waiting,
+    take_piece,
 };
 use crate::{Attributes, InFlight, PendingMessage, Retransmission};
 use sctp_wire_types::{Instant, StreamId};
@@ -52,10 +53,8 @@ pub struct OutboundQueue {
     marked: usize,
     // No piece in flight before this index is outstanding.
     settled: usize,
-    // The time of each message that has one runs.
-    all_run: bool,
-    // No deadline of what waits or is in flight and not abandoned lies before this one; None: there is none.
-    next_deadline: Option<Instant>,
+    // What is known of the times of messages.
+    clocks: Clocks,
 }
 
 impl Model for OutboundQueue {
@@ -71,7 +70,7 @@ impl Model for OutboundQueue {
     } };
 
     ghost invariant = { λ q. AreKept q.pending.items q.in_flight.items q.pending_bytes q.outstanding_bytes
-        q.marked q.settled q.all_run q.next_deadline };
+        q.marked q.settled q.clocks };
 }
 
 impl OutboundQueue {
@@ -88,8 +87,7 @@ impl OutboundQueue {
             outstanding_bytes: 0,
             marked: 0,
             settled: 0,
-            all_run: true,
-            next_deadline: None,
+            clocks: Clocks::new(),
         }
     }
 
@@ -108,11 +106,12 @@ impl OutboundQueue {
             return Err(AllocError);
         }
         message.accept(self.next_message_id);
-        let waits_for_start = message.message.is_timed();
+        let is_timed = message.message.is_timed();
+        let others = self.pending.len();
         self.pending.push_back(message)?;
         self.next_message_id += 1;
         self.pending_bytes = waiting;
-        self.all_run &= !waits_for_start;
+        self.clocks.accept(is_timed, others);
         Ok(())
     }
 
@@ -224,6 +223,7 @@ impl OutboundQueue {
         self.in_flight.reserve(1)?;
         if let Some(piece) = take_piece(&mut self.pending, now) {
             let bytes = piece.outstanding_bytes();
+            self.clocks.send(&piece.message, piece.ending_fragment);
             self.in_flight.push_back_reserved(piece);
             self.pending_bytes -= bytes;
             self.outstanding_bytes += bytes;
@@ -404,6 +404,7 @@ impl OutboundQueue {
         }
         let bytes = first.bytes();
         self.in_flight.push_back(InFlight::marker(first.message))?;
+        self.clocks.send(&first.message, true);
         self.pending.pop_front();
         self.pending_bytes -= bytes;
         Ok(bytes)
@@ -418,56 +419,63 @@ impl OutboundQueue {
         self.marked = count_marked(&self.in_flight);
     }
 
-    /// Lets the time of each message that has one run from `now` on, where it does not run yet. Goes over what waits
-    /// and is in flight only where such a message was pushed since the last call.
+    /// Lets the time of each message that has one run from `now` on, where it does not run yet. Goes over what was
+    /// pushed since the last call, from the first message on that has a lifetime, and over what is in flight only where
+    /// a piece of such a message went there in between.
     pub fn start_timed_messages(&mut self, now: Instant)
         ensures { self.new ≡ all_started now self.old }
     {
-        if self.all_run {
+        let waiting = self.pending.len();
+        if self.clocks.running == waiting && self.clocks.sent_run {
             return;
         }
-        start_all_waiting(&mut self.pending, now);
-        start_all_sent(&mut self.in_flight, now);
-        self.all_run = true;
-        self.next_deadline = next_deadline(&self.pending, &self.in_flight);
+        let next_waiting = start_waiting(&mut self.pending, &self.clocks, now);
+        let next_sent = start_sent(&mut self.in_flight, &self.clocks, now);
+        self.clocks = Clocks::started(waiting, next_waiting, next_sent);
     }
 
     /// How many TSNs past the first one in flight the first piece of an expired message that is not abandoned yet is.
-    /// Goes over what waits and is in flight only where a deadline is over since an earlier call went over it.
+    /// Goes over what is in flight only where a deadline of it is over since an earlier call went over it.
     pub fn expired_inflight(&mut self, now: Instant) -> Option<usize>
         ensures same { self.new ≡ self.old }
         ensures index { result ≡ position (is_expired_piece now) self.old.in_flight }
     {
-        if !is_over(self.next_deadline, now) {
+        if !is_over(self.clocks.next_sent, now) {
             return None;
         }
         match first_expired_piece(&self.in_flight, now) {
             Some(index) => Some(index),
             None => {
-                self.next_deadline = next_deadline(&self.pending, &self.in_flight);
+                self.clocks.next_sent = next_sent(&self.in_flight);
                 None
             }
         }
     }
 
     /// Drops the first expired message of which nothing was sent. Later ordered messages of its stream and generation
-    /// that wait move down by one SSN, if it is an ordered one. Goes over what waits only where a deadline is over.
+    /// that wait move down by one SSN, if it is an ordered one. Goes over what waits only where a deadline of it is over,
+    /// and at one moment over each message once for all calls, but for those that move.
     pub fn expire_pending(&mut self, now: Instant) -> Option<Released>
         ensures { after_expiry now self.old ≡ (self.new, result) }
     {
-        if !is_over(self.next_deadline, now) {
+        if !is_over(self.clocks.next_waiting, now) {
             return None;
         }
-        match drop_expired(&mut self.pending, now) {
+        let mut look = self.clocks.passed_by(now);
+        match drop_expired(&mut self.pending, &mut look, now) {
             Some(dropped) => {
                 let bytes = dropped.bytes();
                 self.pending_bytes -= bytes;
+                self.clocks.drop_at(look, now);
                 Some(Released {
                     message: dropped.message,
                     bytes,
                 })
             }
-            None => None,
+            None => {
+                self.clocks.next_waiting = look.next;
+                None
+            }
         }
     }
 

@@ -1,6 +1,6 @@
 // What goes over a list of the queue.
 ghost use Rattle.std.specs.Prelude.{◌≡◌, ◌+◌, ◌-◌, ◌^◌, ◌<◌, ◌≤◌, ◌++◌, not, length, map, min, fold, find, take, drop};
-ghost use Rattle.std.specs.Prelude.{position, slice_get, IfSome};
+ghost use Rattle.std.specs.Prelude.{position, slice_get, true};
 ghost use Rattle.std.specs.List.{list_any, position_or_len};
 ghost use Rattle.std.specs.Option.{option_copied, option_map};
 ghost use Rattle.sctp_outbound_queue.specs.Message.{piece_count, is_of, is_of_stream, is_waiting_of_stream};
@@ -10,10 +10,11 @@ ghost use Rattle.sctp_outbound_queue.specs.Message.{sent_started, moved_down, se
 ghost use Rattle.sctp_outbound_queue.specs.Message.{reported_missing};
 ghost use Rattle.sctp_outbound_queue.specs.Outbound.{outstanding_of_message, pieces_waiting, after_piece, marked_of};
 ghost use Rattle.sctp_outbound_queue.specs.Outbound.{is_outstanding_piece, is_third_report_of, with_report};
-ghost use Rattle.sctp_outbound_queue.specs.Outbound.{next_deadline_of};
+ghost use Rattle.sctp_outbound_queue.specs.Clocks.{AllFrom, AllRun, AreSentTimely, AreWaitingTimely};
 ghost use Rattle.sctp_outbound_queue.specs.Message.{sooner, sooner_piece};
 ghost use Rattle.sctp_outbound_queue.specs.Expiry.{without_expired};
 
+use crate::clocks::{Clocks, Look};
 use crate::{Attributes, InFlight, PendingMessage, Retransmission};
 use sctp_wire_types::{Instant, StreamId};
 use std::collections::VecDeque;
@@ -128,38 +129,69 @@ pub(crate) fn any_waiting_of_stream(messages: &VecDeque<PendingMessage>, id: Str
     messages.iter().any(|message| message.is_of_stream(id))
 }
 
-// Takes out the first expired message of which nothing was sent, and gives its SSN to the next one.
+// Takes out the first expired message of which nothing was sent, and gives its SSN to the next one. A look goes on to
+// it, or over all.
 pub(crate) fn drop_expired(
     messages: &mut VecDeque<PendingMessage>,
+    look: &mut Look,
     now: Instant,
 ) -> Option<PendingMessage>
+    requires index { look.old.index ≤ position_or_len (is_expired_unsent now) messages.old.items }
+    requires known { AllFrom look.old.next (take look.old.index messages.old.items) }
     ensures dropped { result ≡ find (is_expired_unsent now) messages.old.items }
     ensures left { messages.new.items ≡ without_expired now messages.old.items }
+    ensures index { look.new.index ≡ position_or_len (is_expired_unsent now) messages.old.items }
+    ensures known { AllFrom look.new.next (take look.new.index messages.old.items) }
 {
-    match first_expired(messages, now) {
-        Some(index) => {
-            let dropped = messages.remove(index)?;
-            move_down_from(messages, index, &dropped);
-            Some(dropped)
+    *look = look_on(messages, *look, now);
+    if look.index >= messages.len() {
+        return None;
+    }
+    let dropped = messages.remove(look.index)?;
+    move_down_from(messages, look.index, &dropped);
+    Some(dropped)
+}
+
+// Goes on with a look, to the first expired message of which nothing was sent, or over all.
+fn look_on(messages: &mut VecDeque<PendingMessage>, look: Look, now: Instant) -> Look
+    requires index { look.index ≤ position_or_len (is_expired_unsent now) messages.old.items }
+    requires known { AllFrom look.next (take look.index messages.old.items) }
+    ensures same { messages.new.items ≡ messages.old.items }
+    ensures index { result.index ≡ position_or_len (is_expired_unsent now) messages.old.items }
+    ensures known { AllFrom result.next (take result.index messages.old.items) }
+{
+    look_over(messages.make_contiguous(), look, now)
+}
+
+fn look_over(messages: &[PendingMessage], look: Look, now: Instant) -> Look
+    requires index { look.index ≤ position_or_len (is_expired_unsent now) messages.now }
+    requires known { AllFrom look.next (take look.index messages.now) }
+    ensures index { result.index ≡ position_or_len (is_expired_unsent now) messages.now }
+    ensures known { AllFrom result.next (take result.index messages.now) }
+{
+    let mut next = look.next;
+    for index in look.index..messages.len() {
+        let message = &messages[index];
+        if message.is_expired_unsent(now) {
+            return Look { index, next };
         }
-        None => None,
+        next = message.message.sooner(next);
+    }
+    Look {
+        index: messages.len(),
+        next,
     }
 }
 
-fn first_expired(messages: &VecDeque<PendingMessage>, now: Instant) -> Option<usize>
-    ensures index { result ≡ position (is_expired_unsent now) messages.now.items }
-    ensures bound { IfSome result (λ index. index < length messages.now.items) }
-{
-    messages
-        .iter()
-        .position(|message| message.is_expired_unsent(now))
-}
-
+// Later messages move down by one SSN where the dropped one had one; of an unordered one nothing is gone over.
 fn move_down_from(messages: &mut VecDeque<PendingMessage>, index: usize, dropped: &PendingMessage)
     requires { index ≤ length messages.old.items }
     ensures { messages.new.items ≡ take index messages.old.items
         ++ map (moved_down dropped.now.message) (drop index messages.old.items) }
 {
+    if dropped.message.unordered {
+        return;
+    }
     let later = messages.make_contiguous();
     move_down(&mut later[index..], &dropped.message);
 }
@@ -224,13 +256,70 @@ fn flag_each(pieces: &mut [InFlight], message_id: u64)
     }
 }
 
-pub(crate) fn start_all_waiting(messages: &mut VecDeque<PendingMessage>, now: Instant)
-    ensures { messages.new.items ≡ map (waiting_started now) messages.old.items }
+// Lets the time of each message that waits run from `now` on where it does not run yet. Goes over those behind the ones
+// that are known to run. Answers a moment before which no deadline of any lies.
+pub(crate) fn start_waiting(
+    messages: &mut VecDeque<PendingMessage>,
+    clocks: &Clocks,
+    now: Instant,
+) -> Option<Instant>
+    requires { AreWaitingTimely clocks.now messages.old.items }
+    ensures started { messages.new.items ≡ map (waiting_started now) messages.old.items }
+    ensures from { AllFrom result messages.new.items }
+    ensures run { AllRun messages.new.items }
 {
-    start_each_waiting(messages.make_contiguous(), now);
+    start_those(messages.make_contiguous(), clocks, now)
 }
 
-pub(crate) fn start_all_sent(pieces: &mut VecDeque<InFlight>, now: Instant)
+fn start_those(messages: &mut [PendingMessage], clocks: &Clocks, now: Instant) -> Option<Instant>
+    requires { AreWaitingTimely clocks.now messages.old }
+    ensures started { messages.new ≡ map (waiting_started now) messages.old }
+    ensures from { AllFrom result messages.new }
+    ensures run { AllRun messages.new }
+{
+    start_behind(messages, clocks.running, now);
+    sooner_behind(messages, clocks.running, clocks.next_waiting)
+}
+
+fn start_behind(messages: &mut [PendingMessage], from: usize, now: Instant)
+    requires { from ≤ length messages.old }
+    ensures { messages.new ≡ take from messages.old ++ map (waiting_started now) (drop from messages.old) }
+{
+    start_each_waiting(&mut messages[from..], now);
+}
+
+// A moment before which no deadline of any message lies, where none of the first so many lies before `next`.
+fn sooner_behind(messages: &[PendingMessage], from: usize, next: Option<Instant>) -> Option<Instant>
+    requires from { from ≤ length messages.now }
+    requires known { AllFrom next (take from messages.now) }
+    ensures { AllFrom result messages.now }
+{
+    let mut next = next;
+    for index in from..messages.len() {
+        let message = &messages[index];
+        next = message.message.sooner(next);
+    }
+    next
+}
+
+// So it does with the messages of pieces in flight: over all, or over none where all run.
+pub(crate) fn start_sent(
+    pieces: &mut VecDeque<InFlight>,
+    clocks: &Clocks,
+    now: Instant,
+) -> Option<Instant>
+    requires { AreSentTimely clocks.now pieces.old.items }
+    ensures started { pieces.new.items ≡ map (sent_started now) pieces.old.items }
+    ensures timely { AreSentTimely (record clocks.now { sent_run = true; next_sent = result }) pieces.new.items }
+{
+    if clocks.sent_run {
+        return clocks.next_sent;
+    }
+    start_all_sent(pieces, now);
+    next_sent(pieces)
+}
+
+fn start_all_sent(pieces: &mut VecDeque<InFlight>, now: Instant)
     ensures { pieces.new.items ≡ map (sent_started now) pieces.old.items }
 {
     start_each_sent(pieces.make_contiguous(), now);
@@ -260,26 +349,9 @@ fn move_down(messages: &mut [PendingMessage], dropped: &Attributes)
     }
 }
 
-// The least deadline of what waits and of what is in flight and not abandoned.
-pub(crate) fn next_deadline(
-    messages: &VecDeque<PendingMessage>,
-    pieces: &VecDeque<InFlight>,
-) -> Option<Instant>
-    ensures { result ≡ next_deadline_of messages.now.items pieces.now.items }
+// The least deadline of what is in flight and not abandoned.
+pub(crate) fn next_sent(pieces: &VecDeque<InFlight>) -> Option<Instant>
+    ensures { result ≡ fold sooner_piece None pieces.now.items }
 {
-    sooner_in_flight(pieces, sooner_waiting(messages))
-}
-
-fn sooner_waiting(messages: &VecDeque<PendingMessage>) -> Option<Instant>
-    ensures { result ≡ fold (λ next m. sooner next m.message) None messages.now.items }
-{
-    messages
-        .iter()
-        .fold(None, |next, message| message.message.sooner(next))
-}
-
-fn sooner_in_flight(pieces: &VecDeque<InFlight>, next: Option<Instant>) -> Option<Instant>
-    ensures { result ≡ fold sooner_piece next pieces.now.items }
-{
-    pieces.iter().fold(next, |next, piece| piece.sooner(next))
+    pieces.iter().fold(None, |next, piece| piece.sooner(next))
 }

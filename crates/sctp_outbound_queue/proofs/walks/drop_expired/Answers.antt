@@ -1,33 +1,40 @@
-use Rattle.std.proofs.Common.{sym, ◌∙◌}
-use Rattle.sctp_outbound_queue.specs.Message.{is_expired_unsent}
-use Rattle.sctp_outbound_queue.proofs.ExpiredUnsent.{found_at, not_found, without_none, dropped_at, found_there}
-use Rattle.sctp_outbound_queue.proofs.ExpiredUnsent.{none_there}
+use Rattle.std.proofs.Common.{ap, arith, length, sym, ◌∙◌}
+use Rattle.sctp_outbound_queue.proofs.ExpiredUnsent.{dropped_at, found_there, none_behind, without_none}
 use Rattle.sctp_outbound_queue.proofs.walks.drop_expired.Goals as goal
 
-pub returns-in-None-clause-dropped : goal.returns-in-None-clause-dropped
-returns-in-None-clause-dropped c =
-    let ms = c.args.messages.now.items in
-    sym (none_there c.args.now ms (not_found (is_expired_unsent c.args.now) ms (sym c.in-None.ensures.index)))
+pub returns-then-look-len-clause-dropped : goal.returns-then-look-len-clause-dropped
+returns-then-look-len-clause-dropped c =
+    let many = c.look_on.new.messages.ok.0 in
+    let same = ap length c.look_on.ensures.same in
+    sym (none_behind c.args.now c.args.messages.now.items
+    (omega (arith, many, same, c.look_on.ensures.index, c.len.ensures)))
 
-pub returns-in-None-clause-left : goal.returns-in-None-clause-left
-returns-in-None-clause-left c =
-    let ms = c.args.messages.now.items in
-    sym (
-    without_none c.args.now ms
-    (none_there c.args.now ms (not_found (is_expired_unsent c.args.now) ms (sym c.in-None.ensures.index)))
-    )
+pub returns-then-look-len-clause-left : goal.returns-then-look-len-clause-left
+returns-then-look-len-clause-left c =
+    let many = c.look_on.new.messages.ok.0 in
+    let same = ap length c.look_on.ensures.same in
+    c.look_on.ensures.same
+    ∙ sym (without_none c.args.now c.args.messages.now.items
+    (none_behind c.args.now c.args.messages.now.items
+    (omega (arith, many, same, c.look_on.ensures.index, c.len.ensures))))
 
-pub returns-in_ok-dropped-in-Some-clause-dropped : goal.returns-in_ok-dropped-in-Some-clause-dropped
-returns-in_ok-dropped-in-Some-clause-dropped c =
+pub returns-clause-dropped : goal.returns-clause-dropped
+returns-clause-dropped c =
+    let many = c.look_on.new.messages.ok.0 in
+    let same = ap length c.look_on.ensures.same in
     let ms = c.args.messages.now.items in
-    let at = found_at (is_expired_unsent c.args.now) ms c.in-Some.index (sym c.in-Some.ensures.index) in
-    sym (found_there c.args.now ms c.in-Some.index c.in_ok-dropped-in-Some.dropped at c.in-Some.ensures.bound
-    c.in_ok-dropped-in-Some.ensures.value)
+    let at = sym c.look_on.ensures.index in
+    sym (found_there c.args.now ms c.look_on.result.index c.in_ok-dropped.dropped at
+    (omega (arith, many, same, c.len.ensures))
+    (rw c.look_on.ensures.same at c.in_ok-dropped.ensures.value))
 
-pub returns-in_ok-dropped-in-Some-clause-left : goal.returns-in_ok-dropped-in-Some-clause-left
-returns-in_ok-dropped-in-Some-clause-left c =
+pub returns-clause-left : goal.returns-clause-left
+returns-clause-left c =
+    let many = c.look_on.new.messages.ok.0 in
+    let same = ap length c.look_on.ensures.same in
     let ms = c.args.messages.now.items in
-    let at = found_at (is_expired_unsent c.args.now) ms c.in-Some.index (sym c.in-Some.ensures.index) in
-    c.move_down_from.ensures ∙ rw c.in_ok-dropped-in-Some.ensures.items
-    (dropped_at c.args.now ms c.in-Some.index c.in_ok-dropped-in-Some.dropped at c.in-Some.ensures.bound
-    c.in_ok-dropped-in-Some.ensures.value)
+    let at = sym c.look_on.ensures.index in
+    c.move_down_from.ensures ∙ rw (c.in_ok-dropped.ensures.items, c.look_on.ensures.same)
+    (dropped_at c.args.now ms c.look_on.result.index c.in_ok-dropped.dropped at
+    (omega (arith, many, same, c.len.ensures))
+    (rw c.look_on.ensures.same at c.in_ok-dropped.ensures.value))

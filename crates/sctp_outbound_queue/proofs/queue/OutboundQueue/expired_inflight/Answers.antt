@@ -1,12 +1,12 @@
 use Rattle.std.proofs.Common.{◌∙◌, sym}
-use Rattle.sctp_outbound_queue.proofs.Timely.{none_over, rebound}
+use Rattle.sctp_outbound_queue.proofs.Timely.{none_over, timely_sent_anew}
 use Rattle.sctp_outbound_queue.proofs.queue.OutboundQueue.expired_inflight.Goals as goal
 
 pub returns-then-not-is_over-clause-index : goal.returns-then-not-is_over-clause-index
 returns-then-not-is_over-clause-index c =
     let q = c.self.inside in
     rw (← c.self.view_is)
-    (none_over c.args.now q.all_run q.next_deadline
+    (none_over c.args.now q.clocks
     (record {
       pending = q.pending.items;
       in_flight = q.in_flight.items;
@@ -23,7 +23,7 @@ invariant_of-self c = (
   c.self.invariant.2,
   c.self.invariant.3,
   c.self.invariant.4,
-  rw c.next_deadline-self-inside.ensures
-      (rebound c.self.inside.all_run c.self.inside.next_deadline c.self.inside.pending.items
-      c.self.inside.in_flight.items c.self.invariant.5),
+  rw c.next_sent-self-inside.ensures
+      (timely_sent_anew c.self.inside.clocks c.self.inside.pending.items c.self.inside.in_flight.items
+      c.self.invariant.5),
 )

@@ -12,5 +12,5 @@ overflow_sub-self c =
 
 pub invariant_of-self : goal.invariant_of-self
 invariant_of-self c =
-    kept_flagged _ _ c.args.message_id c.self.inside.pending.items c.self.inside.in_flight.items c.self.invariant
+    kept_flagged _ c.args.message_id c.self.inside.pending.items c.self.inside.in_flight.items c.self.invariant
     c.bytes_of_message.ensures c.flag_all.ensures c.count_marked-self-inside.ensures

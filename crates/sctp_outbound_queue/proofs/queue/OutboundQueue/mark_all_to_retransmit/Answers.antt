@@ -16,5 +16,5 @@ invariant_of-self c = (
   rw c.mark_all-self-inside.ensures.marked
       (omega (arith, after_change marked_again marked c.self.inside.in_flight.items, c.self.invariant.4)),
   rw c.mark_all-self-inside.ensures.marked
-      (timely_changed _ _ marked_again (marked_keeps _ _) _ c.self.inside.in_flight.items c.self.invariant.5),
+      (timely_changed _ marked_again (marked_keeps _ _) _ c.self.inside.in_flight.items c.self.invariant.5),
 )

@@ -13,5 +13,5 @@ invariant_of-self c =
     ⊎_elim (λ (t : c.in-Some.piece.now.retransmit ≡ true). let e = rw t at c.from.ensures in rw t e)
     (λ (f : c.in-Some.piece.now.retransmit ≡ false). let e = rw f at c.from.ensures in rw f e)
     (cases_Bool c.in-Some.piece.now.retransmit) in
-    kept_acked _ _ c.self.inside.pending.items c.self.inside.in_flight.items c.index_of-index.result c.self.invariant
+    kept_acked _ c.self.inside.pending.items c.self.inside.in_flight.items c.index_of-index.result c.self.invariant
     there c.outstanding_bytes-bytes.ensures mark c.acknowledge.ensures

@@ -1,5 +1,5 @@
 use Rattle.sctp_outbound_queue.specs.Waiting.{Waiting}
-use Rattle.std.proofs.Common.{◌≡◌, ◌∙◌, ap, [], ◌∷◌, ◌++◌}
+use Rattle.std.proofs.Common.{arith, ◌≡◌, ◌∙◌, ap, [], ◌∷◌, ◌++◌}
 use Rattle.sctp_outbound_queue.proofs.QueuedBytes.{kept_more}
 use Rattle.sctp_outbound_queue.proofs.queue.OutboundQueue.push.Goals as goal
 
@@ -7,9 +7,8 @@ pub invariant_of-self-2 : goal.invariant_of-self-2
 invariant_of-self-2 c =
     let policy : c.message-2.inside.message.policy ≡ c.args.message.message.policy =
     ap (λ (m : Waiting). m.message.policy) (c.message-2.view_is ∙ c.accept.ensures) in
-    rw (c.is_timed-waits_for_start.ensures, policy)
-    (kept_more _ _ c.self.inside.next_message_id c.self.inside.pending.items c.self.inside.in_flight.items
-    c.args.message
-    c.self.invariant c.bytes-bytes.ensures c.saturating_add-waiting.ensures c.saturating_add.ensures
+    rw (c.accept-2.ensures, c.is_timed-is_timed.ensures, policy)
+    (kept_more _ c.self.inside.next_message_id c.self.inside.pending.items c.self.inside.in_flight.items
+    c.args.message (omega arith) c.self.invariant c.bytes-bytes.ensures c.saturating_add-waiting.ensures c.saturating_add.ensures
     c.if-saturating_add.false
     (c.in_ok-push_back.ensures.items ∙ ap (λ z. c.self.inside.pending.items ++ z ∷ []) c.accept.ensures))

@@ -23,6 +23,6 @@ invariant_of-self c = (
         c.self.invariant.4,
       )),
   rw c.report_missing.ensures.counted
-      (timely_first _ _ reported_missing
+      (timely_first _ reported_missing
       (reported_keeps _ _) c.args.count _ c.self.inside.in_flight.items c.self.invariant.5),
 )

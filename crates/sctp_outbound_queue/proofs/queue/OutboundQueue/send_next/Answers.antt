@@ -4,9 +4,10 @@ use Rattle.sctp_outbound_queue.proofs.queue.OutboundQueue.send_next.Goals as goa
 
 pub invariant_of-self-in-Some : goal.invariant_of-self-in-Some
 invariant_of-self-in-Some c =
-    kept_sent _ _ c.args.now c.self.inside.pending.items c.self.inside.in_flight.items c.self.invariant
+    rw c.send.ensures
+    (kept_sent _ c.args.now c.self.inside.pending.items c.self.inside.in_flight.items c.self.invariant
     c.in-Some.ensures.piece c.in-Some.ensures.left c.reserve.ensures.items c.push_back_reserved.ensures.items
-    c.outstanding_bytes-bytes.ensures
+    c.outstanding_bytes-bytes.ensures)
 
 pub overflow_sub-self : goal.overflow_sub-self
 overflow_sub-self c =

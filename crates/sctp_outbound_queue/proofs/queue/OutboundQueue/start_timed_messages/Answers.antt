@@ -1,15 +1,18 @@
+use Rattle.std.proofs.Common.{arith}
 use Rattle.sctp_outbound_queue.proofs.QueuedBytes.{kept_started}
 use Rattle.sctp_outbound_queue.proofs.Timely.{all_started_already}
 use Rattle.sctp_outbound_queue.proofs.queue.OutboundQueue.start_timed_messages.Goals as goal
 
 pub invariant_of-self : goal.invariant_of-self
 invariant_of-self c =
-    rw c.next_deadline-self-inside.ensures
-    (kept_started _ _ c.args.now c.self.inside.pending.items c.self.inside.in_flight.items c.self.invariant
-    c.start_all_waiting.ensures c.start_all_sent.ensures)
+    rw c.started-self-inside.ensures
+    (kept_started _ _ _ c.args.now c.self.inside.pending.items c.self.inside.in_flight.items c.self.invariant
+    c.start_waiting-next_waiting.ensures.started c.start_sent-next_sent.ensures.started (omega arith)
+    c.start_waiting-next_waiting.ensures.from c.start_waiting-next_waiting.ensures.run
+    c.start_sent-next_sent.ensures.timely)
 
 pub returns-then-self : goal.returns-then-self
 returns-then-self c =
     rw (← c.self.view_is)
-    (all_started_already c.args.now c.self.inside.all_run c.self.inside.next_deadline _ c.if-self.true
+    (all_started_already c.args.now c.self.inside.clocks _ (omega arith) c.if-self.true
     c.self.invariant.5)
