@@ -1,5 +1,6 @@
 // A message as a reader gets it.
 ghost use Rattle.std.specs.Prelude.{◌≡◌, ◌==◌, ◌++◌, length, OnErr, OnOk, IfOk, IfSome, Some, slice_get, ◌<◌};
+ghost use Rattle.std.specs.Prelude.{◌≤◌, drop};
 ghost use Rattle.std.specs.List.{concat};
 ghost use Rattle.sctp_receive_queues.specs.Messages.{bytes_left, filled, first_cut, behind_cut, front_bytes};
 ghost use Rattle.sctp_receive_queues.specs.Messages.{is_blank, message_of, IsCut};
@@ -83,6 +84,15 @@ impl Chunks {
         let cut = cut_next(&mut self.pieces, max)?;
         self.bytes = self.bytes.saturating_sub(cut.len() as u64);
         Ok(Some(cut))
+    }
+
+    /// Copies all bytes that are left to the front of the buffer. Nothing is taken out, and no memory is needed.
+    #[tactic(auto, using(crate::proofs::Cuts::bytes_of_pieces))]
+    pub fn copy_to(&self, buffer: &mut [u8])
+        requires { length (bytes_left self.now) ≤ length buffer.old }
+        ensures { buffer.new ≡ bytes_left self.now ++ drop (length (bytes_left self.now)) buffer.old }
+    {
+        self.pieces.copy_to(buffer);
     }
 }
 

@@ -1,10 +1,11 @@
 // Pieces one behind the other.
 ghost use Rattle.std.specs.Prelude.{◌≡◌, ◌<◌, ◌≤◌, ◌^◌, ◌∷◌, [], ◌++◌, ◌==◌, ◌↔◌, length, insert, position, fold, min};
+ghost use Rattle.std.specs.Prelude.{drop};
 ghost use Rattle.std.specs.Prelude.{None, Some, IsSome, IsNone, IfOk, IfSome, OnOk, OnErr, option_copied};
 ghost use Rattle.std.specs.Prelude.{option_to_list, ◌+◌, ◌-◌};
 ghost use Rattle.std.specs.VecDeque.{deque_len, deque_capacity};
 ghost use Rattle.sctp_serial.specs.Serial.{tsn_lt};
-ghost use Rattle.sctp_receive_queues.specs.Messages.{behind_cut, filled, first_cut, front_bytes};
+ghost use Rattle.sctp_receive_queues.specs.Messages.{behind_cut, filled, first_cut, front_bytes, joined};
 ghost use Rattle.sctp_receive_queues.specs.Pieces.{first_of, follows, has_tsn, last_of};
 ghost use Rattle.sctp_receive_queues.specs.Reassembly.{above, is_up_to};
 
@@ -122,6 +123,19 @@ impl Row {
         match &self.first {
             Some(first) => bytes_in(first.user_data.len() as u64, &self.others),
             None => 0,
+        }
+    }
+
+    // Copies the pieces' bytes, one behind the other, to the front of the buffer.
+    pub(crate) fn copy_to(&self, buffer: &mut [u8])
+        requires { length (joined self.now) ≤ length buffer.old }
+        ensures { buffer.new ≡ joined self.now ++ drop (length (joined self.now)) buffer.old }
+    {
+        if let Some(first) = &self.first {
+            let bytes = first.user_data.as_slice();
+            let (front, behind) = buffer.split_at_mut(bytes.len());
+            front.copy_from_slice(bytes);
+            copy_each(&self.others, behind);
         }
     }
 
@@ -293,4 +307,18 @@ fn follow(tsn: u32, pieces: &VecDeque<ChunkPayloadData>) -> bool
         last = piece.tsn;
     }
     true
+}
+
+// Copies the bytes of these pieces, one behind the other, to the front of the buffer.
+fn copy_each(pieces: &VecDeque<ChunkPayloadData>, buffer: &mut [u8])
+    requires { length (joined pieces.now.items) ≤ length buffer.old }
+    ensures { buffer.new ≡ joined pieces.now.items ++ drop (length (joined pieces.now.items)) buffer.old }
+{
+    let mut copied = 0;
+    for piece in pieces {
+        let bytes = piece.user_data.as_slice();
+        let end = copied + bytes.len();
+        buffer[copied..end].copy_from_slice(bytes);
+        copied = end;
+    }
 }
