@@ -1,4 +1,3 @@
-mod CutsLeft
 mod MadeDrivers
 mod NewMessages
 mod PollsAsked

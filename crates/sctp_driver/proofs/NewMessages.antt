@@ -1,10 +1,9 @@
 -- A message that was just read, of a stream of which none is kept: it is given as if it were kept behind the others, and
 -- given from there.
 use Rattle.std.proofs.Common.{◌≡◌, refl, ap, sym, ◌∙◌, subst, ℕ, true, List, [], ◌∷◌, ◌++◌, length}
-use Rattle.std.proofs.Common.{Option, Some, None, Result, Ok, Err, IfOk, arith, ◌==◌, remove}
+use Rattle.std.proofs.Common.{Option, Some, None, arith, ◌==◌, remove}
 use Rattle.std.proofs.lemmas.Bool.Decides.{nat_tests}
 use Rattle.std.proofs.lemmas.Grind.{common_steps}
-use Rattle.sctp_wire_types.specs.declared.error.Error.{Error}
 use Rattle.sctp_receive_queues.specs.Messages.{ReceivedMessage}
 use Rattle.sctp_assoc.specs.Calls.{read_from_stream}
 use Rattle.sctp_assoc.specs.Shown.{Shown}
@@ -54,7 +53,7 @@ module _ (d : Driving) (id : ℕ) (none : index_of id d.kept ≡ None) {a : Show
     asked_then = ap (λ (o : Option ℕ). with_message_at o d id) none ∙ ap (keeping d id) answered
 
     module _ {m : KeptMessage} (is : m ≡ kept_of id message) (buffer filled : List ℕ) (left : List KeptMessage) where
-      new_read : (answer : ReadAnswer) → GivesNew m d.kept buffer answer left filled
+      pub new_read : (answer : ReadAnswer) → GivesNew m d.kept buffer answer left filled
           → Reads (with_message d id) id buffer answer (record d { association = a; kept = left }) filled
       new_read answer given =
           subst (λ (e : Driving). Reads e id buffer answer (record d { association = a; kept = left }) filled)
@@ -63,10 +62,3 @@ module _ (d : Driving) (id : ℕ) (none : index_of id d.kept ≡ None) {a : Show
                 (subst (λ (x : KeptMessage). GivesNew x d.kept buffer answer left filled) is given),
             refl,
           )
-
-      pub new_answered : (r : Result ReadAnswer Error)
-          → IfOk r (λ answer. GivesNew m d.kept buffer answer left filled)
-          → IfOk r (λ answer. Reads (with_message d id) id buffer answer
-          (record d { association = a; kept = left }) filled)
-      new_answered (Ok answer) given = new_read answer given
-      new_answered (Err error) given = tt

@@ -19,10 +19,6 @@ put_front bytes buffer = if nat_lt (length buffer) (length bytes) then buffer el
 abbrev pub kept_of : ℕ → ReceivedMessage → KeptMessage
 kept_of id m = record { stream = id; payload_type = m.payload_type; bytes = bytes_left m }
 
--- a message of a stream of which the first piece was taken out and the rest was not, as it is kept
-abbrev pub begun_of : ℕ → List ℕ → ReceivedMessage → KeptMessage
-begun_of id first rest = record { stream = id; payload_type = rest.payload_type; bytes = first ++ bytes_left rest }
-
 -- where the first message of this stream stands
 abbrev pub index_of : ℕ → List KeptMessage → Option ℕ
 index_of id kept = position (λ (m : KeptMessage). m.stream == id) kept

@@ -1,14 +1,9 @@
 // Messages that were taken out of the association and wait for a buffer that is long enough.
-ghost use Rattle.std.specs.Prelude.{◌≡◌, ◌++◌, ◌<◌, ◌≤◌, ◌∷◌, [], length, Err, IfOk, IfSome, OnErr, OnOk};
+ghost use Rattle.std.specs.Prelude.{◌≡◌, ◌++◌, ◌<◌, ◌≤◌, ◌∷◌, [], drop, length, IfSome};
 ghost use Rattle.std.specs.VecDeque.{deque_capacity, deque_len};
-ghost use Rattle.sctp_receive_queues.specs.Messages.{bytes_left};
-ghost use Rattle.sctp_driver.specs.Messages.{Gives, GivesNew, begun_of, index_of, kept_of, message_at, put_front};
-ghost use Rattle.sctp_driver.specs.Messages.{without_message_of};
+ghost use Rattle.sctp_driver.specs.Messages.{Gives, GivesNew, index_of, kept_of, message_at, without_message_of};
 
-use crate::sending::fill;
-use bytes::{Bytes, BytesMut};
-use sctp_assoc::{Chunks, Error, PayloadProtocolIdentifier, StreamId};
-use std::alloc::Global;
+use sctp_assoc::{Chunks, PayloadProtocolIdentifier, StreamId};
 use std::collections::VecDeque;
 use std::marker::Model;
 
@@ -28,21 +23,14 @@ pub enum ReadAnswer {
     },
 }
 
-/// A message that was not read yet: its first piece, which shares its bytes with the datagram that brought it, behind
-/// it the pieces that were put in one, and then those that were not taken out yet. A message of one piece takes no
-/// memory of its own.
+/// A message that was not read yet, in the pieces that brought it.
 #[derive(Drop)]
 pub(crate) struct Kept {
     stream: StreamId,
-    payload_type: PayloadProtocolIdentifier,
-    size: usize,
-    first: Bytes,
-    others: BytesMut,
-    rest: Chunks,
+    message: Chunks,
 }
 
 impl Model for Kept {
-    ghost use Rattle.std.specs.Prelude.{◌≡◌, ◌++◌, length};
     ghost use Rattle.sctp_receive_queues.specs.Messages.{bytes_left};
     ghost use Rattle.sctp_driver.specs.Driving.{KeptMessage};
 
@@ -50,40 +38,16 @@ impl Model for Kept {
 
     ghost view = { λ k. record {
       stream = k.stream;
-      payload_type = k.payload_type;
-      bytes = k.first ++ k.others.items ++ bytes_left k.rest;
+      payload_type = k.message.payload_type;
+      bytes = bytes_left k.message;
     } };
-
-    ghost invariant = { λ k. k.size ≡ length (k.first ++ k.others.items ++ bytes_left k.rest) };
 }
 
 impl Kept {
-    pub(crate) fn new(alloc: Global, stream: StreamId, message: Chunks) -> Kept
+    fn new(stream: StreamId, message: Chunks) -> Kept
         ensures { result ≡ kept_of stream message }
     {
-        Kept {
-            stream,
-            payload_type: message.payload_type(),
-            size: message.len(),
-            first: Bytes::new(),
-            others: BytesMut::new(alloc),
-            rest: message,
-        }
-    }
-
-    // A message of so many bytes of which the first piece was taken out.
-    fn begun(alloc: Global, stream: StreamId, first: Bytes, rest: Chunks, size: usize) -> Kept
-        requires { size ≡ length (first ++ bytes_left rest) }
-        ensures { result ≡ begun_of stream first rest }
-    {
-        Kept {
-            stream,
-            payload_type: rest.payload_type(),
-            size,
-            first,
-            others: BytesMut::new(alloc),
-            rest,
-        }
+        Kept { stream, message }
     }
 
     fn stream(&self) -> StreamId
@@ -95,83 +59,21 @@ impl Kept {
     fn payload_type(&self) -> PayloadProtocolIdentifier
         ensures { result ≡ self.now.payload_type }
     {
-        self.payload_type
+        self.message.payload_type()
     }
 
     fn size(&self) -> usize
         ensures { result ≡ length self.now.bytes }
     {
-        self.size
+        self.message.len()
     }
 
-    // Copies the message to the front of the buffer; where it is shorter nothing is copied.
-    fn copy_to(&mut self, buffer: &mut [u8]) -> Result<(), Error>
-        ensures same { self.new ≡ self.old }
-        ensures ok { OnOk result (buffer.new ≡ put_front self.old.bytes buffer.old) }
-        ensures refused { OnErr result (result ≡ Err Error.ErrNoMemory) }
-        ensures err { OnErr result (buffer.new ≡ buffer.old) }
+    // Copies the message to the front of the buffer.
+    fn copy_to(&self, buffer: &mut [u8])
+        requires { length self.now.bytes ≤ length buffer.old }
+        ensures { buffer.new ≡ self.now.bytes ++ drop (length self.now.bytes) buffer.old }
     {
-        gather(&mut self.first, &mut self.others, &mut self.rest)?;
-        fill_both(buffer, self.first.as_slice(), self.others.as_slice());
-        Ok(())
-    }
-}
-
-// Takes all pieces of a message out: the first one as it is, and the others put in one. Where memory is refused no byte
-// is lost.
-fn gather(first: &mut Bytes, others: &mut BytesMut, rest: &mut Chunks) -> Result<(), Error>
-    ensures same { first.new ++ others.new.items ++ bytes_left rest.new
-        ≡ first.old ++ others.old.items ++ bytes_left rest.old }
-    ensures ok { OnOk result (bytes_left rest.new ≡ []) }
-    ensures refused { OnErr result (result ≡ Err Error.ErrNoMemory) }
-{
-    if first.is_empty() && others.is_empty() {
-        take_first(first, rest)?;
-    }
-    put_behind(others, rest)
-}
-
-// Takes the first piece of a message out. Where memory is refused nothing changes.
-#[tactic(auto, using(crate::proofs::CutsLeft::none_left))]
-fn take_first(first: &mut Bytes, rest: &mut Chunks) -> Result<(), Error>
-    requires { length first.old ≡ 0 }
-    ensures same { first.new ++ bytes_left rest.new ≡ bytes_left rest.old }
-    ensures refused { OnErr result (result ≡ Err Error.ErrNoMemory) }
-{
-    if let Some(cut) = rest.next(usize::MAX)? {
-        *first = cut;
-    }
-    Ok(())
-}
-
-// Puts the rest of a message behind other bytes. Where memory is refused no byte is lost.
-#[tactic(auto, using(crate::proofs::CutsLeft::none_left))]
-fn put_behind(front: &mut BytesMut, rest: &mut Chunks) -> Result<(), Error>
-    ensures same { front.new.items ++ bytes_left rest.new ≡ front.old.items ++ bytes_left rest.old }
-    ensures ok { OnOk result (bytes_left rest.new ≡ []) }
-    ensures refused { OnErr result (result ≡ Err Error.ErrNoMemory) }
-{
-    if rest.is_empty() {
-        return Ok(());
-    }
-    front.reserve(rest.len())?;
-    while !rest.is_empty() {
-        match rest.next(usize::MAX)? {
-            Some(cut) => front.extend_reserved(cut.as_slice()),
-            None => return Ok(()),
-        }
-    }
-    Ok(())
-}
-
-// Copies bytes to the front of the buffer, and others behind them; where it is shorter nothing is copied.
-fn fill_both(buffer: &mut [u8], first: &[u8], others: &[u8])
-    ensures { buffer.new ≡ put_front (first.now ++ others.now) buffer.old }
-{
-    if buffer.len() >= first.len() && buffer.len() - first.len() >= others.len() {
-        let (front, behind) = buffer.split_at_mut(first.len());
-        front.copy_from_slice(first);
-        fill(behind, others);
+        self.message.copy_to(buffer);
     }
 }
 
@@ -192,121 +94,57 @@ pub(crate) fn forget(kept: &mut VecDeque<Kept>, stream: StreamId)
     }
 }
 
-/// Gives the first message of this stream where the buffer has room for it. Where memory is refused it stays.
-pub(crate) fn give(
-    kept: &mut VecDeque<Kept>,
-    stream: StreamId,
-    buffer: &mut [u8],
-) -> Result<ReadAnswer, Error>
-    ensures ok { IfOk result (λ answer. Gives stream kept.old.items buffer.old answer kept.new.items buffer.new) }
-    ensures refused { OnErr result (result ≡ Err Error.ErrNoMemory) }
-    ensures err { OnErr result (kept.new.items ≡ kept.old.items) }
-    ensures unfilled { OnErr result (buffer.new ≡ buffer.old) }
+/// Gives the first message of this stream where the buffer has room for it; else it stays.
+pub(crate) fn give(kept: &mut VecDeque<Kept>, stream: StreamId, buffer: &mut [u8]) -> ReadAnswer
+    ensures { Gives stream kept.old.items buffer.old result kept.new.items buffer.new }
 {
     let Some(index) = find(kept, stream) else {
-        return Ok(ReadAnswer::Nothing);
+        return ReadAnswer::Nothing;
     };
     let length = size_at(kept, index);
     if buffer.len() < length {
-        return Ok(ReadAnswer::NoRoom { length });
+        return ReadAnswer::NoRoom { length };
     }
-    copy_at(kept, index, buffer)?;
+    copy_at(kept, index, buffer);
     let payload_type = payload_type_at(kept, index);
     kept.remove(index);
-    Ok(ReadAnswer::Message {
+    ReadAnswer::Message {
         payload_type,
         length,
-    })
+    }
 }
 
-/// Gives a message that was just read where the buffer has room for it; else, and where memory is refused, it is kept.
-/// Of a message of one piece the bytes go straight from the datagram that brought it into the buffer.
+/// Gives a message that was just read where the buffer has room for it; else it is kept. Its bytes go straight from the
+/// datagrams that brought them into the buffer.
 pub(crate) fn give_new(
-    alloc: Global,
     kept: &mut VecDeque<Kept>,
     stream: StreamId,
     message: Chunks,
     buffer: &mut [u8],
-) -> Result<ReadAnswer, Error>
-    requires room { deque_len kept.old < deque_capacity kept.old }
-    ensures ok { IfOk result (λ answer.
-        GivesNew (kept_of stream message) kept.old.items buffer.old answer kept.new.items buffer.new) }
-    ensures refused { OnErr result (result ≡ Err Error.ErrNoMemory) }
-    ensures held { OnErr result (kept.new.items ≡ kept.old.items ++ kept_of stream message ∷ []) }
-    ensures unfilled { OnErr result (buffer.new ≡ buffer.old) }
+) -> ReadAnswer
+    requires { deque_len kept.old < deque_capacity kept.old }
+    ensures { GivesNew (kept_of stream message) kept.old.items buffer.old result kept.new.items buffer.new }
 {
-    let mut message = message;
     let length = message.len();
     if buffer.len() < length {
-        keep(alloc, kept, stream, message);
-        return Ok(ReadAnswer::NoRoom { length });
+        keep(kept, stream, message);
+        return ReadAnswer::NoRoom { length };
     }
-    let payload_type = message.payload_type();
-    match message.next(usize::MAX) {
-        Ok(Some(first)) => {
-            if !message.is_empty() {
-                return give_begun(alloc, kept, stream, first, message, length, buffer);
-            }
-            fill(buffer, first.as_slice());
-            Ok(ReadAnswer::Message {
-                payload_type,
-                length,
-            })
-        }
-        Ok(None) => Ok(ReadAnswer::Message {
-            payload_type,
-            length,
-        }),
-        Err(error) => {
-            keep(alloc, kept, stream, message);
-            Err(error)
-        }
+    message.copy_to(buffer);
+    ReadAnswer::Message {
+        payload_type: message.payload_type(),
+        length,
     }
 }
 
 // Keeps a message behind the others. It stands apart, so that no other message pays for it.
 #[cold]
 #[inline(never)]
-fn keep(alloc: Global, kept: &mut VecDeque<Kept>, stream: StreamId, message: Chunks)
+fn keep(kept: &mut VecDeque<Kept>, stream: StreamId, message: Chunks)
     requires { deque_len kept.old < deque_capacity kept.old }
     ensures { kept.new.items ≡ kept.old.items ++ kept_of stream message ∷ [] }
 {
-    kept.push_back_reserved(Kept::new(alloc, stream, message));
-}
-
-// Gives a message of so many bytes, of which the first piece was taken out and for which the buffer has room. Where
-// memory is refused it is kept. It stands apart, so that a message of one piece does not pay for it.
-#[inline(never)]
-fn give_begun(
-    alloc: Global,
-    kept: &mut VecDeque<Kept>,
-    stream: StreamId,
-    first: Bytes,
-    rest: Chunks,
-    size: usize,
-    buffer: &mut [u8],
-) -> Result<ReadAnswer, Error>
-    requires room { deque_len kept.old < deque_capacity kept.old }
-    requires whole { size ≡ length (first ++ bytes_left rest) }
-    requires fits { size ≤ length buffer.old }
-    ensures ok { IfOk result (λ answer.
-        GivesNew (begun_of stream first rest) kept.old.items buffer.old answer kept.new.items buffer.new) }
-    ensures refused { OnErr result (result ≡ Err Error.ErrNoMemory) }
-    ensures held { OnErr result (kept.new.items ≡ kept.old.items ++ begun_of stream first rest ∷ []) }
-    ensures unfilled { OnErr result (buffer.new ≡ buffer.old) }
-{
-    let mut message = Kept::begun(alloc, stream, first, rest, size);
-    let payload_type = message.payload_type();
-    match message.copy_to(buffer) {
-        Ok(()) => Ok(ReadAnswer::Message {
-            payload_type,
-            length: size,
-        }),
-        Err(error) => {
-            kept.push_back_reserved(message);
-            Err(error)
-        }
-    }
+    kept.push_back_reserved(Kept::new(stream, message));
 }
 
 fn size_at(kept: &VecDeque<Kept>, index: usize) -> usize
@@ -327,16 +165,13 @@ fn payload_type_at(kept: &VecDeque<Kept>, index: usize) -> PayloadProtocolIdenti
     }
 }
 
-// Copies the message at an index to the front of the buffer; where it is shorter nothing is copied.
-fn copy_at(kept: &mut VecDeque<Kept>, index: usize, buffer: &mut [u8]) -> Result<(), Error>
-    requires { index < length kept.old.items }
-    ensures same { kept.new.items ≡ kept.old.items }
-    ensures ok { OnOk result (buffer.new ≡ put_front (message_at kept.old.items index).bytes buffer.old) }
-    ensures refused { OnErr result (result ≡ Err Error.ErrNoMemory) }
-    ensures err { OnErr result (buffer.new ≡ buffer.old) }
+// Copies the message at an index to the front of the buffer.
+fn copy_at(kept: &VecDeque<Kept>, index: usize, buffer: &mut [u8])
+    requires { length (message_at kept.now.items index).bytes ≤ length buffer.old }
+    ensures { buffer.new ≡ (message_at kept.now.items index).bytes
+        ++ drop (length (message_at kept.now.items index).bytes) buffer.old }
 {
-    match kept.get_mut(index) {
-        Some(message) => message.copy_to(buffer),
-        None => Ok(()),
+    if let Some(message) = kept.get(index) {
+        message.copy_to(buffer);
     }
 }

@@ -55,8 +55,8 @@ pub(crate) fn take_first(waiting: &mut VecDeque<Bytes>, buffer: &mut [u8]) -> Po
     PollAnswer::Datagram { length }
 }
 
-/// Copies the bytes to the front of the buffer; where it is shorter nothing is copied.
-pub(crate) fn fill(buffer: &mut [u8], bytes: &[u8])
+// Copies the bytes to the front of the buffer; where it is shorter nothing is copied.
+fn fill(buffer: &mut [u8], bytes: &[u8])
     ensures { buffer.new ≡ put_front bytes.now buffer.old }
 {
     if buffer.len() >= bytes.len() {

@@ -82,7 +82,7 @@ impl Driver {
         ensures unfilled { OnErr result (buffer.new ≡ buffer.old) }
     {
         match find(&self.kept, id) {
-            Some(_) => give(&mut self.kept, id, buffer),
+            Some(_) => Ok(give(&mut self.kept, id, buffer)),
             None => self.read_next(id, buffer),
         }
     }
@@ -97,7 +97,7 @@ impl Driver {
     {
         self.kept.reserve(1)?;
         match lending::read(&mut self.association, id)? {
-            Some(message) => give_new(self.alloc, &mut self.kept, id, message, buffer),
+            Some(message) => Ok(give_new(&mut self.kept, id, message, buffer)),
             None => Ok(ReadAnswer::Nothing),
         }
     }

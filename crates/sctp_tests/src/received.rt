@@ -34,6 +34,9 @@ fn tsns_are_held_and_pieces_put_together(rt: HostRuntime) -> Result<(), Fail> {
     }
     let mut message = queue.read().expect(&rt, "a message");
     assert_eq!(rt; message.len(), 5);
+    let mut buffer = [b'.'; 7];
+    message.copy_to(&mut buffer);
+    assert_eq!(rt; buffer, *b"hello..");
     // A cut is as long as it can be, and ends with its piece.
     for (max, bytes) in [(2, b"he".as_slice()), (9, b"l"), (9, b"lo")] {
         let cut = message.next(max)?.expect(&rt, "a cut");
