@@ -15,12 +15,12 @@ run-append (x ∷ xs) ys s = run-append xs ys (crc_byte s x)
 pub run-parts : (n : ℕ) (xs : List ℕ) (s : ℕ) → crc_run (crc_run s (take n xs)) (drop n xs) ≡ crc_run s xs
 run-parts n xs s = sym (run-append (take n xs) (drop n xs) s) ∙ ap (crc_run s) (take-append-drop n xs)
 
-more_bits : (bs : List ℕ) (b x : ℕ) → crc_bits (8 * length bs) (crc_bits 8 x) ≡ crc_bits (8 * length (b ∷ bs)) x
+pub more_bits : (bs : List ℕ) (b x : ℕ) → crc_bits (8 * length bs) (crc_bits 8 x) ≡ crc_bits (8 * length (b ∷ bs)) x
 more_bits bs b x =
     let e : 8 * length (b ∷ bs) ≡ 8 + 8 * length bs = omega arith in
     rw e (crc_bits-add 8 (8 * length bs) x)
 
-run-xor : (bs : List ℕ) (x y : ℕ) → crc_run (bit_xor x y) bs ≡ bit_xor (crc_bits (8 * length bs) x) (crc_run y bs)
+pub run-xor : (bs : List ℕ) (x y : ℕ) → crc_run (bit_xor x y) bs ≡ bit_xor (crc_bits (8 * length bs) x) (crc_run y bs)
 unfolding crc_run crc_bits crc_byte
 run-xor [] x y = refl
 run-xor (b ∷ bs) x y =
@@ -51,13 +51,13 @@ run_mixed (b ∷ bs) s fits =
     ∙ ap (bit_xor (crc_bits (8 * length (b ∷ bs)) (bit_xor (s % 256) b))) rest
 
 -- a block's bytes, one by one
-abbrev cells : List ℕ → List ℕ
+abbrev pub cells : List ℕ → List ℕ
 cells xs =
     get_or xs 0 0 ∷ get_or xs 1 0 ∷ get_or xs 2 0 ∷ get_or xs 3 0 ∷ get_or xs 4 0 ∷ get_or xs 5 0 ∷ get_or xs 6 0
     ∷ get_or xs 7 0 ∷ get_or xs 8 0 ∷ get_or xs 9 0 ∷ get_or xs 10 0 ∷ get_or xs 11 0 ∷ get_or xs 12 0 ∷ get_or xs 13 0
     ∷ get_or xs 14 0 ∷ get_or xs 15 0 ∷ []
 
-cells_are : (xs : List ℕ) → length xs ≡ 16 → xs ≡ cells xs
+pub cells_are : (xs : List ℕ) → length xs ≡ 16 → xs ≡ cells xs
 cells_are (x0 ∷ x1 ∷ x2 ∷ x3 ∷ x4 ∷ x5 ∷ x6 ∷ x7 ∷ x8 ∷ x9 ∷ x10 ∷ x11 ∷ x12 ∷ x13 ∷ x14 ∷ x15 ∷ []) len = refl
 cells_are _ len = absurd (omega arith)
 
@@ -85,6 +85,27 @@ sixteen_mixed s xs lt =
 pub sixteen_run : (s : ℕ) (xs : List ℕ) → s < 2 ^ 32 → length xs ≡ 16 → AreBytes xs → looked_up s xs ≡ crc_run s xs
 sixteen_run s xs lt len fits =
     sym (run_mixed xs s fits ∙ ap (mixed s) (cells_are xs len) ∙ sixteen_mixed s xs lt)
+
+four_mixed : (s a b c d : ℕ) → s < 2 ^ 32
+    → mixed s (a ∷ b ∷ c ∷ d ∷ [])
+    ≡ bit_xor (crc_bits 32 (bit_xor (s % 256) a))
+    (bit_xor (crc_bits 24 (bit_xor (s / 256 % 256) b))
+    (bit_xor (crc_bits 16 (bit_xor (s / 65536 % 256) c)) (crc_bits 8 (bit_xor (s / 16777216) d))))
+four_mixed s a b c d lt =
+    let gone : s / 256 / 256 / 256 / 256 ≡ 0 = omega arith in
+    let fourth : s / 256 / 256 / 256 % 256 ≡ s / 16777216 = omega arith in
+    let third : s / 256 / 256 ≡ s / 65536 = omega arith in
+    rw (gone, fourth, third, xor_zero_r) refl
+
+pub four_run : (s : ℕ) (xs : List ℕ) → s < 2 ^ 32 → length xs ≡ 4 → AreBytes xs
+    → bit_xor (crc_bits 32 (bit_xor (s % 256) (get_or xs 0 0)))
+    (bit_xor (crc_bits 24 (bit_xor (s / 256 % 256) (get_or xs 1 0)))
+    (bit_xor (crc_bits 16 (bit_xor (s / 65536 % 256) (get_or xs 2 0)))
+    (crc_bits 8 (bit_xor (s / 16777216) (get_or xs 3 0)))))
+    ≡ crc_run s xs
+four_run s (a ∷ b ∷ c ∷ d ∷ []) lt len fits =
+    sym (run_mixed (a ∷ b ∷ c ∷ d ∷ []) s fits ∙ four_mixed s a b c d lt)
+four_run s _ lt len fits = absurd (omega arith)
 
 pub byte_run : (s b x : ℕ) → b < 256 → x ≡ crc_bits 8 (bit_xor (s % 256) b) → bit_xor x (s / 256) ≡ crc_run s (b ∷ [])
 unfolding crc_run crc_byte

@@ -1,6 +1,7 @@
 //! CRC32c, the checksum of an SCTP packet (RFC 4960 section 6.8 and appendix B).
 #![tactic(auto)]
 
+mod fold;
 mod sum;
 mod table;
 

@@ -1,4 +1,4 @@
-use Rattle.std.proofs.Common.{ℕ, ◌-◌, ◌∙◌, ap, arith}
+use Rattle.std.proofs.Common.{ℕ, ◌-◌, ap}
 use Rattle.sctp_crc.specs.Crc.{crc32c, sum_of_packet}
 use Rattle.sctp_crc.proofs.BlockRuns.{packet_run}
 use Rattle.sctp_crc.proofs.sum.packet_sum.Goals as goal

@@ -1,17 +1,12 @@
-use Rattle.std.proofs.Common.{◌∙◌, sym, arith}
-use Rattle.sctp_crc.proofs.BlockRuns.{run-parts, run_next, run_end}
+use Rattle.std.proofs.Common.{length, ◌%◌}
+use Rattle.sctp_crc.proofs.BlockRuns.{run-parts}
 use Rattle.sctp_crc.proofs.sum.run.Goals as goal
-
-pub sixteens-preserved : goal.sixteens-preserved
-sixteens-preserved c =
-    rw (c.run_sixteen-state.ensures, c.split_at.ensures.front, c.split_at.ensures.back)
-    (run-parts 16 c.sixteens.rest.now c.sixteens.state ∙ c.sixteens.invariant)
-
-pub loop-byte-preserved : goal.loop-byte-preserved
-loop-byte-preserved c =
-    rw c.run_byte-state.ensures
-    (run_next c.sixteens.rest.now c.loop-byte.byte-index c.loop-byte.state (omega arith) ∙ c.loop-byte.invariant)
 
 pub returns : goal.returns
 returns c =
-    sym (run_end c.sixteens.rest.now c.loop-byte.byte-index c.loop-byte.state (omega arith)) ∙ c.loop-byte.invariant
+    rw (
+      c.run_folded.ensures,
+      c.run_looked_up-2.ensures,
+      c.split_at.ensures.front,
+      c.split_at.ensures.back,
+    ) (run-parts (length c.args.bytes.now % 16) c.args.bytes.now c.args.start)
