@@ -4,11 +4,13 @@ use Rattle.std.proofs.Common.{[], ◌∷◌, ◌++◌, length, refl, ap, sym, �
 use Rattle.std.proofs.Common.{Some, None}
 use Rattle.std.specs.List.{list_any, All}
 use Rattle.std.specs.Option.{is_some}
+use Rattle.std.specs.BTreeMap.Range.{IsLeBy}
 use Rattle.std.specs.List.Sorted.{IsStrictlySortedBy}
 use Rattle.std.specs.Ordering.{nat_cmp}
 use Rattle.std.specs.BTreeMap.{is_at}
 use Rattle.std.specs.Set.{remove_key}
-use Rattle.std.specs.declared.cmp.Ordering.TheVariants.{Less}
+use Rattle.std.specs.declared.cmp.Ordering.TheVariants.{Greater, Less}
+use Rattle.std.specs.Cmp.{nat_cmp_is}
 use Rattle.std.proofs.Math.Bool.{or_assoc}
 use Rattle.std.proofs.lemmas.Bool.{cases_Bool, and_parts}
 use Rattle.std.proofs.lemmas.Bool.Decides.{nat_tests}
@@ -255,3 +257,21 @@ maximal_runs cumulative_tsn ts p s b =
     greater_ascend cumulative_tsn 0 1 ts (offsets_in false cumulative_tsn ts) p a (inr (omega arith)) (omega (arith, p))
     (behind_ascend cumulative_tsn 0 (2 ^ 32 - cumulative_tsn) ts p a (omega (arith, p)))
     )
+
+-- where the least TSN is greater than the cumulative TSN as a number, no TSN is not
+pub none_lesser : (p first : ℕ) (ts : List ℕ) → All (IsLeBy nat_cmp first) ts → p < first → offsets_in false p ts ≡ []
+none_lesser p first [] all lt = refl
+none_lesser p first (t ∷ ts) all lt =
+    let le : first ≤ t = least first t (All-head (IsLeBy nat_cmp first) t ts all) in
+    let greater : ltb p t ≡ true = grind (arith, nat_tests, le, lt) in
+    rw greater (none_lesser p first ts (All-tail (IsLeBy nat_cmp first) t ts all) lt)
+  where
+    least : (a b : ℕ) → IsLeBy nat_cmp a b → a ≤ b
+    least a b le =
+        ⊎_elim (λ (e : ltb b a ≡ true).
+        let more : b < a = grind (arith, nat_tests, e) in
+        let is : Greater ≡ nat_cmp a b = nat_cmp_is a b Greater more in
+        let not_le = rw (← is) at le in
+        absurd (cc))
+        (λ (e : ltb b a ≡ false). grind (arith, nat_tests, e))
+        (cases_Bool (ltb b a))

@@ -128,7 +128,7 @@ impl ReceiveQueue {
     {
         let mut offsets = Vec::with_capacity(alloc, self.tsns.len())?;
         add_offsets(&mut offsets, &self.tsns, cumulative_tsn, true)?;
-        add_offsets(&mut offsets, &self.tsns, cumulative_tsn, false)?;
+        add_lesser(&mut offsets, &self.tsns, cumulative_tsn)?;
         Ok(offsets)
     }
 
@@ -195,6 +195,24 @@ fn add_offsets(
         }
     }
     Ok(())
+}
+
+// The offsets of the TSNs that are not greater than the cumulative TSN as numbers. Where none is, as long as the numbers
+// do not wrap, they are not gone over.
+fn add_lesser(
+    offsets: &mut Vec<u16>,
+    tsns: &BTreeSet<u32>,
+    cumulative_tsn: u32,
+) -> Result<(), AllocError>
+    ensures { OnOk result (offsets.new.items ≡ offsets.old.items ++ offsets_in false cumulative_tsn tsns.now.keys) }
+{
+    let Some(first) = tsns.first() else {
+        return Ok(());
+    };
+    if cumulative_tsn < *first {
+        return Ok(());
+    }
+    add_offsets(offsets, tsns, cumulative_tsn, false)
 }
 
 // The runs of ascending offsets.
