@@ -1,6 +1,6 @@
 -- What is acknowledged and released piece by piece is what all blocks name (RFC 4960 section 6.2.1).
 use Rattle.std.proofs.Common.{◌≡◌, ℕ, zero, suc, ◌+◌, ◌-◌, ◌%◌, ◌^◌, ◌<◌, ◌≤◌, Bool, true, false, ◌&&◌, ◌||◌, cond, eqb}
-use Rattle.std.proofs.Common.{leb, ltb, min, Option, List, [], ◌∷◌, Some, None, length, take, drop, ◌++◌, set, get_or}
+use Rattle.std.proofs.Common.{leb, ltb, min, not, Option, List, [], ◌∷◌, Some, None, length, take, drop, ◌++◌, set, get_or}
 use Rattle.std.proofs.Common.{slice_get, refl, ap, sym, subst, ◌∙◌, arith}
 use Rattle.std.proofs.lemmas.Bool.{eq-eqb, ne_eqb}
 use Rattle.std.proofs.lemmas.Bool.Decides.{nat_tests}
@@ -209,6 +209,41 @@ pub record AcknowledgesNamed (named : ℕ → Bool) (s s2 : Sender) (m m2 : Stre
   pub pieces : s2 ≡ with_measure s (acked_among named 0 s.queue.in_flight) s2.min_tsn2measure_rtt
   pub released : m2 ≡ released_among named 0 s.queue.in_flight m
   pub newest : last ≡ last_new named 0 s.queue.in_flight
+
+both_of : (a b : Bool) → (a && not b) ≡ true → (a ≡ true) × (b ≡ false)
+both_of true true e = absurd (cc)
+both_of true false e = (refl, refl)
+both_of false b e = absurd (cc)
+
+same_set : (xs : List InFlight) (i : ℕ) (p : InFlight) → slice_get xs i ≡ Some p → set xs i p ≡ xs
+same_set [] i p here = absurd (cc)
+same_set (x ∷ xs) zero p here = let same : x ≡ p = cc in rw same refl
+same_set (x ∷ xs) (suc i) p here = ap (λ z. x ∷ z) (same_set xs i p here)
+
+acked_already : (p : InFlight) → p.acked ≡ true → p.retransmit ≡ false → acked p ≡ p
+acked_already p e f =
+    ap (λ a. record p { acked = a; retransmit = false }) (sym e)
+    ∙ ap (λ r. record p { acked = p.acked; retransmit = r }) (sym f)
+
+-- of a piece that was acknowledged before nothing changes
+pub acknowledges_again : (s : Sender) (m : StreamMap) (t : ℕ) (p : InFlight)
+    → slice_get s.queue.in_flight t ≡ Some p → (p.acked && not p.retransmit) ≡ true
+    → AcknowledgesNamed (λ j. eqb j t) s s m m None
+acknowledges_again s m t p here was =
+    let both = both_of p.acked p.retransmit was in
+    let e = both.0 in
+    let f = both.1 in
+    let own = acked_already p e f in
+    let pieces : acked_among (λ j. eqb j t) 0 s.queue.in_flight ≡ s.queue.in_flight =
+    one_acked t t 0 s.queue.in_flight p (omega arith) here ∙ ap (set s.queue.in_flight t) own
+    ∙ same_set s.queue.in_flight t p here in
+    let streams : streams_after (Some p) m ≡ m =
+    ap (λ q. streams_after (Some q) m) (sym own) ∙ acked_releases_nothing p m in
+    record {
+      pieces = rw pieces refl;
+      released = sym (one_released t t 0 s.queue.in_flight m p (omega arith) here ∙ streams);
+      newest = sym (one_new t t 0 s.queue.in_flight p (omega arith) here ∙ rw e refl);
+    }
 
 -- where none in flight is named, nothing changes
 pub acknowledges_none : (named : ℕ → Bool) (s : Sender) (m : StreamMap)

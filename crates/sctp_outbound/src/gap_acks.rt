@@ -1,5 +1,5 @@
 // What the gap ack blocks of a SACK acknowledge.
-ghost use Rattle.std.specs.Prelude.{◌↔◌, true, length, slice_get, Some, ◌≡◌, ◌==◌, ◌+◌, ◌<◌};
+ghost use Rattle.std.specs.Prelude.{◌↔◌, true, length, slice_get, Some, ◌≡◌, ◌==◌, ◌&&◌, ◌+◌, ◌<◌, not};
 ghost use Rattle.sctp_received.specs.Received.{is_named};
 ghost use Rattle.sctp_outbound.specs.Progress.{last_new};
 ghost use Rattle.sctp_streams.specs.LowMarks.{Gathers};
@@ -106,6 +106,9 @@ impl Sender {
     {
         let tsn = self.queue.first_tsn().wrapping_add(index as u32);
         if let Some(piece) = self.queue.get(index) {
+            if was_acknowledged(piece) {
+                return None;
+            }
             let newest = place_if_new(piece, index);
             measure(&mut self.min_tsn2measure_rtt, rto, piece, next_tsn, now);
             release(streams, fallen, piece);
@@ -114,6 +117,13 @@ impl Sender {
         }
         None
     }
+}
+
+// Whether an earlier block or SACK acknowledged a piece: that of another one changes nothing then.
+fn was_acknowledged(piece: &InFlight) -> bool
+    ensures { result ≡ (piece.now.acked && not piece.now.retransmit) }
+{
+    piece.acked && !piece.retransmit
 }
 
 // Takes the round trip of a piece that is outstanding and was sent once; the next measurement begins with what is sent
