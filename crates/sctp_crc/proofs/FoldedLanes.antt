@@ -72,9 +72,11 @@ at xs i = get_or xs i 0
 abbrev AreLong : (x a b c d e f g : List ℕ) → Type 0
 AreLong x a b c d e f g = (length x ≡ 16) × IsKept (kept a b c d e f g)
 
-lanes_listed : (x a b c d e f g : List ℕ) → AreLong x a b c d e f g
-    → lanes x a b c d e f g ≡ taken (kept a b c d e f g) x
-lanes_listed x a b c d e f g long =
+-- what is so of eight rows of cells is so of eight lists of sixteen
+by_cells : (So : (x a b c d e f g : List ℕ) → Type 0) (x a b c d e f g : List ℕ) → AreLong x a b c d e f g
+    → So (row (at x)) (row (at a)) (row (at b)) (row (at c)) (row (at d)) (row (at e)) (row (at f)) (row (at g))
+    → So x a b c d e f g
+by_cells So x a b c d e f g long so =
     rw (
       cells_are x long.0,
       cells_are a long.1.0,
@@ -84,37 +86,29 @@ lanes_listed x a b c d e f g long =
       cells_are e long.1.4,
       cells_are f long.1.5,
       cells_are g long.1.6,
-    ) (lanes_computed (at x) (at a) (at b) (at c) (at d) (at e) (at f) (at g))
+    ) so
+
+lanes_listed : (x a b c d e f g : List ℕ) → AreLong x a b c d e f g
+    → lanes x a b c d e f g ≡ taken (kept a b c d e f g) x
+lanes_listed x a b c d e f g long =
+    by_cells (λ x a b c d e f g. lanes x a b c d e f g ≡ taken (kept a b c d e f g) x) x a b c d e f g long
+    (lanes_computed (at x) (at a) (at b) (at c) (at d) (at e) (at f) (at g))
 
 pushes_listed : (x a b c d e f g : List ℕ) → AreLong x a b c d e f g
     → map (pushed_back (kept a b c d e f g) x) (range_with_len 0 98)
     ≡ map (moved_back (kept a b c d e f g) (taken (kept a b c d e f g) x)) (range_with_len 0 98)
 pushes_listed x a b c d e f g long =
-    rw (
-      cells_are x long.0,
-      cells_are a long.1.0,
-      cells_are b long.1.1,
-      cells_are c long.1.2,
-      cells_are d long.1.3,
-      cells_are e long.1.4,
-      cells_are f long.1.5,
-      cells_are g long.1.6,
-    ) (pushes_computed (at x) (at a) (at b) (at c) (at d) (at e) (at f) (at g))
+    by_cells (λ x a b c d e f g. map (pushed_back (kept a b c d e f g) x) (range_with_len 0 98)
+    ≡ map (moved_back (kept a b c d e f g) (taken (kept a b c d e f g) x)) (range_with_len 0 98))
+    x a b c d e f g long (pushes_computed (at x) (at a) (at b) (at c) (at d) (at e) (at f) (at g))
 
 passes_listed : (x a b c d e f g : List ℕ) → AreLong x a b c d e f g
     → map (λ i. passes (back (kept a b c d e f g)) x (1 + i)) (range_with_len 0 98)
     ≡ map (moved_back (kept a b c d e f g) (replicate 16 0)) (range_with_len 0 98)
 passes_listed x a b c d e f g long =
-    rw (
-      cells_are x long.0,
-      cells_are a long.1.0,
-      cells_are b long.1.1,
-      cells_are c long.1.2,
-      cells_are d long.1.3,
-      cells_are e long.1.4,
-      cells_are f long.1.5,
-      cells_are g long.1.6,
-    ) (passes_computed (at x) (at a) (at b) (at c) (at d) (at e) (at f) (at g))
+    by_cells (λ x a b c d e f g. map (λ i. passes (back (kept a b c d e f g)) x (1 + i)) (range_with_len 0 98)
+    ≡ map (moved_back (kept a b c d e f g) (replicate 16 0)) (range_with_len 0 98))
+    x a b c d e f g long (passes_computed (at x) (at a) (at b) (at c) (at d) (at e) (at f) (at g))
 
 pub lanes_are : (k : Kept) (x : List ℕ) → IsKept k → length x ≡ 16
     → lanes x k.first k.second k.third k.fourth k.fifth k.sixth k.seventh ≡ taken k x
