@@ -1,2 +1,4 @@
 pub mod GapAckBlocks
 pub mod LastReceived
+pub mod Lists
+pub mod SpelledRuns

@@ -11,28 +11,43 @@ ghost use Rattle.sctp_received.specs.Received.{runs_from, advanced, offsets_of, 
 ghost use Rattle.sctp_received.specs.Received.{gap_ack_blocks, is_named, is_held_at, AreRuns, AreTsns};
 ghost use Rattle.sctp_received.specs.Received.{IsFarthest};
 
+use crate::runs::{Runs, are_near, run_blocks};
 use sctp_wire_types::{GapAckBlock, List, sna32lte};
 use std::alloc::{AllocError, Global};
 use std::collections::BTreeSet;
+use std::fmt;
 use std::marker::Model;
 
 /// A finite set of TSNs that came past the last one in order, the cumulative TSN, which the caller keeps (RFC 4960
 /// section 6.2). A contract sees the set as the list of its TSNs, so a list of ranges may take the place of what holds
 /// it.
-#[derive(Debug, Drop)]
+#[derive(Drop)]
 pub struct ReceiveQueue {
     tsns: BTreeSet<u32>,
+    // Their runs, so that gap ack blocks are told without a walk over all TSNs: as long as there were no more than there
+    // is room for, and no numbers wrapped where TSNs up to one were removed, since the set was empty.
+    runs: Runs,
+}
+
+// The runs say the same once more, and are left out.
+impl fmt::Debug for ReceiveQueue {
+    fn fmt<W: fmt::Write>(&self, f: &mut fmt::Formatter<W>) -> fmt::Result {
+        f.debug_struct("ReceiveQueue")
+            .field("tsns", &self.tsns)
+            .finish()
+    }
 }
 
 impl Model for ReceiveQueue {
     ghost use Rattle.std.specs.Prelude.{ℕ, List as Numbers};
     ghost use Rattle.sctp_received.specs.Received.{AreTsns};
+    ghost use Rattle.sctp_received.specs.Runs.{Spell};
 
     ghost Value = { Numbers ℕ };
 
     ghost view = { λ q. q.tsns.keys };
 
-    ghost invariant = { λ q. AreTsns q.tsns.keys };
+    ghost invariant = { λ q. AreTsns q.tsns.keys × Spell q.runs q.tsns.keys };
 }
 
 impl ReceiveQueue {
@@ -42,6 +57,7 @@ impl ReceiveQueue {
     {
         ReceiveQueue {
             tsns: BTreeSet::new(alloc),
+            runs: Runs::new(),
         }
     }
 
@@ -69,6 +85,7 @@ impl ReceiveQueue {
             return Ok(false);
         }
         self.tsns.insert(tsn)?;
+        self.runs.add(tsn);
         Ok(true)
     }
 
@@ -79,7 +96,14 @@ impl ReceiveQueue {
         ensures unchanged { result ≡ None → self.new ≡ self.old }
         ensures fewer { length self.new + (if is_some result then 1 else 0) ≡ length self.old }
     {
-        self.tsns.remove(&tsn).then_some(tsn)
+        if !self.tsns.remove(&tsn) {
+            return None;
+        }
+        self.runs.remove(tsn);
+        if self.tsns.len() == 0 {
+            self.runs.clear();
+        }
+        Some(tsn)
     }
 
     /// Removes all TSNs that are at or below this one.
@@ -87,6 +111,10 @@ impl ReceiveQueue {
         ensures { self.new ≡ filter (λ t. not (tsn_lte t tsn)) self.old }
     {
         self.tsns.retain(|held| !sna32lte(*held, tsn));
+        self.runs.pass(tsn);
+        if self.tsns.len() == 0 {
+            self.runs.clear();
+        }
     }
 
     /// Takes out the TSNs that follow the cumulative TSN one after another, and answers the last of them: where the
@@ -115,9 +143,32 @@ impl ReceiveQueue {
             → is_named o blocks ≡ is_held_at cumulative_tsn o self.now) }
         ensures maximal { IfOk result (λ blocks. AreRuns 1 blocks) }
     {
-        let offsets = self.offsets(alloc, cumulative_tsn)?;
-        let blocks = runs(alloc, &offsets)?;
+        let blocks = self.blocks(alloc, cumulative_tsn)?;
         Ok(List::from_vec(blocks))
+    }
+
+    // By the runs, where they are kept and near the cumulative TSN.
+    fn blocks(&self, alloc: Global, cumulative_tsn: u32) -> Result<Vec<GapAckBlock>, AllocError>
+        ensures blocks { IfOk result (λ blocks. blocks.items ≡ gap_ack_blocks cumulative_tsn self.now) }
+        ensures maximal { IfOk result (λ blocks. AreRuns 1 blocks.items) }
+    {
+        if self.runs.is_kept && are_near(self.runs.runs.as_slice(), cumulative_tsn) {
+            return run_blocks(alloc, self.runs.runs.as_slice(), cumulative_tsn);
+        }
+        self.walked_blocks(alloc, cumulative_tsn)
+    }
+
+    // By a walk over all TSNs.
+    fn walked_blocks(
+        &self,
+        alloc: Global,
+        cumulative_tsn: u32,
+    ) -> Result<Vec<GapAckBlock>, AllocError>
+        ensures blocks { IfOk result (λ blocks. blocks.items ≡ gap_ack_blocks cumulative_tsn self.now) }
+        ensures maximal { IfOk result (λ blocks. AreRuns 1 blocks.items) }
+    {
+        let offsets = self.offsets(alloc, cumulative_tsn)?;
+        runs(alloc, &offsets)
     }
 
     // Offsets from the cumulative TSN, ascending: the TSNs past the cumulative TSN as numbers come before those behind
@@ -162,6 +213,7 @@ impl ReceiveQueue {
         ensures { self.new ≡ [] }
     {
         self.tsns.clear();
+        self.runs.clear();
     }
 }
 
@@ -197,8 +249,8 @@ fn add_offsets(
     Ok(())
 }
 
-// The offsets of the TSNs that are not greater than the cumulative TSN as numbers. Where none is, as long as the numbers
-// do not wrap, they are not gone over.
+// The offsets of the TSNs that are not greater than the cumulative TSN as numbers. Where none is, as long as the
+// numbers do not wrap, they are not gone over.
 fn add_lesser(
     offsets: &mut Vec<u16>,
     tsns: &BTreeSet<u32>,
