@@ -1,4 +1,5 @@
 pub mod QueuedBytes
+pub mod AckedBefore
 pub mod BytesLeft
 pub mod ExpiredUnsent
 pub mod FirstOutstanding

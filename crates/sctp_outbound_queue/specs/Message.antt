@@ -87,6 +87,10 @@ outstanding_bytes_of id p = if is_of id p then outstanding_bytes p else 0
 abbrev pub acked : InFlight → InFlight
 acked p = record p { acked = true; retransmit = false }
 
+-- a gap ack block named the piece, and it is not marked to be sent again: where one names it once more, nothing changes
+abbrev pub was_acknowledged : InFlight → Bool
+was_acknowledged p = p.acked && not p.retransmit
+
 -- the retransmission timer expired (RFC 4960 section 6.3.3, rule E3)
 abbrev pub marked_again : InFlight → InFlight
 marked_again p = if is_outstanding p then record p { retransmit = true } else p

@@ -3,7 +3,7 @@ use Rattle.std.specs.Prelude.{◌≡◌, ℕ, Bool, List, [], ◌∷◌, ◌++�
 use Rattle.std.specs.Prelude.{if◌then◌else◌}
 use Rattle.std.specs.Prelude.{drop, length, map, sum_by, slice_get, slice_set, take, Option, Some, None, not}
 use Rattle.std.specs.Prelude.{false}
-use Rattle.std.specs.List.{count_by, list_any, position_or_len}
+use Rattle.std.specs.List.{count_by, list_any, position_or_len, prefix_len}
 use Rattle.sctp_serial.specs.Serial.{tsn_past}
 use Rattle.sctp_outbound_queue.specs.declared.message.InFlight.{InFlight}
 use Rattle.sctp_outbound_queue.specs.declared.message.Attributes.{Attributes}
@@ -11,7 +11,7 @@ use Rattle.sctp_outbound_queue.specs.declared.queue.Released.{Released}
 use Rattle.sctp_outbound_queue.specs.Waiting.{Waiting}
 use Rattle.sctp_outbound_queue.specs.Message.{message_bytes, piece_count, accepted, sent_once, without_piece, marker_of}
 use Rattle.sctp_outbound_queue.specs.Message.{is_of_stream, is_outstanding, is_third_report, is_waiting_of_stream}
-use Rattle.sctp_outbound_queue.specs.Message.{outstanding_bytes}
+use Rattle.sctp_outbound_queue.specs.Message.{outstanding_bytes, was_acknowledged}
 use Rattle.sctp_outbound_queue.specs.Message.{outstanding_bytes_of, acked, marked_again, flagged, reported_missing}
 use Rattle.sctp_outbound_queue.specs.declared.clocks.Clocks.{Clocks}
 use Rattle.sctp_outbound_queue.specs.Clocks.{AreTimely}
@@ -45,6 +45,10 @@ marked_of pieces = count_by (λ p. p.retransmit) pieces
 -- the index of the first outstanding piece, or how many pieces there are
 abbrev pub first_outstanding_of : List InFlight → ℕ
 first_outstanding_of pieces = position_or_len is_outstanding pieces
+
+-- from an index on, and below another one, the first at which no piece stands that was acknowledged
+abbrev pub past_acknowledged : ℕ → ℕ → List InFlight → ℕ
+past_acknowledged from to pieces = from + prefix_len was_acknowledged (take (to - from) (drop from pieces))
 
 abbrev pub is_outstanding_piece : Option InFlight → Bool
 is_outstanding_piece None = false

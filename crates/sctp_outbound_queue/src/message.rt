@@ -9,7 +9,7 @@ ghost use Rattle.sctp_outbound_queue.specs.Message.{marked_again, counted_again,
 ghost use Rattle.sctp_outbound_queue.specs.Message.{picks, room_taken, reported_missing};
 ghost use Rattle.sctp_outbound_queue.specs.Message.{deadline_under, started, waiting_started, sent_started, is_expired};
 ghost use Rattle.sctp_outbound_queue.specs.Message.{is_expired_piece, is_expired_unsent, is_timed, share_ssns};
-ghost use Rattle.sctp_outbound_queue.specs.Message.{moved_down};
+ghost use Rattle.sctp_outbound_queue.specs.Message.{moved_down, was_acknowledged};
 ghost use Rattle.sctp_outbound_queue.specs.Message.{sooner, sooner_of, sooner_piece};
 
 use bytes::Bytes;
@@ -306,6 +306,13 @@ impl InFlight {
     {
         self.acked = true;
         self.retransmit = false;
+    }
+
+    // A gap ack block named it, and it is not marked to be sent again.
+    pub(crate) fn was_acknowledged(&self) -> bool
+        ensures { result ≡ was_acknowledged self.now }
+    {
+        self.acked && !self.retransmit
     }
 
     pub(crate) fn mark(&mut self)

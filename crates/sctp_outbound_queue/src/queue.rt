@@ -12,7 +12,7 @@ ghost use Rattle.sctp_outbound_queue.specs.Outbound.{outstanding_of_message, pie
 ghost use Rattle.sctp_outbound_queue.specs.Outbound.{after_piece, without_first, changed_at, acked_at, piece_at};
 ghost use Rattle.sctp_outbound_queue.specs.Outbound.{all_marked, has_stream, abandoned_in_front_of, tail_dropped};
 ghost use Rattle.sctp_outbound_queue.specs.Outbound.{all_flagged, abandoned_at, is_abandoned_piece, with_missing};
-ghost use Rattle.sctp_outbound_queue.specs.Outbound.{marked_of};
+ghost use Rattle.sctp_outbound_queue.specs.Outbound.{marked_of, past_acknowledged};
 ghost use Rattle.std.specs.List.{list_any};
 ghost use Rattle.sctp_outbound_queue.specs.Expiry.{all_started, first_tsn_that, without_expired, after_expiry};
 ghost use Rattle.sctp_outbound_queue.specs.Expiry.{after_tail_expiry, is_expired_tail};
@@ -21,8 +21,8 @@ use crate::clocks::Clocks;
 use crate::walks::{
     any_of_message, any_of_stream, any_waiting_of_stream, bytes_of_message, count_marked,
     drop_expired, first_expired_piece, first_missing, first_not_abandoned, first_outstanding,
-    flag_all, mark_all, next_sent, pieces_of, report_missing, start_sent, start_waiting,
-    take_piece,
+    flag_all, mark_all, next_sent, pieces_of, report_missing, skip_acknowledged, start_sent,
+    start_waiting, take_piece,
 };
 use crate::{Attributes, InFlight, PendingMessage, Retransmission};
 use sctp_wire_types::{Instant, StreamId};
@@ -236,6 +236,16 @@ impl OutboundQueue {
         ensures { option_copied result ≡ slice_get self.now.in_flight index }
     {
         self.in_flight.get(index)
+    }
+
+    /// Passes over pieces in flight that gap ack blocks acknowledged before and that are not marked to be sent again.
+    /// Answers the first index from `from` on, below `to`, at which no such piece stands; where each is one, that is
+    /// `to`, or the number of pieces in flight where that is less, and never less than `from`. Goes over the pieces
+    /// that it passes, and one more at most.
+    pub fn skip_acknowledged(&self, from: usize, to: usize) -> usize
+        ensures { result ≡ past_acknowledged from to self.now.in_flight }
+    {
+        skip_acknowledged(&self.in_flight, from, to)
     }
 
     /// Takes out the first piece in flight: it is acknowledged cumulatively. Goes over no other piece.

@@ -10,6 +10,7 @@ ghost use Rattle.sctp_outbound_queue.specs.Message.{sent_started, moved_down, se
 ghost use Rattle.sctp_outbound_queue.specs.Message.{reported_missing};
 ghost use Rattle.sctp_outbound_queue.specs.Outbound.{outstanding_of_message, pieces_waiting, after_piece, marked_of};
 ghost use Rattle.sctp_outbound_queue.specs.Outbound.{is_outstanding_piece, is_third_report_of, with_report};
+ghost use Rattle.sctp_outbound_queue.specs.Outbound.{past_acknowledged};
 ghost use Rattle.sctp_outbound_queue.specs.Clocks.{AllFrom, AllRun, AreSentTimely, AreWaitingTimely};
 ghost use Rattle.sctp_outbound_queue.specs.Message.{sooner, sooner_piece};
 ghost use Rattle.sctp_outbound_queue.specs.Expiry.{without_expired};
@@ -89,6 +90,32 @@ fn is_outstanding_at(pieces: &VecDeque<InFlight>, index: usize) -> bool
         Some(piece) => piece.is_outstanding(),
         None => false,
     }
+}
+
+// Passes over pieces that were acknowledged: answers the first index from `from` on, below `to`, at which no such piece
+// stands.
+pub(crate) fn skip_acknowledged(pieces: &VecDeque<InFlight>, from: usize, to: usize) -> usize
+    ensures { result ≡ past_acknowledged from to pieces.now.items }
+{
+    let (front, back) = pieces.as_slices();
+    let index = skip_in_row(front, from, to);
+    if index < front.len() {
+        return index;
+    }
+    front.len() + skip_in_row(back, index - front.len(), to.saturating_sub(front.len()))
+}
+
+// So it does with pieces that lie in one row.
+fn skip_in_row(pieces: &[InFlight], from: usize, to: usize) -> usize
+    ensures { result ≡ past_acknowledged from to pieces.now }
+{
+    let end = to.min(pieces.len());
+    for index in from..end {
+        if !pieces[index].was_acknowledged() {
+            return index;
+        }
+    }
+    end.max(from)
 }
 
 pub(crate) fn first_missing(pieces: &VecDeque<InFlight>) -> Option<&InFlight>
