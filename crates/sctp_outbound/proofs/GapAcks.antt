@@ -210,7 +210,7 @@ pub record AcknowledgesNamed (named : ℕ → Bool) (s s2 : Sender) (m m2 : Stre
   pub released : m2 ≡ released_among named 0 s.queue.in_flight m
   pub newest : last ≡ last_new named 0 s.queue.in_flight
 
-both_of : (a b : Bool) → (a && not b) ≡ true → (a ≡ true) × (b ≡ false)
+pub both_of : (a b : Bool) → (a && not b) ≡ true → (a ≡ true) × (b ≡ false)
 both_of true true e = absurd (cc)
 both_of true false e = (refl, refl)
 both_of false b e = absurd (cc)
@@ -226,6 +226,12 @@ acked_already p e f =
     ∙ ap (λ r. record p { acked = p.acked; retransmit = r }) (sym f)
 
 -- of a piece that was acknowledged before nothing changes
+pub acked_before : (xs : List InFlight) (t : ℕ) (p : InFlight) → slice_get xs t ≡ Some p
+    → (p.acked && not p.retransmit) ≡ true → acked_among (λ j. eqb j t) 0 xs ≡ xs
+acked_before xs t p here was =
+    let both = both_of p.acked p.retransmit was in
+    one_acked t t 0 xs p (omega arith) here ∙ ap (set xs t) (acked_already p both.0 both.1) ∙ same_set xs t p here
+
 pub acknowledges_again : (s : Sender) (m : StreamMap) (t : ℕ) (p : InFlight)
     → slice_get s.queue.in_flight t ≡ Some p → (p.acked && not p.retransmit) ≡ true
     → AcknowledgesNamed (λ j. eqb j t) s s m m None
@@ -235,8 +241,7 @@ acknowledges_again s m t p here was =
     let f = both.1 in
     let own = acked_already p e f in
     let pieces : acked_among (λ j. eqb j t) 0 s.queue.in_flight ≡ s.queue.in_flight =
-    one_acked t t 0 s.queue.in_flight p (omega arith) here ∙ ap (set s.queue.in_flight t) own
-    ∙ same_set s.queue.in_flight t p here in
+    acked_before s.queue.in_flight t p here was in
     let streams : streams_after (Some p) m ≡ m =
     ap (λ q. streams_after (Some q) m) (sym own) ∙ acked_releases_nothing p m in
     record {

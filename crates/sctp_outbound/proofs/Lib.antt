@@ -1,6 +1,7 @@
 pub mod SenderSteps
 mod StreamReleases
 pub mod GapAcks
+pub mod AckedBefore
 pub mod MarkedPieces
 pub mod MissingPieces
 pub mod NewPieces

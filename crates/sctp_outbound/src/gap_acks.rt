@@ -1,5 +1,5 @@
 // What the gap ack blocks of a SACK acknowledge.
-ghost use Rattle.std.specs.Prelude.{◌↔◌, true, length, slice_get, Some, ◌≡◌, ◌==◌, ◌&&◌, ◌+◌, ◌<◌, not};
+ghost use Rattle.std.specs.Prelude.{◌↔◌, true, length, slice_get, Some, ◌≡◌, ◌==◌, ◌+◌, ◌<◌};
 ghost use Rattle.sctp_received.specs.Received.{is_named};
 ghost use Rattle.sctp_outbound.specs.Progress.{last_new};
 ghost use Rattle.sctp_streams.specs.LowMarks.{Gathers};
@@ -29,9 +29,9 @@ impl Sender {
     /// 6.2.1). The pieces in flight that a block names are acknowledged, and those bytes of them that were outstanding
     /// until then are released at their streams. Blocks may overlap, stand in any order and be empty; offsets past what
     /// is in flight name nothing. Goes over the offsets that the blocks name and that are in flight, block by block in
-    /// their order, and over nothing else; an offset that several blocks name is gone over once for each of them.
-    /// Streams that fall to their low mark are gathered. Answers the last index that is acknowledged for the first
-    /// time.
+    /// their order, and over nothing else; an offset that several blocks name is gone over once for each of them. A
+    /// piece that was acknowledged before is passed over. Streams that fall to their low mark are gathered. Answers the
+    /// last index that is acknowledged for the first time.
     pub fn acknowledge_blocks(
         &mut self,
         rto: &mut RtoManager,
@@ -54,7 +54,9 @@ impl Sender {
     }
 
     // Takes in one block. The cumulative TSN ack is the TSN before the first one in flight, so the piece at index j is
-    // at the offset j + 1.
+    // at the offset j + 1. Under loss each SACK names again what the ones before it named, until the gap is filled: the
+    // queue passes over those pieces, since nothing of them changes, and only the others are acknowledged. One that is
+    // marked to be sent again is not passed over, since a block that names it clears the mark.
     fn acknowledge_block(
         &mut self,
         rto: &mut RtoManager,
@@ -76,9 +78,11 @@ impl Sender {
         let first = usize::from(block.start).saturating_sub(1);
         let count = usize::from(block.end).min(self.queue.inflight_len());
         let mut newest = None;
-        for index in first..count {
+        let mut index = self.queue.skip_acknowledged(first, count);
+        'pieces: while index < count {
             let other = self.acknowledge_at(rto, streams, fallen, index, next_tsn, now);
             newest = greatest_of(newest, other);
+            index = self.queue.skip_acknowledged(index + 1, count);
         }
         newest
     }
@@ -106,9 +110,6 @@ impl Sender {
     {
         let tsn = self.queue.first_tsn().wrapping_add(index as u32);
         if let Some(piece) = self.queue.get(index) {
-            if was_acknowledged(piece) {
-                return None;
-            }
             let newest = place_if_new(piece, index);
             measure(&mut self.min_tsn2measure_rtt, rto, piece, next_tsn, now);
             release(streams, fallen, piece);
@@ -117,13 +118,6 @@ impl Sender {
         }
         None
     }
-}
-
-// Whether an earlier block or SACK acknowledged a piece: that of another one changes nothing then.
-fn was_acknowledged(piece: &InFlight) -> bool
-    ensures { result ≡ (piece.now.acked && not piece.now.retransmit) }
-{
-    piece.acked && !piece.retransmit
 }
 
 // Takes the round trip of a piece that is outstanding and was sent once; the next measurement begins with what is sent

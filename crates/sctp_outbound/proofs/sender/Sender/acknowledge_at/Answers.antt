@@ -1,6 +1,6 @@
-use Rattle.std.proofs.Common.{rules, sym, ◌≡◌, ◌∙◌, Some, None, slice_get, arith}
+use Rattle.std.proofs.Common.{rules, ◌≡◌, ◌∙◌, Some, None, slice_get, arith}
 use Rattle.sctp_streams.proofs.LowMarks.{gathers_nothing}
-use Rattle.sctp_outbound.proofs.GapAcks.{acknowledges_again, acknowledges_one, acknowledges_past}
+use Rattle.sctp_outbound.proofs.GapAcks.{acknowledges_one, acknowledges_past}
 use Rattle.sctp_outbound.proofs.sender.Sender.acknowledge_at.Goals as goal
 
 pub returns-in-Some-clause-pieces : goal.returns-in-Some-clause-pieces
@@ -40,24 +40,3 @@ pub returns-clause-newest : goal.returns-clause-newest
 returns-clause-newest c =
     let none : slice_get c.args.self.now.queue.in_flight c.args.index ≡ None = search rules in
     (acknowledges_past c.args.self.now c.args.streams.now c.args.index none).newest
-
-pub returns-then-was_acknowledged-clause-newest : goal.returns-then-was_acknowledged-clause-newest
-returns-then-was_acknowledged-clause-newest c =
-    let here : slice_get c.args.self.now.queue.in_flight c.args.index ≡ Some c.in-Some.piece.now = search rules in
-    (acknowledges_again c.args.self.now c.args.streams.now c.args.index c.in-Some.piece.now here
-    (sym c.was_acknowledged.ensures ∙ c.if-was_acknowledged.true)).newest
-
-pub returns-then-was_acknowledged-clause-pieces : goal.returns-then-was_acknowledged-clause-pieces
-returns-then-was_acknowledged-clause-pieces c =
-    let here : slice_get c.args.self.now.queue.in_flight c.args.index ≡ Some c.in-Some.piece.now = search rules in
-    (acknowledges_again c.args.self.now c.args.streams.now c.args.index c.in-Some.piece.now here
-    (sym c.was_acknowledged.ensures ∙ c.if-was_acknowledged.true)).pieces
-
-pub returns-then-was_acknowledged-clause-released : goal.returns-then-was_acknowledged-clause-released
-returns-then-was_acknowledged-clause-released c =
-    let here : slice_get c.args.self.now.queue.in_flight c.args.index ≡ Some c.in-Some.piece.now = search rules in
-    (acknowledges_again c.args.self.now c.args.streams.now c.args.index c.in-Some.piece.now here
-    (sym c.was_acknowledged.ensures ∙ c.if-was_acknowledged.true)).released
-
-pub returns-then-was_acknowledged-clause-gathers : goal.returns-then-was_acknowledged-clause-gathers
-returns-then-was_acknowledged-clause-gathers c = gathers_nothing c.args.streams.now c.args.fallen.now
