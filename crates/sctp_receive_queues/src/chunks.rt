@@ -86,8 +86,8 @@ impl Chunks {
         Ok(Some(cut))
     }
 
-    /// Copies all bytes that are left to the front of the buffer, which has to be long enough for them. Nothing is taken
-    /// out, and no memory is needed.
+    /// Copies all bytes that are left to the front of the buffer, which has to be long enough for them. Nothing is
+    /// taken out, and no memory is needed.
     #[tactic(auto, using(crate::proofs::Cuts::bytes_of_pieces))]
     pub fn copy_to(&self, buffer: &mut [u8])
         requires { length (bytes_left self.now) ≤ length buffer.old }
