@@ -1,8 +1,8 @@
 -- A walk that passes over pieces that were acknowledged before.
 use Rattle.std.proofs.Common.{◌≡◌, ℕ, zero, suc, ◌+◌, ◌-◌, ◌<◌, ◌≤◌, ◌∙◌, true, false, List, [], ◌∷◌, ◌++◌, length}
-use Rattle.std.proofs.Common.{drop, get_or, max, min, take, refl, ap, sym, arith, ⊎_elim}
+use Rattle.std.proofs.Common.{drop, get_or, max, take, refl, ap, sym, arith, ⊎_elim}
 use Rattle.std.specs.List.{prefix_len}
-use Rattle.std.proofs.lemmas.Bool.{cases_Bool, cases_lt}
+use Rattle.std.proofs.lemmas.Bool.{cases_Bool}
 use Rattle.std.proofs.lemmas.List.{drop_all, drop_more, length-drop, length-take, take_all}
 use Rattle.std.proofs.lemmas.List.Sums.{prefix_len-le-length}
 use Rattle.sctp_outbound_queue.specs.declared.message.InFlight.{InFlight}
@@ -29,15 +29,6 @@ module _ (to i : ℕ) (xs : List InFlight) where
       let front : drop i xs ≡ x ∷ drop (i + 1) xs =
       drop_more xs i x within ∙ ap (λ y. y ∷ drop (i + 1) xs) (sym here) in
       rw (more, front, was) (omega arith)
-
-  -- and where none is left the walk ends
-  pub none_left : min to (length xs) ≤ i → past_acknowledged i to xs ≡ i
-  none_left all = ⊎_elim (λ (l : i < to).
-      let none : drop i xs ≡ [] = drop_all i xs (omega (arith, all, l)) in
-      let few : take {A = InFlight} (to - i) [] ≡ [] = take_all (to - i) [] (omega arith) in
-      rw (none, few) (omega arith))
-      (λ (l : to ≤ i). let none : to - i ≡ 0 = omega (arith, l) in rw none (omega arith))
-      (cases_lt i to)
 
 -- Pieces that lie in two rows, one behind the other
 

@@ -1,6 +1,6 @@
 -- The first expired message of which nothing was sent.
-use Rattle.std.proofs.Common.{◌≡◌, ℕ, zero, suc, ◌+◌, ◌<◌, ◌≤◌, Bool, true, false, not, nat_lt, List, [], ◌∷◌, ◌++◌, Some}
-use Rattle.std.proofs.Common.{None, length, map, take, drop, slice_index_or, refl, ap, sym, ◌∙◌, ⊎_elim, arith}
+use Rattle.std.proofs.Common.{◌≡◌, ℕ, zero, suc, ◌+◌, ◌<◌, ◌≤◌, Bool, true, false, not, nat_lt, List, [], ◌∷◌, ◌++◌}
+use Rattle.std.proofs.Common.{Some, None, length, map, take, drop, slice_index_or, refl, ap, sym, ◌∙◌, ⊎_elim, arith}
 use Rattle.std.specs.Prelude.{find, get_or, position, remove}
 use Rattle.std.specs.List.{position_or_len}
 use Rattle.std.proofs.lemmas.List.{take-append-drop}
@@ -14,13 +14,6 @@ use Rattle.sctp_outbound_queue.specs.Outbound.{waiting_of}
 use Rattle.sctp_outbound_queue.specs.Expiry.{without_expired}
 
 -- places
-
-pub found_at : {X : Type 0} (p : X → Bool) (xs : List X) (k : ℕ) → position p xs ≡ Some k → position_or_len p xs ≡ k
-found_at p xs k e =
-    ⊎_elim (
-    λ (a : nat_lt (position_or_len p xs) (length xs) ≡ true). let f = rw a at e in cc
-    ) (λ (a : nat_lt (position_or_len p xs) (length xs) ≡ false). let f = rw a at e in absurd (cc))
-    (cases_Bool (nat_lt (position_or_len p xs) (length xs)))
 
 pub not_found : {X : Type 0} (p : X → Bool) (xs : List X) → position p xs ≡ None → position_or_len p xs ≡ length xs
 not_found p xs e =

@@ -1,8 +1,11 @@
 pub mod QueuedBytes
 pub mod AckedBefore
 pub mod BytesLeft
+pub mod Covered
+pub mod Deadlines
 pub mod ExpiredUnsent
 pub mod FirstOutstanding
 pub mod PiecesCut
 pub mod ReportedMissing
+pub mod StretchLists
 pub mod Timely

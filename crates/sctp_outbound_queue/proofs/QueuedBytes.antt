@@ -1,8 +1,7 @@
 -- Sums over what waits and what is in flight.
-use Rattle.std.proofs.Common.{◌≡◌, ℕ, zero, suc, ◌+◌, ◌-◌, ◌^◌, ◌<◌, ◌≤◌, ◌==◌, true, false, List, []}
-use Rattle.std.proofs.Common.{◌∷◌, ◌++◌, Option, Some, None}
-use Rattle.std.proofs.Common.{length, map, min, fold, drop, slice_get, slice_index_or, refl, ap, sym, ◌∙◌, ⊎_elim}
-use Rattle.std.proofs.Common.{arith}
+use Rattle.std.proofs.Common.{◌≡◌, ℕ, zero, suc, ◌+◌, ◌-◌, ◌^◌, ◌<◌, ◌≤◌, ◌==◌, true, false, List, [], ◌∷◌, ◌++◌}
+use Rattle.std.proofs.Common.{Option, Some, None, length, map, min, fold, drop, slice_get, slice_index_or, refl, ap}
+use Rattle.std.proofs.Common.{sym, ◌∙◌, ⊎_elim, arith, take}
 use Rattle.std.proofs.Math.Bool.{cond}
 use Rattle.std.specs.Prelude.{sum_by, find, slice_set}
 use Rattle.sctp_outbound_queue.proofs.ExpiredUnsent.{without_none, without_bytes}
@@ -13,27 +12,25 @@ use Rattle.std.proofs.lemmas.Bool.Decides.{nat_tests}
 use Rattle.sctp_outbound_queue.specs.declared.message.InFlight.{InFlight}
 use Rattle.sctp_outbound_queue.specs.Waiting.{Waiting}
 use Rattle.sctp_outbound_queue.specs.Message.{accepted, acked, is_timed, message_bytes, is_expired_unsent}
-use Rattle.sctp_outbound_queue.specs.Message.{without_piece, sent_once, is_of}
-use Rattle.sctp_outbound_queue.specs.Message.{is_outstanding, marked_again, outstanding_bytes, outstanding_bytes_of}
-use Rattle.sctp_outbound_queue.specs.Message.{flagged}
+use Rattle.sctp_outbound_queue.specs.Message.{without_piece, sent_once, is_of, is_outstanding, marked_again}
+use Rattle.sctp_outbound_queue.specs.Message.{outstanding_bytes, outstanding_bytes_of, flagged, marker_of, soonest}
+use Rattle.sctp_outbound_queue.specs.Message.{sent_started, waiting_started}
 use Rattle.sctp_outbound_queue.specs.Expiry.{without_expired, after_expiry}
 use Rattle.sctp_outbound_queue.specs.Outbound.{abandoned_at, all_flagged, released, Outbound, AreKept, waiting_of}
 use Rattle.sctp_outbound_queue.specs.Outbound.{outstanding_of, outstanding_of_message, left_behind, after_piece}
 use Rattle.sctp_outbound_queue.specs.Outbound.{marked_of, tail_dropped, tail_dropped_from}
 use Rattle.sctp_outbound_queue.proofs.FirstOutstanding.{abandoned, acknowledged, after_change, after_change_at}
-use Rattle.sctp_outbound_queue.proofs.FirstOutstanding.{after_more}
-use Rattle.sctp_outbound_queue.proofs.FirstOutstanding.{started_too}
+use Rattle.sctp_outbound_queue.proofs.FirstOutstanding.{after_more, started_too}
 use Rattle.sctp_outbound_queue.proofs.Timely.{acked_keeps, flagged_keeps, timely_at, timely_changed, timely_dropped}
-use Rattle.sctp_outbound_queue.proofs.Timely.{timely_looked, timely_marker, timely_more, timely_sent, timely_started}
-use Rattle.sctp_outbound_queue.specs.Message.{marker_of}
+use Rattle.sctp_outbound_queue.proofs.Timely.{timely_looked, timely_marker, timely_more, timely_raised, timely_sent}
+use Rattle.sctp_outbound_queue.proofs.Timely.{timely_started}
 use Rattle.sctp_outbound_queue.specs.declared.clocks.Clocks.{Clocks}
 use Rattle.sctp_outbound_queue.specs.declared.clocks.Look.{Look}
-use Rattle.sctp_outbound_queue.specs.Clocks.{AllFrom, AllRun, AreSentTimely, accepted_by, dropped_by, sent_by}
+use Rattle.sctp_outbound_queue.specs.Clocks.{AllFrom, AllRun, AreSentTimely, accepted_by, dropped_by, sent_by, Cover}
 use Rattle.sctp_outbound_queue.specs.Clocks.{started_with}
+use Rattle.sctp_outbound_queue.specs.declared.stretches.Stretch.{Stretch}
+use Rattle.sctp_outbound_queue.specs.Stretches.{total}
 use Rattle.std.specs.List.{position_or_len}
-use Rattle.std.proofs.Common.{take}
-use Rattle.std.proofs.lemmas.List.{length-map}
-use Rattle.sctp_outbound_queue.specs.Message.{sent_started, waiting_started}
 
 -- a sum that stops at a greatest number
 pub fold_saturates : {X : Type 0} (f : X → ℕ) (most a : ℕ) (xs : List X) → a ≤ most
@@ -170,11 +167,12 @@ released_bound c q id waiting outstanding marked settled kept =
 
 -- a message more waits, under a number that is its own
 module _ (clocks : Clocks) (id : ℕ) (ms : List Waiting) (ps : List InFlight) (m : Waiting) where
-  pub kept_more : {ms2 : List Waiting} {w w2 o b all k s n : ℕ} → n ≡ length ms → AreKept ms ps w o k s clocks
+  pub kept_more : {ms2 : List Waiting} {w w2 o b all k s n : ℕ} → n ≡ length ms → n < 2 ^ 64
+      → AreKept ms ps w o k s clocks
       → b ≡ min (message_bytes m) (2 ^ 64 - 1) → w2 ≡ min (w + b) (2 ^ 64 - 1) → all ≡ min (w2 + o) (2 ^ 64 - 1)
       → (all ≡ 2 ^ 64 - 1 → ⊥) → ms2 ≡ ms ++ accepted id m ∷ []
       → AreKept ms2 ps w2 o k s (accepted_by (is_timed m.message.policy) n clocks)
-  kept_more others kept bytes waiting total below more =
+  kept_more others short kept bytes waiting total below more =
       let push = sum_by_push message_bytes ms (accepted id m) in
       rw (more, others) (
         omega (arith, push, kept.0, bytes, waiting, total, below, kept.2),
@@ -182,10 +180,11 @@ module _ (clocks : Clocks) (id : ℕ) (ms : List Waiting) (ps : List InFlight) (
         omega (arith, push, kept.0, bytes, waiting, total, below, kept.2),
         kept.3,
         kept.4,
-        timely_more clocks ms ps (accepted id m) refl kept.5,
+        timely_more clocks ms ps (accepted id m) refl (omega (arith, others, short)) kept.5,
       )
 
-pub kept_sent : {ms2 : List Waiting} {ps1 ps2 : List InFlight} {w o k b s : ℕ} {p : InFlight} (clocks : Clocks) (now : ℕ)
+pub kept_sent : {ms2 : List Waiting} {ps1 ps2 : List InFlight} {w o k b s : ℕ} {p : InFlight} (clocks : Clocks)
+    (now : ℕ)
     (ms : List Waiting) (ps : List InFlight) → AreKept ms ps w o k s clocks
     → Some p ≡ option_map (sent_once now) (slice_get ms 0) → ms2 ≡ after_piece ms → ps1 ≡ ps → ps2 ≡ ps1 ++ p ∷ []
     → b ≡ outstanding_bytes p → AreKept ms2 ps2 (w - b) (o + b) k s (sent_by p.message p.ending_fragment clocks)
@@ -277,25 +276,28 @@ same_sum f g same (x ∷ xs) =
     let one = same x in
     omega (arith, a, b, more, one)
 
-pub kept_started : {ms2 : List Waiting} {ps2 : List InFlight} {w o k s n : ℕ} (next_waiting next_sent : Option ℕ)
-    (clocks : Clocks) (now : ℕ) (ms : List Waiting) (ps : List InFlight) → AreKept ms ps w o k s clocks
-    → ms2 ≡ map (waiting_started now) ms → ps2 ≡ map (sent_started now) ps → n ≡ length ms → AllFrom next_waiting ms2
-    → AllRun ms2 → AreSentTimely (record clocks { sent_run = true; next_sent = next_sent }) ps2
-    → AreKept ms2 ps2 w o k s (started_with n next_waiting next_sent)
-kept_started next_waiting next_sent clocks now ms ps kept waiting sent all from run timely =
+pub kept_started : {ms2 : List Waiting} {ps2 : List InFlight} {w o k s n : ℕ} (covered : ℕ) (next next_sent : Option ℕ)
+    (ss : List Stretch) (clocks : Clocks) (now : ℕ) (ms : List Waiting) (ps : List InFlight)
+    → AreKept ms ps w o k s clocks → ms2 ≡ map (waiting_started now) ms → ps2 ≡ map (sent_started now) ps
+    → n ≡ length ms → covered ≡ total clocks.stretches → AllFrom next (drop covered ms2) → AllRun ms2
+    → AreSentTimely (record clocks { sent_run = true; next_sent = next_sent }) ps2 → total ss ≡ n
+    → ((ns : List Waiting) → length ns ≡ n → Cover clocks.stretches ns → AllFrom next (drop covered ns)
+    → Cover ss ns)
+    → AreKept ms2 ps2 w o k s (started_with n (soonest clocks.next_waiting next) next_sent ss)
+kept_started covered next next_sent ss clocks now ms ps kept waiting sent all is from run timely whole covers =
     let a = same_sum message_bytes (waiting_started now) (λ m. refl) ms in
     let b = same_sum outstanding_bytes (sent_started now) (λ p. refl) ps in
     let c = same_sum (λ (p : InFlight). cond p.retransmit 1 0) (sent_started now) (λ p. refl) ps in
     let first = after_change (sent_started now) (started_too now) ps in
-    let length : length ms ≡ length (map (waiting_started now) ms) = sym (length-map ms (waiting_started now)) in
-    rw (waiting, sent, all, length) (
+    rw (waiting, sent, all) (
       kept.0 ∙ sym a,
       kept.1 ∙ sym b,
       kept.2,
       kept.3 ∙ sym c,
       omega (arith, first, kept.4),
-      timely_started clocks next_waiting next_sent (map (waiting_started now) ms) (map (sent_started now) ps)
-          (rw waiting at from) (rw waiting at run) (rw sent at timely),
+      timely_started clocks now covered next next_sent ss ms ps (map (sent_started now) ps) kept.5 is
+          (rw waiting at from) (rw waiting at run) (rw sent at timely) (whole ∙ all)
+          (λ ns len. covers ns (len ∙ sym all)),
     )
 
 pub kept_flagged : {ps2 : List InFlight} {w o k b left s : ℕ} (clocks : Clocks) (id : ℕ)
@@ -315,6 +317,13 @@ kept_flagged clocks id ms ps kept bytes flags counted =
       rw flags (omega (arith, first, kept.4)),
       rw flags (timely_changed _ (flagged id) (flagged_keeps id _ _) ms ps kept.5),
     )
+
+-- stretches got other moments
+pub kept_raised : {w o k s : ℕ} (clocks : Clocks) (ss : List Stretch) (ms : List Waiting) (ps : List InFlight)
+    → AreKept ms ps w o k s clocks → Cover ss ms → total ss ≡ total clocks.stretches
+    → AreKept ms ps w o k s (record clocks { stretches = ss })
+kept_raised clocks ss ms ps kept cover same =
+    (kept.0, kept.1, kept.2, kept.3, kept.4, timely_raised clocks ss ms ps cover same kept.5)
 
 -- a look found none
 pub kept_same : {ms2 : List Waiting} {w o k s : ℕ} (clocks : Clocks) (look : Look) (now : ℕ) (ms : List Waiting)

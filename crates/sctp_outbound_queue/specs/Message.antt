@@ -1,7 +1,7 @@
 -- Messages, cut into pieces, and pieces in flight (RFC 4960 section 6.9).
 use Rattle.std.specs.Prelude.{ℕ, Bool, true, false, not, [], ◌+◌, ◌-◌, ◌*◌, ◌/◌, ◌%◌, ◌^◌, ◌==◌, ◌&&◌, if◌then◌else◌}
-use Rattle.std.specs.Prelude.{length}
-use Rattle.std.specs.Prelude.{drop, min, sum_by, nat_le, nat_lt, slice_index_or, Option, Some, None}
+use Rattle.std.specs.Prelude.{List, length, slice_set, drop, min, sum_by, nat_le, nat_lt, slice_index_or, Option}
+use Rattle.std.specs.Prelude.{Some, None}
 use Rattle.sctp_outbound_queue.specs.declared.message.Attributes.{Attributes}
 use Rattle.sctp_outbound_queue.specs.declared.message.InFlight.{InFlight}
 use Rattle.sctp_outbound_queue.specs.declared.message.Retransmission.{Retransmission}
@@ -149,6 +149,11 @@ started now a = record a { deadline = deadline_under a.policy now a.deadline }
 abbrev pub waiting_started : ℕ → Waiting → Waiting
 waiting_started now m = record m { message = started now m.message }
 
+-- messages of which one is started
+abbrev pub with_start : ℕ → Option Waiting → ℕ → List Waiting → List Waiting
+with_start now None index messages = messages
+with_start now (Some m) index messages = slice_set messages index (waiting_started now m)
+
 abbrev pub sent_started : ℕ → InFlight → InFlight
 sent_started now p = record p { message = started now p.message }
 
@@ -185,6 +190,11 @@ abbrev pub sooner_of : Option ℕ → ℕ → ℕ
 sooner_of None deadline = deadline
 sooner_of (Some next) deadline = min next deadline
 
+-- the sooner of two deadlines, of which either may be none
+abbrev pub soonest : Option ℕ → Option ℕ → Option ℕ
+soonest next None = next
+soonest next (Some deadline) = Some (sooner_of next deadline)
+
 abbrev pub sooner_under : Policy → Option ℕ → Option ℕ → Option ℕ
 sooner_under Reliable deadline next = next
 sooner_under (Rexmit n) deadline next = next
@@ -215,6 +225,11 @@ is_expired_piece now p = not p.abandoned && is_expired now p.message
 -- an expired message of which nothing was sent
 abbrev pub is_expired_unsent : ℕ → Waiting → Bool
 is_expired_unsent now m = not m.begun && is_expired now m.message
+
+-- what a look at a message that waits finds: the next deadline, where that of the message counts too, unless the
+-- message is to be dropped
+abbrev pub looked_at : ℕ → Option ℕ → Waiting → Option (Option ℕ)
+looked_at now next m = if is_expired_unsent now m then None else Some (sooner next m.message)
 
 -- the two are ordered messages of one generation of a stream
 abbrev pub share_ssns : Attributes → Attributes → Bool

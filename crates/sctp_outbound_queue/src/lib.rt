@@ -6,6 +6,7 @@ mod clocks;
 mod laws;
 mod message;
 mod queue;
+mod stretches;
 mod walks;
 
 pub use laws::{abandonment_is_whole, pieces_are_the_bytes, released_bytes_are_exact};

@@ -8,9 +8,9 @@ ghost use Rattle.sctp_outbound_queue.specs.Message.{is_outstanding, outstanding_
 ghost use Rattle.sctp_outbound_queue.specs.Message.{marked_again, counted_again, data_length, flagged, is_third_report};
 ghost use Rattle.sctp_outbound_queue.specs.Message.{picks, room_taken, reported_missing};
 ghost use Rattle.sctp_outbound_queue.specs.Message.{deadline_under, started, waiting_started, sent_started, is_expired};
-ghost use Rattle.sctp_outbound_queue.specs.Message.{is_expired_piece, is_expired_unsent, is_timed, share_ssns};
+ghost use Rattle.sctp_outbound_queue.specs.Message.{is_expired_piece, is_timed, looked_at, share_ssns};
 ghost use Rattle.sctp_outbound_queue.specs.Message.{moved_down, was_acknowledged};
-ghost use Rattle.sctp_outbound_queue.specs.Message.{sooner, sooner_of, sooner_piece};
+ghost use Rattle.sctp_outbound_queue.specs.Message.{soonest, sooner, sooner_of, sooner_piece};
 
 use bytes::Bytes;
 use sctp_wire_types::{Instant, PayloadProtocolIdentifier, Policy, StreamId};
@@ -210,10 +210,20 @@ impl PendingMessage {
         self.message.stream_identifier == id
     }
 
-    pub(crate) fn is_expired_unsent(&self, now: Instant) -> bool
-        ensures { result ≡ is_expired_unsent now self.now }
+    // The next deadline, where its own counts too; None: it is expired, and nothing of it was sent.
+    pub(crate) fn look(&self, now: Instant, next: &Option<Instant>) -> Option<Option<Instant>>
+        ensures { result ≡ looked_at now next.now self.now }
     {
-        !self.begun && self.message.is_expired(now)
+        match (self.message.policy, self.message.deadline) {
+            (Policy::Timed(_), Some(deadline)) => {
+                if deadline <= now && !self.begun {
+                    None
+                } else {
+                    Some(Some(sooner_of(*next, deadline)))
+                }
+            }
+            _ => Some(*next),
+        }
     }
 
     pub(crate) fn move_down(&mut self, dropped: &Attributes)
@@ -386,12 +396,22 @@ impl InFlight {
     }
 }
 
-fn sooner_of(next: Option<Instant>, deadline: Instant) -> Instant
+pub(crate) fn sooner_of(next: Option<Instant>, deadline: Instant) -> Instant
     ensures { result ≡ sooner_of next deadline }
 {
     match next {
         Some(next) if next < deadline => next,
         _ => deadline,
+    }
+}
+
+// The sooner of two deadlines, of which either may be none.
+pub(crate) fn soonest(next: Option<Instant>, other: &Option<Instant>) -> Option<Instant>
+    ensures { result ≡ soonest next other.now }
+{
+    match other {
+        Some(deadline) => Some(sooner_of(next, *deadline)),
+        None => next,
     }
 }
 

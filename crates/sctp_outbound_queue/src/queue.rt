@@ -439,9 +439,10 @@ impl OutboundQueue {
         if self.clocks.running == waiting && self.clocks.sent_run {
             return;
         }
-        let next_waiting = start_waiting(&mut self.pending, &self.clocks, now);
+        let covered = self.clocks.stretches.total();
+        let next = start_waiting(&mut self.pending, &self.clocks, now);
         let next_sent = start_sent(&mut self.in_flight, &self.clocks, now);
-        self.clocks = Clocks::started(waiting, next_waiting, next_sent);
+        self.clocks.start(waiting, covered, next, next_sent);
     }
 
     /// How many TSNs past the first one in flight the first piece of an expired message that is not abandoned yet is.
@@ -463,8 +464,11 @@ impl OutboundQueue {
     }
 
     /// Drops the first expired message of which nothing was sent. Later ordered messages of its stream and generation
-    /// that wait move down by one SSN, if it is an ordered one. Goes over what waits only where a deadline of it is over,
-    /// and at one moment over each message once for all calls, but for those that move.
+    /// that wait move down by one SSN, if it is an ordered one. Goes over what waits only where a deadline of it may be
+    /// over, and then over no stretch of it (there are 16 at most) of which each deadline is known to lie past `now`,
+    /// nor over what was pushed since `start_timed_messages` last had a time to start; at the greatest moment over
+    /// every stretch. Calls at one moment go over each message once for all that they drop, but for those that move,
+    /// as long as nothing is sent or started in between and no message of which a part was sent is over.
     pub fn expire_pending(&mut self, now: Instant) -> Option<Released>
         ensures { after_expiry now self.old ≡ (self.new, result) }
     {
@@ -472,7 +476,8 @@ impl OutboundQueue {
             return None;
         }
         let mut look = self.clocks.passed_by(now);
-        match drop_expired(&mut self.pending, &mut look, now) {
+        let stretches = &mut self.clocks.stretches;
+        match drop_expired(&mut self.pending, stretches, &mut look, now) {
             Some(dropped) => {
                 let bytes = dropped.bytes();
                 self.pending_bytes -= bytes;

@@ -1,21 +1,26 @@
 // What goes over a list of the queue.
 ghost use Rattle.std.specs.Prelude.{◌≡◌, ◌+◌, ◌-◌, ◌^◌, ◌<◌, ◌≤◌, ◌++◌, not, length, map, min, fold, find, take, drop};
+ghost use Rattle.std.specs.Prelude.{ℕ, None};
 ghost use Rattle.std.specs.Prelude.{position, slice_get, true};
 ghost use Rattle.std.specs.List.{list_any, position_or_len};
 ghost use Rattle.std.specs.Option.{option_copied, option_map};
 ghost use Rattle.sctp_outbound_queue.specs.Message.{piece_count, is_of, is_of_stream, is_waiting_of_stream};
 ghost use Rattle.sctp_outbound_queue.specs.Message.{is_outstanding, outstanding_bytes_of, is_expired_piece};
 ghost use Rattle.sctp_outbound_queue.specs.Message.{is_expired_unsent, marked_again, flagged, waiting_started};
+ghost use Rattle.sctp_outbound_queue.specs.Message.{with_start};
 ghost use Rattle.sctp_outbound_queue.specs.Message.{sent_started, moved_down, sent_once, is_third_report, picks};
 ghost use Rattle.sctp_outbound_queue.specs.Message.{reported_missing};
 ghost use Rattle.sctp_outbound_queue.specs.Outbound.{outstanding_of_message, pieces_waiting, after_piece, marked_of};
 ghost use Rattle.sctp_outbound_queue.specs.Outbound.{is_outstanding_piece, is_third_report_of, with_report};
 ghost use Rattle.sctp_outbound_queue.specs.Outbound.{past_acknowledged};
-ghost use Rattle.sctp_outbound_queue.specs.Clocks.{AllFrom, AllRun, AreSentTimely, AreWaitingTimely};
+ghost use Rattle.sctp_outbound_queue.specs.Clocks.{AllFrom, AllRun, AreSentTimely, AreWaitingTimely, Cover};
+ghost use Rattle.sctp_outbound_queue.specs.Stretches.{total};
 ghost use Rattle.sctp_outbound_queue.specs.Message.{sooner, sooner_piece};
 ghost use Rattle.sctp_outbound_queue.specs.Expiry.{without_expired};
 
 use crate::clocks::{Clocks, Look};
+use crate::message::soonest;
+use crate::stretches::{Stretch, Stretches};
 use crate::{Attributes, InFlight, PendingMessage, Retransmission};
 use sctp_wire_types::{Instant, StreamId};
 use std::collections::VecDeque;
@@ -160,17 +165,22 @@ pub(crate) fn any_waiting_of_stream(messages: &VecDeque<PendingMessage>, id: Str
 // it, or over all.
 pub(crate) fn drop_expired(
     messages: &mut VecDeque<PendingMessage>,
+    stretches: &mut Stretches,
     look: &mut Look,
     now: Instant,
 ) -> Option<PendingMessage>
     requires index { look.old.index ≤ position_or_len (is_expired_unsent now) messages.old.items }
     requires known { AllFrom look.old.next (take look.old.index messages.old.items) }
+    requires cover { Cover stretches.old messages.old.items }
+    requires rest { AllFrom None (drop (total stretches.old) messages.old.items) }
     ensures dropped { result ≡ find (is_expired_unsent now) messages.old.items }
     ensures left { messages.new.items ≡ without_expired now messages.old.items }
     ensures index { look.new.index ≡ position_or_len (is_expired_unsent now) messages.old.items }
     ensures known { AllFrom look.new.next (take look.new.index messages.old.items) }
+    ensures cover { Cover stretches.new messages.old.items }
+    ensures total { total stretches.new ≡ total stretches.old }
 {
-    *look = look_on(messages, *look, now);
+    *look = look_on(messages, stretches, *look, now);
     if look.index >= messages.len() {
         return None;
     }
@@ -179,35 +189,165 @@ pub(crate) fn drop_expired(
     Some(dropped)
 }
 
-// Goes on with a look, to the first expired message of which nothing was sent, or over all.
-fn look_on(messages: &mut VecDeque<PendingMessage>, look: Look, now: Instant) -> Look
-    requires index { look.index ≤ position_or_len (is_expired_unsent now) messages.old.items }
-    requires known { AllFrom look.next (take look.index messages.old.items) }
-    ensures same { messages.new.items ≡ messages.old.items }
-    ensures index { result.index ≡ position_or_len (is_expired_unsent now) messages.old.items }
-    ensures known { AllFrom result.next (take result.index messages.old.items) }
+// Goes on with a look, to the first expired message of which nothing was sent, or over all. A stretch of which no
+// deadline lies before a moment past `now` is not gone over, nor is what lies behind the stretches, which has none.
+fn look_on(
+    messages: &VecDeque<PendingMessage>,
+    stretches: &mut Stretches,
+    look: Look,
+    now: Instant,
+) -> Look
+    requires index { look.index ≤ position_or_len (is_expired_unsent now) messages.now.items }
+    requires known { AllFrom look.next (take look.index messages.now.items) }
+    requires cover { Cover stretches.old messages.now.items }
+    requires rest { AllFrom None (drop (total stretches.old) messages.now.items) }
+    ensures index { result.index ≡ position_or_len (is_expired_unsent now) messages.now.items }
+    ensures known { AllFrom result.next (take result.index messages.now.items) }
+    ensures cover { Cover stretches.new messages.now.items }
+    ensures total { total stretches.new ≡ total stretches.old }
 {
-    look_over(messages.make_contiguous(), look, now)
-}
-
-fn look_over(messages: &[PendingMessage], look: Look, now: Instant) -> Look
-    requires index { look.index ≤ position_or_len (is_expired_unsent now) messages.now }
-    requires known { AllFrom look.next (take look.index messages.now) }
-    ensures index { result.index ≡ position_or_len (is_expired_unsent now) messages.now }
-    ensures known { AllFrom result.next (take result.index messages.now) }
-{
-    let mut next = look.next;
-    for index in look.index..messages.len() {
-        let message = &messages[index];
-        if message.is_expired_unsent(now) {
-            return Look { index, next };
+    let mut look = look;
+    let mut end = 0;
+    for place in 0..stretches.len() {
+        let begin = end;
+        let stretch = stretches.as_slice()[place];
+        end += stretch.len;
+        if look.index < end {
+            look = look_at(messages, stretches, place, begin, look, now);
+            if look.index < end {
+                return look;
+            }
         }
-        next = message.message.sooner(next);
     }
     Look {
         index: messages.len(),
-        next,
+        next: look.next,
     }
+}
+
+// Goes on with a look over the stretch at a place, which begins at an index, to the first message that is to be
+// dropped, or to the end of the stretch. Where all of it was gone over its moment becomes the least deadline.
+fn look_at(
+    messages: &VecDeque<PendingMessage>,
+    stretches: &mut Stretches,
+    place: usize,
+    begin: usize,
+    look: Look,
+    now: Instant,
+) -> Look
+    requires place { place < length stretches.old }
+    requires begin { begin ≡ total (take place stretches.old) }
+    requires passed { begin ≤ look.index }
+    requires inside { look.index ≤ total (take (place + 1) stretches.old) }
+    requires index { look.index ≤ position_or_len (is_expired_unsent now) messages.now.items }
+    requires known { AllFrom look.next (take look.index messages.now.items) }
+    requires cover { Cover stretches.old messages.now.items }
+    ensures index { result.index ≤ position_or_len (is_expired_unsent now) messages.now.items }
+    ensures found { result.index < total (take (place + 1) stretches.old)
+        → result.index ≡ position_or_len (is_expired_unsent now) messages.now.items }
+    ensures known { AllFrom result.next (take result.index messages.now.items) }
+    ensures cover { Cover stretches.new messages.now.items }
+    ensures len { length stretches.new ≡ length stretches.old }
+    ensures same { (n : ℕ) → total (take n stretches.new) ≡ total (take n stretches.old) }
+{
+    let stretch = stretches.as_slice()[place];
+    let end = begin + stretch.len;
+    let from = look.index;
+    if now < stretch.next {
+        return Look {
+            index: end,
+            next: soonest(look.next, &Some(stretch.next)),
+        };
+    }
+    let (reached, least) = look_over(messages, look, end, now);
+    if from == begin && reached.index == end {
+        stretches.set(place, Stretch::new(stretch.len, &least));
+    }
+    reached
+}
+
+// Goes on with a look, to the first message that is to be dropped, or to an end. Answers the least deadline of what is
+// passed, too; None: it has none.
+fn look_over(
+    messages: &VecDeque<PendingMessage>,
+    look: Look,
+    end: usize,
+    now: Instant,
+) -> (Look, Option<Instant>)
+    requires end { end ≤ length messages.now.items }
+    requires begin { look.index ≤ end }
+    requires index { look.index ≤ position_or_len (is_expired_unsent now) messages.now.items }
+    requires known { AllFrom look.next (take look.index messages.now.items) }
+    ensures index { result.0.index ≡ min end (position_or_len (is_expired_unsent now) messages.now.items) }
+    ensures known { AllFrom result.0.next (take result.0.index messages.now.items) }
+    ensures least { AllFrom result.1 (take (result.0.index - look.index) (drop look.index messages.now.items)) }
+{
+    let (passed, least) = pass_over(messages, look.index, end - look.index, now);
+    let reached = Look {
+        index: look.index + passed,
+        next: soonest(look.next, &least),
+    };
+    (reached, least)
+}
+
+// How many of so many messages from an index on come before the first that is to be dropped, and their least deadline;
+// None: they have none.
+fn pass_over(
+    messages: &VecDeque<PendingMessage>,
+    from: usize,
+    count: usize,
+    now: Instant,
+) -> (usize, Option<Instant>)
+    requires { from + count ≤ length messages.now.items }
+    ensures passed { result.0 ≡ min count (position_or_len (is_expired_unsent now) (drop from messages.now.items)) }
+    ensures least { AllFrom result.1 (take result.0 (drop from messages.now.items)) }
+{
+    let (first, second) = messages.as_slices();
+    let end = from + count;
+    let wrap = first.len();
+    if end <= wrap {
+        return pass_each(&first[from..end], now);
+    }
+    if wrap <= from {
+        return pass_each(&second[from - wrap..end - wrap], now);
+    }
+    pass_across(messages, from, count, now)
+}
+
+// So it is with those of one part of the ring.
+fn pass_each(messages: &[PendingMessage], now: Instant) -> (usize, Option<Instant>)
+    ensures passed { result.0 ≡ position_or_len (is_expired_unsent now) messages.now }
+    ensures least { AllFrom result.1 (take result.0 messages.now) }
+{
+    let mut least = None;
+    for index in 0..messages.len() {
+        match messages[index].look(now, &least) {
+            Some(next) => least = next,
+            None => return (index, least),
+        }
+    }
+    (messages.len(), least)
+}
+
+// So it is with those that lie in both parts of the ring.
+fn pass_across(
+    messages: &VecDeque<PendingMessage>,
+    from: usize,
+    count: usize,
+    now: Instant,
+) -> (usize, Option<Instant>)
+    requires { from + count ≤ length messages.now.items }
+    ensures passed { result.0 ≡ min count (position_or_len (is_expired_unsent now) (drop from messages.now.items)) }
+    ensures least { AllFrom result.1 (take result.0 (drop from messages.now.items)) }
+{
+    let mut least = None;
+    for passed in 0..count {
+        match messages[from + passed].look(now, &least) {
+            Some(next) => least = next,
+            None => return (passed, least),
+        }
+    }
+    (count, least)
 }
 
 // Later messages move down by one SSN where the dropped one had one; of an unordered one nothing is gone over.
@@ -283,8 +423,9 @@ fn flag_each(pieces: &mut [InFlight], message_id: u64)
     }
 }
 
-// Lets the time of each message that waits run from `now` on where it does not run yet. Goes over those behind the ones
-// that are known to run. Answers a moment before which no deadline of any lies.
+// Lets the time of each message that waits run from `now` on where it does not run yet: of those behind the ones that
+// are known to run. Answers the least deadline of those behind the ones in stretches; None: they have none. Those of
+// them that are known to run have none.
 pub(crate) fn start_waiting(
     messages: &mut VecDeque<PendingMessage>,
     clocks: &Clocks,
@@ -292,41 +433,43 @@ pub(crate) fn start_waiting(
 ) -> Option<Instant>
     requires { AreWaitingTimely clocks.now messages.old.items }
     ensures started { messages.new.items ≡ map (waiting_started now) messages.old.items }
-    ensures from { AllFrom result messages.new.items }
+    ensures from { AllFrom result (drop (total clocks.now.stretches) messages.new.items) }
     ensures run { AllRun messages.new.items }
 {
-    start_those(messages.make_contiguous(), clocks, now)
-}
-
-fn start_those(messages: &mut [PendingMessage], clocks: &Clocks, now: Instant) -> Option<Instant>
-    requires { AreWaitingTimely clocks.now messages.old }
-    ensures started { messages.new ≡ map (waiting_started now) messages.old }
-    ensures from { AllFrom result messages.new }
-    ensures run { AllRun messages.new }
-{
     start_behind(messages, clocks.running, now);
-    sooner_behind(messages, clocks.running, clocks.next_waiting)
+    least_behind(messages, clocks.running)
 }
 
-fn start_behind(messages: &mut [PendingMessage], from: usize, now: Instant)
-    requires { from ≤ length messages.old }
-    ensures { messages.new ≡ take from messages.old ++ map (waiting_started now) (drop from messages.old) }
+// So it does with the messages from an index on, where the times of those before it run.
+fn start_behind(messages: &mut VecDeque<PendingMessage>, from: usize, now: Instant)
+    requires from { from ≤ length messages.old.items }
+    requires run { AllRun (take from messages.old.items) }
+    ensures { messages.new.items ≡ map (waiting_started now) messages.old.items }
 {
-    start_each_waiting(&mut messages[from..], now);
-}
-
-// A moment before which no deadline of any message lies, where none of the first so many lies before `next`.
-fn sooner_behind(messages: &[PendingMessage], from: usize, next: Option<Instant>) -> Option<Instant>
-    requires from { from ≤ length messages.now }
-    requires known { AllFrom next (take from messages.now) }
-    ensures { AllFrom result messages.now }
-{
-    let mut next = next;
     for index in from..messages.len() {
-        let message = &messages[index];
-        next = message.message.sooner(next);
+        start_at(messages, index, now);
     }
-    next
+}
+
+fn start_at(messages: &mut VecDeque<PendingMessage>, index: usize, now: Instant)
+    ensures { messages.new.items ≡ with_start now (slice_get messages.old.items index) index messages.old.items }
+{
+    if let Some(message) = messages.get_mut(index) {
+        message.start(now);
+    }
+}
+
+// The least deadline of the messages from an index on; None: they have none.
+fn least_behind(messages: &VecDeque<PendingMessage>, from: usize) -> Option<Instant>
+    requires { from ≤ length messages.now.items }
+    ensures { AllFrom result (drop from messages.now.items) }
+{
+    let mut least = None;
+    for behind in 0..messages.len() - from {
+        let message = &messages[from + behind];
+        least = message.message.sooner(least);
+    }
+    least
 }
 
 // So it does with the messages of pieces in flight: over all, or over none where all run.
@@ -350,14 +493,6 @@ fn start_all_sent(pieces: &mut VecDeque<InFlight>, now: Instant)
     ensures { pieces.new.items ≡ map (sent_started now) pieces.old.items }
 {
     start_each_sent(pieces.make_contiguous(), now);
-}
-
-fn start_each_waiting(messages: &mut [PendingMessage], now: Instant)
-    ensures { messages.new ≡ map (waiting_started now) messages.old }
-{
-    for message in messages.iter_mut() {
-        message.start(now);
-    }
 }
 
 fn start_each_sent(pieces: &mut [InFlight], now: Instant)

@@ -1,12 +1,14 @@
 use Rattle.std.proofs.Common.{◌≡◌, ◌∙◌, ap, sym}
 use Rattle.sctp_outbound_queue.specs.Waiting.{Waiting}
-use Rattle.sctp_outbound_queue.proofs.QueuedBytes.{kept_same, kept_dropped, dropped_bytes, expiry_is}
+use Rattle.sctp_outbound_queue.proofs.QueuedBytes.{kept_same, kept_dropped, kept_raised, dropped_bytes, expiry_is}
 use Rattle.sctp_outbound_queue.proofs.Timely.{look_begins, no_expiry}
 use Rattle.sctp_outbound_queue.proofs.queue.OutboundQueue.expire_pending.Goals as goal
 
 pub invariant_of-self-in-None : goal.invariant_of-self-in-None
 invariant_of-self-in-None c =
-    kept_same _ _ c.args.now c.self.inside.pending.items c.self.inside.in_flight.items c.self.invariant
+    kept_same _ _ c.args.now c.self.inside.pending.items c.self.inside.in_flight.items
+    (kept_raised c.self.inside.clocks c.drop_expired.new.stretches c.self.inside.pending.items
+    c.self.inside.in_flight.items c.self.invariant c.in-None.ensures.cover c.in-None.ensures.total)
     c.in-None.ensures.dropped c.in-None.ensures.left c.in-None.ensures.index c.in-None.ensures.known
 
 pub overflow_sub-self : goal.overflow_sub-self
@@ -19,7 +21,9 @@ overflow_sub-self c =
 pub invariant_of-self : goal.invariant_of-self
 invariant_of-self c =
     rw c.drop_at.ensures
-    (kept_dropped _ _ c.args.now c.self.inside.pending.items c.self.inside.in_flight.items c.self.invariant
+    (kept_dropped _ _ c.args.now c.self.inside.pending.items c.self.inside.in_flight.items
+    (kept_raised c.self.inside.clocks c.drop_expired.new.stretches c.self.inside.pending.items
+    c.self.inside.in_flight.items c.self.invariant c.in-Some.ensures.cover c.in-Some.ensures.total)
     c.in-Some.ensures.dropped c.in-Some.ensures.left c.bytes-bytes.ensures c.in-Some.ensures.index
     c.in-Some.ensures.known)
 
@@ -40,4 +44,5 @@ returns-then-not-is_over c =
 pub drop_expired-requires : goal.drop_expired-requires
 drop_expired-requires c =
     let begun = look_begins c.args.now c.self.inside.clocks c.self.inside.pending.items c.self.invariant.5.0 in
-    rw c.passed_by-look.ensures (record { index = begun.index; known = begun.known })
+    rw c.passed_by-look.ensures
+    (record { index = begun.index; known = begun.known; cover = c.self.invariant.5.0.5; rest = c.self.invariant.5.0.7 })

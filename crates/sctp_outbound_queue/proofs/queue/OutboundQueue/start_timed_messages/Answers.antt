@@ -5,11 +5,13 @@ use Rattle.sctp_outbound_queue.proofs.queue.OutboundQueue.start_timed_messages.G
 
 pub invariant_of-self : goal.invariant_of-self
 invariant_of-self c =
-    rw c.started-self-inside.ensures
-    (kept_started _ _ _ c.args.now c.self.inside.pending.items c.self.inside.in_flight.items c.self.invariant
-    c.start_waiting-next_waiting.ensures.started c.start_sent-next_sent.ensures.started (omega arith)
-    c.start_waiting-next_waiting.ensures.from c.start_waiting-next_waiting.ensures.run
-    c.start_sent-next_sent.ensures.timely)
+    rw c.start.ensures.started
+    (kept_started c.total-covered.result c.start_waiting-next.result _ _ c.self.inside.clocks c.args.now
+    c.self.inside.pending.items c.self.inside.in_flight.items c.self.invariant c.start_waiting-next.ensures.started
+    c.start_sent-next_sent.ensures.started (omega arith) c.total-covered.ensures
+    (rw c.total-covered.ensures c.start_waiting-next.ensures.from)
+    c.start_waiting-next.ensures.run c.start_sent-next_sent.ensures.timely c.start.ensures.total
+    c.start.ensures.cover)
 
 pub returns-then-self : goal.returns-then-self
 returns-then-self c =
