@@ -1,5 +1,5 @@
 -- A run that moves within a list, by one place at a time, and runs that move to the front at once.
-use Rattle.std.proofs.Common.{◌≡◌, ℕ, zero, suc, ◌+◌, ◌-◌, ◌<◌, ◌≤◌, List, [], ◌∷◌, ◌++◌, length, take, drop, insert, remove}
+use Rattle.std.proofs.Common.{◌≡◌, ℕ, zero, suc, ◌+◌, ◌-◌, ◌<◌, ◌≤◌, List, [], ◌∷◌, length, take, drop, insert}
 use Rattle.std.proofs.Common.{◌∙◌, refl, ap, sym, arith, slice_index_or, slice_set}
 use Rattle.std.specs.List.{copy_within}
 use Rattle.std.proofs.lemmas.List.{drop-take, length-drop}
@@ -33,22 +33,6 @@ pub moved_up : {X : Type 0} (at : ℕ) (xs ys seen zs us : List X) (x d : X) →
 moved_up at xs ys seen zs us x d l e s f g =
     let after : at + 1 ≡ suc at = omega arith in
     rw (g, f, s, e, after) (insert_up at xs x d l)
-
-pub insert_last : {X : Type 0} (n : ℕ) (xs : List X) (x : X) → n ≡ length xs → xs ++ x ∷ [] ≡ insert xs n x
-insert_last n [] x e = rw e refl
-insert_last zero (a ∷ xs) x e = absurd (omega (arith, e))
-insert_last (suc n) (a ∷ xs) x e = ap (λ ys. a ∷ ys) (insert_last n xs x (omega (arith, e)))
-
-pub insert_removed : {X : Type 0} (n : ℕ) (xs : List X) (d : X) → n < length xs
-    → xs ≡ insert (remove xs n) n (slice_index_or xs n d)
-insert_removed n [] d l = absurd (omega (arith, l))
-insert_removed zero (a ∷ xs) d l = refl
-insert_removed (suc n) (a ∷ xs) d l = ap (λ ys. a ∷ ys) (insert_removed n xs d (omega (arith, l)))
-
-pub take_inserted : {X : Type 0} (n : ℕ) (xs : List X) (x : X) → n ≡ length xs → take n (insert xs n x) ≡ xs
-take_inserted n [] x e = rw e refl
-take_inserted zero (a ∷ xs) x e = absurd (omega (arith, e))
-take_inserted (suc n) (a ∷ xs) x e = ap (λ ys. a ∷ ys) (take_inserted n xs x (omega (arith, e)))
 
 -- those behind the first k of n move to the front
 pub moved_to_front : {X : Type 0} (k n : ℕ) (xs ys : List X) → k ≤ n → n ≤ length xs → ys ≡ copy_within xs k n 0

@@ -22,7 +22,9 @@ use Rattle.sctp_received.specs.Received.{offsets_in, block, runs_from, runs_of, 
 use Rattle.sctp_received.specs.declared.few_runs.Run.{Run}
 use Rattle.sctp_received.specs.declared.runs.Runs.{Runs}
 use Rattle.sctp_received.specs.Runs.{run, until, spelled, AreApart, joined, added, before, after, cut, removed, passed}
-use Rattle.sctp_received.specs.Runs.{is_around, are_around, is_near, are_near, blocks_of, ended_before, Become, Spell}
+use Rattle.sctp_received.specs.Runs.{is_around, are_around, is_near, are_near, blocks_of, ended_before}
+use Rattle.sctp_received.specs.Runs.{Are, Become, Spell}
+use Rattle.sctp_received.proofs.KeptRuns.{were_kept}
 
 -- Numbers one after another.
 
@@ -678,7 +680,7 @@ blocks_apart p l (r ∷ rs) a near =
 pub spell_added : (t : ℕ) (old new : Runs) (ts us : List ℕ) → t < 2 ^ 32 → Spell old ts
     → Become old new (added t old.runs) → us ≡ insert_key nat_cmp ts t → Spell new us
 spell_added t old new ts us b spell become e = λ kept.
-    let is = become kept in
+    let is = were_kept old new (added t old.runs) become kept in
     let was = spell is.0 in
     let more = added_spelled 0 t old.runs (omega arith) b was.1 in (
       e ∙ ap (λ ks. insert_key nat_cmp ks t) was.0 ∙ sym more.0 ∙ ap spelled (sym is.1),
@@ -688,7 +690,7 @@ spell_added t old new ts us b spell become e = λ kept.
 pub spell_removed : (t : ℕ) (old new : Runs) (ts us : List ℕ) → Spell old ts
     → Become old new (removed t old.runs) → us ≡ remove_key (is_at (nat_cmp t)) ts → Spell new us
 spell_removed t old new ts us spell become e = λ kept.
-    let is = become kept in
+    let is = were_kept old new (removed t old.runs) become kept in
     let was = spell is.0 in
     let more = removed_spelled 0 t old.runs was.1 in (
       e ∙ ap (remove_key (is_at (nat_cmp t))) was.0 ∙ sym more.0 ∙ ap spelled (sym is.1),
@@ -696,14 +698,14 @@ spell_removed t old new ts us spell become e = λ kept.
     )
 
 pub spell_passed : (t : ℕ) (old new : Runs) (ts us : List ℕ) → Spell old ts
-    → (new.is_kept ≡ true → are_around t old.runs ≡ true)
-    → Become old new (passed t old.runs) → us ≡ filter (λ s. not (tsn_lte s t)) ts → Spell new us
-spell_passed t old new ts us spell around become e = λ kept.
-    let is = become kept in
-    let was = spell is.0 in
-    let more = passed_spelled 0 t old.runs was.1 (around kept) in (
-      e ∙ ap (filter (λ s. not (tsn_lte s t))) was.0 ∙ sym more.0 ∙ ap spelled (sym is.1),
-      subst (AreApart 0) (sym is.1) more.1,
+    → new.is_kept ≡ (old.is_kept && are_around t old.runs) → Are new (passed t old.runs)
+    → us ≡ filter (λ s. not (tsn_lte s t)) ts → Spell new us
+spell_passed t old new ts us spell where_kept are e = λ kept.
+    let both = and_parts old.is_kept (are_around t old.runs) (sym where_kept ∙ kept) in
+    let was = spell both.0 in
+    let more = passed_spelled 0 t old.runs was.1 both.1 in (
+      e ∙ ap (filter (λ s. not (tsn_lte s t))) was.0 ∙ sym more.0 ∙ ap spelled (sym (are kept)),
+      subst (AreApart 0) (sym (are kept)) more.1,
     )
 
 -- what the code says of near runs

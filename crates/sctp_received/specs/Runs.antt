@@ -1,6 +1,6 @@
 -- Maximal runs of TSNs, ascending as numbers.
 use Rattle.std.specs.Prelude.{◌≡◌, ℕ, suc, ◌<◌, ◌≤◌, ◌+◌, ◌-◌, ◌^◌, ◌&&◌, min, max, nat_lt, nat_le}
-use Rattle.std.specs.Prelude.{if◌then◌else◌, Bool, true, false, List, [], ◌∷◌, ◌++◌}
+use Rattle.std.specs.Prelude.{if◌then◌else◌, Bool, true, false, List, [], ◌∷◌, ◌++◌, length}
 use Rattle.std.specs.List.{range_with_len}
 use Rattle.sctp_serial.specs.Serial.{tsn_past}
 use Rattle.sctp_wire_types.specs.declared.chunk.GapAckBlock.{GapAckBlock}
@@ -93,9 +93,17 @@ blocks_of cumulative_tsn [] = []
 blocks_of cumulative_tsn (r ∷ rs) =
     block (tsn_past cumulative_tsn r.first) (tsn_past cumulative_tsn r.last) ∷ blocks_of cumulative_tsn rs
 
--- where the runs are kept, they were kept before, and are these now
+-- where the runs are kept, they are these
+abbrev pub Are : Runs → List Run → Type 0
+Are runs rs = runs.is_kept ≡ true → runs.runs ≡ rs
+
+-- there is room for these runs
+abbrev pub fit : List Run → Bool
+fit rs = nat_le (length rs) 64
+
+-- the runs are kept on where they were kept and there is room for these, and are these then
 abbrev pub Become : Runs → Runs → List Run → Type 0
-Become old new rs = new.is_kept ≡ true → (old.is_kept ≡ true) × (new.runs ≡ rs)
+Become old new rs = (new.is_kept ≡ (old.is_kept && fit rs)) × Are new rs
 
 -- where the runs are kept, they are those of exactly these TSNs
 abbrev pub Spell : Runs → List ℕ → Type 0

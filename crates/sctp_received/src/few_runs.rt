@@ -142,7 +142,8 @@ impl FewRuns {
     /// Without the run at a place, which moves to the end first.
     pub(crate) fn remove(&mut self, place: usize)
         requires { place < length self.old }
-        ensures { self.new ≡ remove self.old place }
+        ensures removed { self.new ≡ remove self.old place }
+        ensures fits { length self.new ≤ 64 }
     {
         let run = self.as_slice()[place];
         let last = self.len() - 1;

@@ -24,8 +24,8 @@ use std::marker::Model;
 #[derive(Drop)]
 pub struct ReceiveQueue {
     tsns: BTreeSet<u32>,
-    // Their runs, so that gap ack blocks are told without a walk over all TSNs: as long as there were no more than there
-    // is room for, and no numbers wrapped where TSNs up to one were removed, since the set was empty.
+    // Their runs, so that gap ack blocks are told without a walk over all TSNs: as long as there were no more than
+    // there is room for, and no numbers wrapped where TSNs up to one were removed, since the set was empty.
     runs: Runs,
 }
 

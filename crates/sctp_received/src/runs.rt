@@ -1,8 +1,8 @@
 // The maximal runs of the TSNs held, where there are few.
-ghost use Rattle.std.specs.Prelude.{◌≡◌, true, false, ◌+◌, ◌≤◌, ◌<◌, ◌++◌, ◌∷◌, [], length, take, drop, IfOk};
+ghost use Rattle.std.specs.Prelude.{◌≡◌, true, false, ◌&&◌, ◌+◌, ◌≤◌, ◌<◌, ◌++◌, ◌∷◌, [], length, take, drop, IfOk};
 ghost use Rattle.sctp_received.specs.Runs.{run, joined, added, removed, passed, ends_by, ended_before, before, after};
 ghost use Rattle.sctp_received.specs.Runs.{are_around, are_near, is_near, is_around};
-ghost use Rattle.sctp_received.specs.Runs.{blocks_of, Become};
+ghost use Rattle.sctp_received.specs.Runs.{blocks_of, Are, Become};
 
 use crate::few_runs::{FewRuns, Run};
 use sctp_wire_types::GapAckBlock;
@@ -22,7 +22,8 @@ pub(crate) struct Runs {
 impl Runs {
     /// The runs of no TSNs.
     pub(crate) fn new() -> Self
-        ensures { result.runs ≡ [] }
+        ensures runs { result.runs ≡ [] }
+        ensures kept { result.is_kept ≡ true }
     {
         Runs {
             runs: FewRuns::new(),
@@ -32,7 +33,8 @@ impl Runs {
 
     /// The runs of no TSNs, kept from here on.
     pub(crate) fn clear(&mut self)
-        ensures { self.new.runs ≡ [] }
+        ensures runs { self.new.runs ≡ [] }
+        ensures kept { self.new.is_kept ≡ true }
     {
         self.runs.clear();
         self.is_kept = true;
@@ -87,8 +89,8 @@ impl Runs {
 
     /// Without the TSNs that are at or below this one.
     pub(crate) fn pass(&mut self, tsn: u32)
-        ensures around { self.new.is_kept ≡ true → are_around tsn self.old.runs ≡ true }
-        ensures passed { Become self.old self.new (passed tsn self.old.runs) }
+        ensures kept { self.new.is_kept ≡ (self.old.is_kept && are_around tsn self.old.runs) }
+        ensures passed { Are self.new (passed tsn self.old.runs) }
     {
         self.is_kept = self.is_kept && are_around(self.runs.as_slice(), tsn);
         if self.is_kept {
@@ -98,7 +100,8 @@ impl Runs {
 
     // Without the TSNs that are not greater than this one as numbers.
     fn pass_numbers(&mut self, tsn: u32)
-        ensures { Become self.old self.new (passed tsn self.old.runs) }
+        ensures kept { self.new.is_kept ≡ self.old.is_kept }
+        ensures passed { Are self.new (passed tsn self.old.runs) }
     {
         let count = count_passed(self.runs.as_slice(), tsn);
         self.runs.remove_first(count);

@@ -1,10 +1,5 @@
-use Rattle.std.proofs.Common.{◌∙◌, ap, sym, length, arith}
-use Rattle.std.proofs.Common.{length-take-le}
+use Rattle.sctp_received.proofs.Places.{len_is}
 use Rattle.sctp_received.proofs.few_runs.FewRuns.len.Goals as goal
 
 pub returns-clause-len : goal.returns-clause-len
-returns-clause-len c =
-    sym (
-    length-take-le c.self.inside.len c.self.inside.places (omega (arith, c.self.invariant.0, c.self.invariant.1))
-    ) ∙
-    ap length c.self.view_is
+returns-clause-len c = len_is c.self.inside.len c.self.inside.places c.args.self.now c.self.invariant c.self.view_is

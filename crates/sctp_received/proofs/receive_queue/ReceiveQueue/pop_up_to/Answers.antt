@@ -21,5 +21,5 @@ invariant_of-self-else-len-eq0 c =
     filter_same _ (λ t. not (tsn_lte t c.args.tsn)) _ (λ x b f' k. search rules) _ _ c.retain.ensures.filtered in (
       rw kept (All-filter (λ t. not (tsn_lte t c.args.tsn)) (λ t. t < 2 ^ 32) _ c.self.invariant.0),
       spell_passed c.args.tsn c.self.inside.runs c.pass.new.self c.self.inside.tsns.keys c.retain.new.self.keys
-          c.self.invariant.1 c.pass.ensures.around c.pass.ensures.passed kept,
+          c.self.invariant.1 c.pass.ensures.kept c.pass.ensures.passed kept,
     )
