@@ -1,7 +1,7 @@
 -- What is acknowledged and released piece by piece is what all blocks name (RFC 4960 section 6.2.1).
 use Rattle.std.proofs.Common.{◌≡◌, ℕ, zero, suc, ◌+◌, ◌-◌, ◌%◌, ◌^◌, ◌<◌, ◌≤◌, Bool, true, false, ◌&&◌, ◌||◌, cond, eqb}
-use Rattle.std.proofs.Common.{leb, ltb, min, not, Option, List, [], ◌∷◌, Some, None, length, take, drop, ◌++◌, set, get_or}
-use Rattle.std.proofs.Common.{slice_get, refl, ap, sym, subst, ◌∙◌, arith}
+use Rattle.std.proofs.Common.{leb, ltb, min, not, Option, List, [], ◌∷◌, Some, None, length, take, drop, ◌++◌, set}
+use Rattle.std.proofs.Common.{get_or, slice_get, refl, ap, sym, subst, ◌∙◌, arith}
 use Rattle.std.proofs.lemmas.Bool.{eq-eqb, ne_eqb}
 use Rattle.std.proofs.lemmas.Bool.Decides.{nat_tests}
 use Rattle.std.proofs.Math.ListN.{drop_of_length-le}
