@@ -1,6 +1,7 @@
 // The sum: of short inputs sixteen bytes a step out of one table, of long ones by folding.
 ghost use Rattle.std.specs.Prelude.{◌≡◌, ◌+◌, ◌*◌, ◌%◌, ◌<◌, ◌≤◌, [], ◌∷◌, length};
 ghost use Rattle.sctp_crc.specs.Crc.{crc_bits, crc_run, crc32c as sum_of_bytes, sum_of_packet};
+ghost use Rattle.sctp_crc.specs.Fold.{IsKept, taken};
 
 use crate::fold::{KEPT_LEN, Kept, state_bytes};
 use crate::table::TABLE;
@@ -86,6 +87,38 @@ fn run_looked_up(start: u32, bytes: &[u8]) -> u32
     state
 }
 
+// The next sixteen bytes are folded: they count as zero, and what is kept has them.
+#[inline(always)]
+fn fold_block(kept: Kept, bytes: &[u8]) -> (Kept, &[u8])
+    requires kept { IsKept kept }
+    requires enough { 128 ≤ length bytes.now }
+    ensures kept { IsKept result.0 }
+    ensures rest { length result.1.now + 16 ≡ length bytes.now }
+    ensures same { crc_run 0 (taken result.0 result.1.now) ≡ crc_run 0 (taken kept bytes.now) }
+{
+    let (block, rest) = bytes.split_at(16);
+    let newest = kept.taken(u8x16::from_slice(block));
+    (kept.followed_by(newest), rest)
+}
+
+// As many bytes are folded as are kept, so that each vector comes to stand where it stood, and none has to move.
+#[inline(always)]
+fn fold_seven(kept: Kept, bytes: &[u8]) -> (Kept, &[u8])
+    requires kept { IsKept kept }
+    requires enough { 224 ≤ length bytes.now }
+    ensures kept { IsKept result.0 }
+    ensures rest { length result.1.now + 112 ≡ length bytes.now }
+    ensures same { crc_run 0 (taken result.0 result.1.now) ≡ crc_run 0 (taken kept bytes.now) }
+{
+    let (kept, rest) = fold_block(kept, bytes);
+    let (kept, rest) = fold_block(kept, rest);
+    let (kept, rest) = fold_block(kept, rest);
+    let (kept, rest) = fold_block(kept, rest);
+    let (kept, rest) = fold_block(kept, rest);
+    let (kept, rest) = fold_block(kept, rest);
+    fold_block(kept, rest)
+}
+
 // The state goes into the first bytes. All but the last 112 bytes are folded, and count as zero.
 fn run_folded(start: u32, blocks: &[u8]) -> u32
     requires enough { 128 ≤ length blocks.now }
@@ -94,10 +127,11 @@ fn run_folded(start: u32, blocks: &[u8]) -> u32
 {
     let (first, mut rest) = blocks.split_at(16);
     let mut kept = Kept::new().followed_by(u8x16::from_slice(first) ^ state_bytes(start));
+    'sevens: while rest.len() >= 2 * KEPT_LEN {
+        (kept, rest) = fold_seven(kept, rest);
+    }
     'folds: while rest.len() > KEPT_LEN {
-        let (block, after) = rest.split_at(16);
-        kept = kept.followed_by(kept.taken(u8x16::from_slice(block)));
-        rest = after;
+        (kept, rest) = fold_block(kept, rest);
     }
     run_looked_up(0, &kept.last_taken(rest))
 }
