@@ -220,8 +220,8 @@ impl Association {
     }
 
     // DATA (RFC 4960 section 6.2). What is new is taken in, in whatever order it comes; without credit only what fills
-    // a gap. It stands apart, so that DATA does not pay for the room that the handlers of other chunks take.
-    #[inline(never)]
+    // a gap. It is put into its caller, as most chunks are DATA.
+    #[inline(always)]
     #[tactic(auto, unfolding(crate::specs::Chunks::on_data))]
     fn on_data(&mut self, piece: ChunkPayloadData, trigger: AckTrigger) -> Result<Flow, AllocError>
         ensures exact { IfOk result (λ flow. on_data self.old piece trigger ≡ (self.new, flow)) }
@@ -243,7 +243,9 @@ impl Association {
         self.ask_or_fault(fault, trigger, immediate)
     }
 
-    // Behind DATA that is no fault, a request of the peer that waited for it is performed.
+    // Behind DATA that is no fault, a request of the peer that waited for it is performed. It is put into its callers,
+    // since nearly all DATA comes here.
+    #[inline(always)]
     fn ask_or_fault(
         &mut self,
         fault: Option<Error>,

@@ -158,7 +158,9 @@ impl Association {
         Ok(())
     }
 
-    // Writes a copy of the bytes, under this payload type or else the stream's.
+    // Writes a copy of the bytes, under this payload type or else the stream's. It is put into its callers, which do
+    // nothing else.
+    #[inline(always)]
     #[tactic(auto, using(crate::proofs::CallsLeadOn::write_leads_on))]
     pub(crate) fn write_stream(
         &mut self,

@@ -474,7 +474,9 @@ impl Sender {
         Ok(any)
     }
 
-    // Puts the next piece that waits in flight, and answers whether there was one.
+    // Puts the next piece that waits in flight, and answers whether there was one. Each new piece goes this way, so
+    // this function is put into its callers.
+    #[inline(always)]
     #[tactic(auto, unfolding(crate::specs::Sender::sent_one))]
     fn send_one(&mut self, out: &mut DataPackets, now: Instant) -> Result<bool, AllocError>
         ensures sender { OnOk result ((sent_one self.old.queue.pending self.old now).0 ≡ self.new) }
@@ -510,7 +512,8 @@ impl Sender {
 }
 
 // Gives an acknowledged piece's bytes back to its stream, those that were outstanding until then. Where the stream
-// falls to its low mark it is gathered.
+// falls to its low mark it is gathered. Each piece comes here once, so this function is put into its callers.
+#[inline(always)]
 pub(crate) fn release(streams: &mut Streams, fallen: &mut Fallen, piece: &InFlight)
     ensures released { streams.new ≡
         released_in streams.old piece.now.message.stream_identifier piece.now.message.generation

@@ -93,6 +93,8 @@ impl OutboundQueue {
 
     /// Adds a message behind those that wait, under the next message identifier. A sum of bytes that reaches the
     /// greatest u64 and a message identifier past it count as want of memory.
+    // It is put into its callers, so that the message is not handed on once more.
+    #[inline(always)]
     #[tactic(auto, using(crate::proofs::Timely::timely_more))]
     pub fn push(&mut self, mut message: PendingMessage) -> Result<(), AllocError>
         ensures ok { OnOk result (self.new ≡ with_message self.old message) }

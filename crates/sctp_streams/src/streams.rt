@@ -164,6 +164,8 @@ impl Streams {
     }
 
     /// Takes out the message of a live stream that is to be read next.
+    // It is put into its callers, so that the message is not handed on once more.
+    #[inline(always)]
     pub fn read(&mut self, id: StreamId) -> Option<Chunks>
         ensures { read_in self.old id ≡ (self.new, result) }
     {

@@ -94,6 +94,8 @@ impl DataPackets {
 
     /// Ends the packet that is being written; the next DATA begins a new one. It lacks memory only where a packet is
     /// being written.
+    // It is put into its callers, some of which call it where most often no packet is being written.
+    #[inline(always)]
     pub fn close(&mut self) -> Result<(), AllocError>
         ensures exact { OnOk result (self.new ≡ closed self.old) }
         ensures grows { OnErr result (nat_lt 0 (length self.old.current) ≡ true) }

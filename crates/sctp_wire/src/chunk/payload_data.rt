@@ -88,7 +88,8 @@ fn header_of(piece: &ChunkPayloadData, len: usize) -> [u8; 16]
     ]
 }
 
-// The payload goes straight into the output.
+// The payload goes straight into the output. Each DATA chunk is written here, so this function is put into its callers.
+#[inline(always)]
 pub(crate) fn put_payload_data(out: &mut Vec<u8>, piece: &ChunkPayloadData) -> Result<(), WireError>
     ensures bytes { Appends result (frame_fits (framed (payload_data_flags piece.now) (payload_data_value piece.now)))
         out.old.items out.new.items (padded (framed (payload_data_flags piece.now) (payload_data_value piece.now))) }
