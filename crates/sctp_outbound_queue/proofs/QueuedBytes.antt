@@ -208,11 +208,6 @@ kept_sent {p} clocks now ms ps kept first left same more bytes =
       timely,
     )
 
--- the bytes of a message, of one that is the same
-pub bytes_same : {b : ℕ} {m n : Waiting} → b ≡ min (message_bytes m) (2 ^ 64 - 1) → m ≡ n
-    → b ≡ min (message_bytes n) (2 ^ 64 - 1)
-bytes_same bytes same = bytes ∙ ap (λ m. min (message_bytes m) (2 ^ 64 - 1)) same
-
 -- the rest of the first message is dropped, and a marker stands for it
 pub kept_marker : {ms2 : List Waiting} {ps2 : List InFlight} {w o k b s : ℕ} (clocks : Clocks) (m : Waiting)
     (ms : List Waiting) (ps : List InFlight) → AreKept ms ps w o k s clocks → Some m ≡ slice_get ms 0

@@ -1,4 +1,4 @@
-use Rattle.std.specs.Prelude.{◌≡◌, ℕ, Bool, List, [], map}
+use Rattle.std.specs.Prelude.{ℕ, Bool, List}
 use Rattle.sctp_outbound_queue.specs.declared.message.Attributes.{Attributes}
 
 -- a message that waits to be sent, or the rest of one
@@ -10,10 +10,3 @@ pub record Waiting : Type 0 where
   pub user_data : List ℕ
   -- the pieces behind that one, in their order
   pub rest : List (List ℕ)
-
--- a message that left, of which no bytes are kept
-abbrev pub emptied : Waiting → Waiting
-emptied m = record m { user_data = []; rest = [] }
-
-abbrev pub AreEmpty : List Waiting → Type 0
-AreEmpty left = map emptied left ≡ left

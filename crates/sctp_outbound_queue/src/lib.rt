@@ -6,8 +6,6 @@ mod clocks;
 mod laws;
 mod message;
 mod queue;
-mod queued;
-mod spares;
 mod stretches;
 mod walks;
 

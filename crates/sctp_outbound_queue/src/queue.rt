@@ -18,12 +18,10 @@ ghost use Rattle.sctp_outbound_queue.specs.Expiry.{all_started, first_tsn_that, 
 ghost use Rattle.sctp_outbound_queue.specs.Expiry.{after_tail_expiry, is_expired_tail};
 
 use crate::clocks::Clocks;
-use crate::queued::Queued;
-use crate::spares::Spares;
 use crate::walks::{
     any_of_message, any_of_stream, any_waiting_of_stream, bytes_of_message, count_marked,
     drop_expired, first_expired_piece, first_missing, first_not_abandoned, first_outstanding,
-    flag_all, leave, mark_all, next_sent, pieces_of, report_missing, skip_acknowledged, start_sent,
+    flag_all, mark_all, next_sent, pieces_of, report_missing, skip_acknowledged, start_sent,
     start_waiting, take_piece,
 };
 use crate::{Attributes, InFlight, PendingMessage, Retransmission};
@@ -43,7 +41,7 @@ pub struct Released {
 /// (RFC 4960 section 6.1). Only what is acknowledged cumulatively leaves it there.
 #[derive(Debug, Drop)]
 pub struct OutboundQueue {
-    pending: VecDeque<Queued>,
+    pending: VecDeque<PendingMessage>,
     in_flight: VecDeque<InFlight>,
     first_tsn: u32,
     next_message_id: u64,
@@ -57,8 +55,6 @@ pub struct OutboundQueue {
     settled: usize,
     // What is known of the times of messages.
     clocks: Clocks,
-    // Blocks of messages that wait no more.
-    spares: Spares,
 }
 
 impl Model for OutboundQueue {
@@ -92,7 +88,6 @@ impl OutboundQueue {
             marked: 0,
             settled: 0,
             clocks: Clocks::new(),
-            spares: Spares::new(alloc),
         }
     }
 
@@ -115,8 +110,7 @@ impl OutboundQueue {
         message.accept(self.next_message_id);
         let is_timed = message.message.is_timed();
         let others = self.pending.len();
-        let queued = self.spares.place(message, others)?;
-        self.pending.push_back(queued)?;
+        self.pending.push_back(message)?;
         self.next_message_id += 1;
         self.pending_bytes = waiting;
         self.clocks.accept(is_timed, others);
@@ -127,7 +121,7 @@ impl OutboundQueue {
     pub fn peek_pending(&self) -> Option<&PendingMessage>
         ensures { option_copied result ≡ slice_get self.now.pending 0 }
     {
-        Some(self.pending.front()?)
+        self.pending.front()
     }
 
     /// Nothing waits and nothing is in flight.
@@ -229,7 +223,7 @@ impl OutboundQueue {
         ensures err { OnErr result (self.new ≡ self.old) }
     {
         self.in_flight.reserve(1)?;
-        if let Some(piece) = take_piece(&mut self.pending, &mut self.spares, now) {
+        if let Some(piece) = take_piece(&mut self.pending, now) {
             let bytes = piece.outstanding_bytes();
             self.clocks.send(&piece.message, piece.ending_fragment);
             self.in_flight.push_back_reserved(piece);
@@ -414,17 +408,16 @@ impl OutboundQueue {
         ensures ok { IfOk result (λ bytes. tail_dropped self.old message_id ≡ (self.new, bytes)) }
         ensures err { OnErr result (self.new ≡ self.old) }
     {
-        let Some(queued) = self.pending.front() else {
+        let Some(first) = self.pending.front() else {
             return Ok(0);
         };
-        let first: &PendingMessage = queued;
         if first.message.message_id != message_id {
             return Ok(0);
         }
         let bytes = first.bytes();
         self.in_flight.push_back(InFlight::marker(first.message))?;
         self.clocks.send(&first.message, true);
-        leave(&mut self.pending, &mut self.spares);
+        self.pending.pop_front();
         self.pending_bytes -= bytes;
         Ok(bytes)
     }
@@ -489,11 +482,12 @@ impl OutboundQueue {
         match drop_expired(&mut self.pending, stretches, &mut look, now) {
             Some(dropped) => {
                 let bytes = dropped.bytes();
-                let message = dropped.message;
                 self.pending_bytes -= bytes;
                 self.clocks.drop_at(look, now);
-                self.spares.keep(dropped);
-                Some(Released { message, bytes })
+                Some(Released {
+                    message: dropped.message,
+                    bytes,
+                })
             }
             None => {
                 self.clocks.next_waiting = look.next;

@@ -20,37 +20,22 @@ ghost use Rattle.sctp_outbound_queue.specs.Expiry.{without_expired};
 
 use crate::clocks::{Clocks, Look};
 use crate::message::soonest;
-use crate::queued::Queued;
-use crate::spares::Spares;
 use crate::stretches::{Stretch, Stretches};
 use crate::{Attributes, InFlight, PendingMessage, Retransmission};
 use sctp_wire_types::{Instant, StreamId};
 use std::collections::VecDeque;
 
 // Takes out the next piece of the first message, sent once at `now`.
-pub(crate) fn take_piece(
-    pending: &mut VecDeque<Queued>,
-    spares: &mut Spares,
-    now: Instant,
-) -> Option<InFlight>
+pub(crate) fn take_piece(pending: &mut VecDeque<PendingMessage>, now: Instant) -> Option<InFlight>
     ensures piece { result ≡ option_map (sent_once now) (slice_get pending.old.items 0) }
     ensures left { pending.new.items ≡ after_piece pending.old.items }
 {
     let message = pending.front_mut()?;
     let piece = message.take_piece(now);
     if piece.ending_fragment {
-        leave(pending, spares);
+        pending.pop_front();
     }
     Some(piece)
-}
-
-// Takes out the first message, and keeps its block.
-pub(crate) fn leave(pending: &mut VecDeque<Queued>, spares: &mut Spares)
-    ensures { pending.new.items ≡ drop 1 pending.old.items }
-{
-    if let Some(left) = pending.pop_front() {
-        spares.keep(left);
-    }
 }
 
 // The outstanding bytes of a message, at most the greatest u64.
@@ -69,13 +54,13 @@ fn add_bytes_of_message(pieces: &VecDeque<InFlight>, message_id: u64) -> u64
 }
 
 // The number of pieces that wait, at most the greatest usize.
-pub(crate) fn pieces_of(messages: &VecDeque<Queued>) -> usize
+pub(crate) fn pieces_of(messages: &VecDeque<PendingMessage>) -> usize
     ensures { result ≡ min (pieces_waiting messages.now.items) (2 ^ 64 - 1) }
 {
     add_pieces(messages)
 }
 
-fn add_pieces(messages: &VecDeque<Queued>) -> usize
+fn add_pieces(messages: &VecDeque<PendingMessage>) -> usize
     ensures { result ≡ fold (λ sum m. min (sum + min (piece_count m) (2 ^ 64 - 1)) (2 ^ 64 - 1)) 0 messages.now.items }
 {
     messages.iter().fold(0usize, |sum, message| {
@@ -170,7 +155,7 @@ pub(crate) fn any_of_stream(pieces: &VecDeque<InFlight>, id: StreamId) -> bool
     pieces.iter().any(|piece| piece.is_of_stream(id))
 }
 
-pub(crate) fn any_waiting_of_stream(messages: &VecDeque<Queued>, id: StreamId) -> bool
+pub(crate) fn any_waiting_of_stream(messages: &VecDeque<PendingMessage>, id: StreamId) -> bool
     ensures { result ≡ list_any (is_waiting_of_stream id) messages.now.items }
 {
     messages.iter().any(|message| message.is_of_stream(id))
@@ -179,11 +164,11 @@ pub(crate) fn any_waiting_of_stream(messages: &VecDeque<Queued>, id: StreamId) -
 // Takes out the first expired message of which nothing was sent, and gives its SSN to the next one. A look goes on to
 // it, or over all.
 pub(crate) fn drop_expired(
-    messages: &mut VecDeque<Queued>,
+    messages: &mut VecDeque<PendingMessage>,
     stretches: &mut Stretches,
     look: &mut Look,
     now: Instant,
-) -> Option<Queued>
+) -> Option<PendingMessage>
     requires index { look.old.index ≤ position_or_len (is_expired_unsent now) messages.old.items }
     requires known { AllFrom look.old.next (take look.old.index messages.old.items) }
     requires cover { Cover stretches.old messages.old.items }
@@ -206,7 +191,12 @@ pub(crate) fn drop_expired(
 
 // Goes on with a look, to the first expired message of which nothing was sent, or over all. A stretch of which no
 // deadline lies before a moment past `now` is not gone over, nor is what lies behind the stretches, which has none.
-fn look_on(messages: &VecDeque<Queued>, stretches: &mut Stretches, look: Look, now: Instant) -> Look
+fn look_on(
+    messages: &VecDeque<PendingMessage>,
+    stretches: &mut Stretches,
+    look: Look,
+    now: Instant,
+) -> Look
     requires index { look.index ≤ position_or_len (is_expired_unsent now) messages.now.items }
     requires known { AllFrom look.next (take look.index messages.now.items) }
     requires cover { Cover stretches.old messages.now.items }
@@ -238,7 +228,7 @@ fn look_on(messages: &VecDeque<Queued>, stretches: &mut Stretches, look: Look, n
 // Goes on with a look over the stretch at a place, which begins at an index, to the first message that is to be
 // dropped, or to the end of the stretch. Where all of it was gone over its moment becomes the least deadline.
 fn look_at(
-    messages: &VecDeque<Queued>,
+    messages: &VecDeque<PendingMessage>,
     stretches: &mut Stretches,
     place: usize,
     begin: usize,
@@ -279,7 +269,7 @@ fn look_at(
 // Goes on with a look, to the first message that is to be dropped, or to an end. Answers the least deadline of what is
 // passed, too; None: it has none.
 fn look_over(
-    messages: &VecDeque<Queued>,
+    messages: &VecDeque<PendingMessage>,
     look: Look,
     end: usize,
     now: Instant,
@@ -303,7 +293,7 @@ fn look_over(
 // How many of so many messages from an index on come before the first that is to be dropped, and their least deadline;
 // None: they have none.
 fn pass_over(
-    messages: &VecDeque<Queued>,
+    messages: &VecDeque<PendingMessage>,
     from: usize,
     count: usize,
     now: Instant,
@@ -325,7 +315,7 @@ fn pass_over(
 }
 
 // So it is with those of one part of the ring.
-fn pass_each(messages: &[Queued], now: Instant) -> (usize, Option<Instant>)
+fn pass_each(messages: &[PendingMessage], now: Instant) -> (usize, Option<Instant>)
     ensures passed { result.0 ≡ position_or_len (is_expired_unsent now) messages.now }
     ensures least { AllFrom result.1 (take result.0 messages.now) }
 {
@@ -341,7 +331,7 @@ fn pass_each(messages: &[Queued], now: Instant) -> (usize, Option<Instant>)
 
 // So it is with those that lie in both parts of the ring.
 fn pass_across(
-    messages: &VecDeque<Queued>,
+    messages: &VecDeque<PendingMessage>,
     from: usize,
     count: usize,
     now: Instant,
@@ -361,7 +351,7 @@ fn pass_across(
 }
 
 // Later messages move down by one SSN where the dropped one had one; of an unordered one nothing is gone over.
-fn move_down_from(messages: &mut VecDeque<Queued>, index: usize, dropped: &PendingMessage)
+fn move_down_from(messages: &mut VecDeque<PendingMessage>, index: usize, dropped: &PendingMessage)
     requires { index ≤ length messages.old.items }
     ensures { messages.new.items ≡ take index messages.old.items
         ++ map (moved_down dropped.now.message) (drop index messages.old.items) }
@@ -370,7 +360,7 @@ fn move_down_from(messages: &mut VecDeque<Queued>, index: usize, dropped: &Pendi
         return;
     }
     let later = messages.make_contiguous();
-    move_down(&mut later[index..], dropped.message);
+    move_down(&mut later[index..], &dropped.message);
 }
 
 pub(crate) fn flag_all(pieces: &mut VecDeque<InFlight>, message_id: u64)
@@ -437,7 +427,7 @@ fn flag_each(pieces: &mut [InFlight], message_id: u64)
 // are known to run. Answers the least deadline of those behind the ones in stretches; None: they have none. Those of
 // them that are known to run have none.
 pub(crate) fn start_waiting(
-    messages: &mut VecDeque<Queued>,
+    messages: &mut VecDeque<PendingMessage>,
     clocks: &Clocks,
     now: Instant,
 ) -> Option<Instant>
@@ -451,7 +441,7 @@ pub(crate) fn start_waiting(
 }
 
 // So it does with the messages from an index on, where the times of those before it run.
-fn start_behind(messages: &mut VecDeque<Queued>, from: usize, now: Instant)
+fn start_behind(messages: &mut VecDeque<PendingMessage>, from: usize, now: Instant)
     requires from { from ≤ length messages.old.items }
     requires run { AllRun (take from messages.old.items) }
     ensures { messages.new.items ≡ map (waiting_started now) messages.old.items }
@@ -461,7 +451,7 @@ fn start_behind(messages: &mut VecDeque<Queued>, from: usize, now: Instant)
     }
 }
 
-fn start_at(messages: &mut VecDeque<Queued>, index: usize, now: Instant)
+fn start_at(messages: &mut VecDeque<PendingMessage>, index: usize, now: Instant)
     ensures { messages.new.items ≡ with_start now (slice_get messages.old.items index) index messages.old.items }
 {
     if let Some(message) = messages.get_mut(index) {
@@ -470,7 +460,7 @@ fn start_at(messages: &mut VecDeque<Queued>, index: usize, now: Instant)
 }
 
 // The least deadline of the messages from an index on; None: they have none.
-fn least_behind(messages: &VecDeque<Queued>, from: usize) -> Option<Instant>
+fn least_behind(messages: &VecDeque<PendingMessage>, from: usize) -> Option<Instant>
     requires { from ≤ length messages.now.items }
     ensures { AllFrom result (drop from messages.now.items) }
 {
@@ -513,12 +503,11 @@ fn start_each_sent(pieces: &mut [InFlight], now: Instant)
     }
 }
 
-// The attributes are handed on by value, so that they are not read anew for each message.
-fn move_down(messages: &mut [Queued], dropped: Attributes)
-    ensures { messages.new ≡ map (moved_down dropped) messages.old }
+fn move_down(messages: &mut [PendingMessage], dropped: &Attributes)
+    ensures { messages.new ≡ map (moved_down dropped.now) messages.old }
 {
     for message in messages.iter_mut() {
-        message.move_down(&dropped);
+        message.move_down(dropped);
     }
 }
 

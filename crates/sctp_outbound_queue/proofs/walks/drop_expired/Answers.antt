@@ -24,6 +24,6 @@ returns-clause-dropped c =
 pub returns-clause-left : goal.returns-clause-left
 returns-clause-left c =
     let many = c.args.messages.now.ok.0 in
-    c.move_down_from.ensures ∙ rw (c.in_ok-dropped.ensures.items, c.deref.ensures)
+    c.move_down_from.ensures ∙ rw c.in_ok-dropped.ensures.items
     (dropped_at c.args.now c.args.messages.now.items c.look_on.result.index c.in_ok-dropped.dropped
     (sym c.look_on.ensures.index) (omega (arith, many, c.len.ensures)) c.in_ok-dropped.ensures.value)

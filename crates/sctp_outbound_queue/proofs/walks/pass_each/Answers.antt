@@ -1,20 +1,16 @@
-use Rattle.std.proofs.Common.{◌∙◌, ap}
-use Rattle.sctp_outbound_queue.specs.Message.{looked_at}
 use Rattle.sctp_outbound_queue.proofs.Covered.{each_here, each_on}
 use Rattle.sctp_outbound_queue.proofs.ExpiredUnsent.{all_passed}
 use Rattle.sctp_outbound_queue.proofs.walks.pass_each.Goals as goal
 
 pub returns-in-None-clause-passed : goal.returns-in-None-clause-passed
 returns-in-None-clause-passed c =
-    let seen = c.in-None.ensures ∙ ap (looked_at c.args.now c.loop-index.least) c.deref.ensures in
     each_here c.args.now c.loop-index.least c.loop-index.index c.args.messages.now c.index-messages-index.result
-    c.loop-index-test.true c.index-messages-index.is seen c.loop-index.invariant.none
+    c.loop-index-test.true c.index-messages-index.is c.in-None.ensures c.loop-index.invariant.none
 
 pub loop-index-preserved : goal.loop-index-preserved
 loop-index-preserved c =
-    let seen = c.in-Some.ensures ∙ ap (looked_at c.args.now c.loop-index.least) c.deref.ensures in
     let more = each_on c.args.now c.loop-index.least c.in-Some.next c.loop-index.index c.args.messages.now
-    c.index-messages-index.result c.loop-index-test.true c.index-messages-index.is seen
+    c.index-messages-index.result c.loop-index-test.true c.index-messages-index.is c.in-Some.ensures
     c.loop-index.invariant.none c.loop-index.invariant.known in
     record { none = more.0; known = more.1 }
 

@@ -1,7 +1,6 @@
 use Rattle.std.proofs.Common.{◌≡◌, ◌∙◌, ap, sym}
 use Rattle.sctp_outbound_queue.specs.Waiting.{Waiting}
-use Rattle.sctp_outbound_queue.proofs.QueuedBytes.{bytes_same, dropped_bytes, expiry_is}
-use Rattle.sctp_outbound_queue.proofs.QueuedBytes.{kept_dropped, kept_raised, kept_same}
+use Rattle.sctp_outbound_queue.proofs.QueuedBytes.{kept_same, kept_dropped, kept_raised, dropped_bytes, expiry_is}
 use Rattle.sctp_outbound_queue.proofs.Timely.{look_begins, no_expiry}
 use Rattle.sctp_outbound_queue.proofs.queue.OutboundQueue.expire_pending.Goals as goal
 
@@ -16,7 +15,7 @@ pub overflow_sub-self : goal.overflow_sub-self
 overflow_sub-self c =
     (
     dropped_bytes _ c.args.now c.self.inside.pending.items c.self.inside.in_flight.items c.self.invariant
-    c.in-Some.ensures.dropped (bytes_same c.bytes-bytes.ensures c.deref.ensures)
+    c.in-Some.ensures.dropped c.bytes-bytes.ensures
     ).1
 
 pub invariant_of-self : goal.invariant_of-self
@@ -25,16 +24,15 @@ invariant_of-self c =
     (kept_dropped _ _ c.args.now c.self.inside.pending.items c.self.inside.in_flight.items
     (kept_raised c.self.inside.clocks c.drop_expired.new.stretches c.self.inside.pending.items
     c.self.inside.in_flight.items c.self.invariant c.in-Some.ensures.cover c.in-Some.ensures.total)
-    c.in-Some.ensures.dropped c.in-Some.ensures.left (bytes_same c.bytes-bytes.ensures c.deref.ensures)
-    c.in-Some.ensures.index c.in-Some.ensures.known)
+    c.in-Some.ensures.dropped c.in-Some.ensures.left c.bytes-bytes.ensures c.in-Some.ensures.index
+    c.in-Some.ensures.known)
 
 pub returns-in-Some : goal.returns-in-Some
 returns-in-Some c =
-    let same : c.behind-dropped.inside.message ≡ c.in-Some.dropped.message =
-    ap (λ (m : Waiting). m.message) (c.behind-dropped.view_is ∙ c.deref-in-Some.ensures) in
+    let same : c.dropped.inside.message ≡ c.in-Some.dropped.message =
+    ap (λ (m : Waiting). m.message) c.dropped.view_is in
     rw (← c.self.view_is, same) (
-    expiry_is _ c.args.now _ c.self.invariant c.in-Some.ensures.dropped c.in-Some.ensures.left
-    (bytes_same c.bytes-bytes.ensures c.deref.ensures)
+    expiry_is _ c.args.now _ c.self.invariant c.in-Some.ensures.dropped c.in-Some.ensures.left c.bytes-bytes.ensures
     )
 
 pub returns-then-not-is_over : goal.returns-then-not-is_over

@@ -12,5 +12,4 @@ invariant_of-self-2 c =
     c.args.message (omega arith) (omega arith) c.self.invariant c.bytes-bytes.ensures
     c.saturating_add-waiting.ensures c.saturating_add.ensures
     c.if-saturating_add.false
-    (c.in_ok-push_back.ensures.items
-    ∙ ap (λ z. c.self.inside.pending.items ++ z ∷ []) (c.in_ok-queued.ensures ∙ c.accept.ensures)))
+    (c.in_ok-push_back.ensures.items ∙ ap (λ z. c.self.inside.pending.items ++ z ∷ []) c.accept.ensures))
