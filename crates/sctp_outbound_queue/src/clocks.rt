@@ -12,7 +12,7 @@ use crate::stretches::{Stretch, Stretches};
 use sctp_wire_types::Instant;
 
 /// Which times run, before which moment none ends, and which messages were looked at already.
-#[derive(Debug, Drop)]
+#[derive(Drop)]
 pub(crate) struct Clocks {
     /// Of the messages that wait the time of each of the first so many runs, where it has one.
     pub(crate) running: usize,
@@ -33,7 +33,7 @@ pub(crate) struct Clocks {
 }
 
 /// A look at the messages that wait, from the first one on, for one that is to be dropped.
-#[derive(Clone, Copy, Debug)]
+#[derive(Clone, Copy)]
 pub(crate) struct Look {
     /// Before this index none is.
     pub(crate) index: usize,

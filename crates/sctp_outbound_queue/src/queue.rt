@@ -18,6 +18,7 @@ ghost use Rattle.sctp_outbound_queue.specs.Expiry.{all_started, first_tsn_that, 
 ghost use Rattle.sctp_outbound_queue.specs.Expiry.{after_tail_expiry, is_expired_tail};
 
 use crate::clocks::Clocks;
+use crate::message::soonest;
 use crate::walks::{
     any_of_message, any_of_stream, any_waiting_of_stream, bytes_of_message, count_marked,
     drop_expired, first_expired_piece, first_missing, first_not_abandoned, first_outstanding,
@@ -28,6 +29,7 @@ use crate::{Attributes, InFlight, PendingMessage, Retransmission};
 use sctp_wire_types::{Instant, StreamId};
 use std::alloc::{AllocError, Global};
 use std::collections::VecDeque;
+use std::fmt;
 use std::marker::Model;
 
 /// A message that is given up, and the bytes of it that waited or were outstanding until then.
@@ -39,7 +41,7 @@ pub struct Released {
 
 /// The messages that wait, oldest first, and the pieces in flight in the order of their TSNs, which are consecutive
 /// (RFC 4960 section 6.1). Only what is acknowledged cumulatively leaves it there.
-#[derive(Debug, Drop)]
+#[derive(Drop)]
 pub struct OutboundQueue {
     pending: VecDeque<PendingMessage>,
     in_flight: VecDeque<InFlight>,
@@ -55,6 +57,27 @@ pub struct OutboundQueue {
     settled: usize,
     // What is known of the times of messages.
     clocks: Clocks,
+}
+
+// Of the clocks stands what they say of the whole queue: whether the time of each message that has one runs, and a
+// moment before which no deadline lies.
+impl fmt::Debug for OutboundQueue {
+    fn fmt<W: fmt::Write>(&self, f: &mut fmt::Formatter<W>) -> fmt::Result {
+        let all_run = self.clocks.running == self.pending.len() && self.clocks.sent_run;
+        let next_deadline = soonest(self.clocks.next_waiting, &self.clocks.next_sent);
+        f.debug_struct("OutboundQueue")
+            .field("pending", &self.pending)
+            .field("in_flight", &self.in_flight)
+            .field("first_tsn", &self.first_tsn)
+            .field("next_message_id", &self.next_message_id)
+            .field("pending_bytes", &self.pending_bytes)
+            .field("outstanding_bytes", &self.outstanding_bytes)
+            .field("marked", &self.marked)
+            .field("settled", &self.settled)
+            .field("all_run", &all_run)
+            .field("next_deadline", &next_deadline)
+            .finish()
+    }
 }
 
 impl Model for OutboundQueue {

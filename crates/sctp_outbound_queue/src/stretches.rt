@@ -8,7 +8,6 @@ ghost use Rattle.sctp_outbound_queue.specs.Waiting.{Waiting};
 ghost use Rattle.sctp_outbound_queue.specs.Clocks.{AllFrom, Cover};
 
 use sctp_wire_types::Instant;
-use std::fmt;
 use std::marker::Model;
 
 const ROOM: usize = 16;
@@ -17,7 +16,7 @@ const ROOM: usize = 16;
 const ENOUGH: usize = 64;
 
 /// Some messages one behind another.
-#[derive(Clone, Copy, Debug, Drop)]
+#[derive(Clone, Copy, Drop)]
 pub(crate) struct Stretch {
     /// How many these are.
     pub(crate) len: usize,
@@ -55,15 +54,6 @@ impl Stretch {
 pub(crate) struct Stretches {
     places: [Stretch; ROOM],
     len: usize,
-}
-
-// What stands at places behind the last stretch means nothing, and is left out.
-impl fmt::Debug for Stretches {
-    fn fmt<W: fmt::Write>(&self, f: &mut fmt::Formatter<W>) -> fmt::Result {
-        f.debug_struct("Stretches")
-            .field("stretches", &self.as_slice())
-            .finish()
-    }
 }
 
 impl Model for Stretches {

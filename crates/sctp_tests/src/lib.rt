@@ -11,6 +11,8 @@ mod outbound;
 #[cfg(test)]
 mod outbound_queue;
 #[cfg(test)]
+mod printed;
+#[cfg(test)]
 mod queues;
 #[cfg(test)]
 mod received;
