@@ -55,8 +55,7 @@ impl Sender {
 
     // Takes in one block. The cumulative TSN ack is the TSN before the first one in flight, so the piece at index j is
     // at the offset j + 1. Under loss each SACK names again what the ones before it named, until the gap is filled: the
-    // queue passes over those pieces, since nothing of them changes, and only the others are acknowledged. One that is
-    // marked to be sent again is not passed over, since a block that names it clears the mark.
+    // queue passes over those pieces, since nothing of them changes, and only the others are acknowledged.
     fn acknowledge_block(
         &mut self,
         rto: &mut RtoManager,

@@ -512,7 +512,8 @@ impl Sender {
 }
 
 // Gives an acknowledged piece's bytes back to its stream, those that were outstanding until then. Where the stream
-// falls to its low mark it is gathered. Each piece comes here once, so this function is put into its callers.
+// falls to its low mark it is gathered. Each piece comes here, and one that a gap ack block named comes twice, so this
+// function is put into its callers.
 #[inline(always)]
 pub(crate) fn release(streams: &mut Streams, fallen: &mut Fallen, piece: &InFlight)
     ensures released { streams.new ≡
