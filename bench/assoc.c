@@ -3,6 +3,7 @@
  *
  *   assoc CASE COUNT SIZE     small, packet, large, unordered, lossy, handshake or memory
  *   assoc CASE COUNT SIZE     streams, unread or in_flight: a message with little there, and with much
+ *   assoc CASE COUNT SIZE     expired: COUNT ordered messages, whose lifetimes end in one poll
  *
  * Its clock goes on by 10 ms where both ends are idle. */
 #define SCTP_ASSOC_HEAP
@@ -15,6 +16,8 @@
 #define MANY_UNREAD 20000
 #define FEW_IN_FLIGHT 10
 #define MANY_IN_FLIGHT 4000
+#define LIFETIME_MS 50
+#define ALL_EXPIRED 64000 /* messages of the case expired, in as many rounds as that takes */
 
 /* End 0 writes and is the client, end 1 reads. */
 static sctp_assoc ends[2];
@@ -284,6 +287,37 @@ static double with_in_flight(uint64_t count, size_t size, uint64_t in_flight) {
     return took / count;
 }
 
+/* So many messages are written, and their times begin with a poll, which sends what the congestion window holds. The
+ * next poll abandons what is in flight and drops all the others. What went out arrives after that. */
+static void expire_round(uint64_t count, size_t size) {
+    size_t buffered;
+    for (uint64_t i = 0; i < count; i++)
+        done(sctp_assoc_write(&ends[0], STREAM, SCTP_ASSOC_PPID_OF_STREAM, message, size));
+    poll_end(0);
+    now += LIFETIME_MS * UINT64_C(1000000);
+    poll_end(0);
+    if (!done(sctp_assoc_buffered_amount(&ends[0], STREAM, &buffered)) || buffered != 0)
+        fail("a message was not given up");
+}
+
+/* Ordered messages whose lifetimes end at once, from the writes to the poll that drops them. */
+static void expired(struct measure *m) {
+    uint64_t rounds = m->messages < ALL_EXPIRED ? ALL_EXPIRED / m->messages : 1;
+    join_with(1);
+    done(sctp_assoc_set_reliability(&ends[0], STREAM, false, SCTP_ASSOC_TIMED, LIFETIME_MS));
+    uint64_t began_datagrams = datagrams_sent, began_allocations = allocations;
+    for (uint64_t round = 0; round < rounds; round++) {
+        double began_us = cpu_us();
+        expire_round(m->messages, m->size);
+        m->cpu_us += cpu_us() - began_us;
+        hand_over_all();
+    }
+    m->cpu_us /= rounds;
+    m->datagrams = (datagrams_sent - began_datagrams) / rounds;
+    m->allocations = (allocations - began_allocations) / rounds;
+    leave();
+}
+
 static void growth(const struct measure *m, uint64_t few, uint64_t many, double took(uint64_t, size_t, uint64_t)) {
     double small = took(m->messages, m->size, few), large = took(m->messages, m->size, many);
     printf("{\"stack\":\"sctp_assoc\",\"case\":\"%s\",\"size\":%zu,\"messages\":%llu,\"from\":%llu,\"to\":%llu,"
@@ -314,6 +348,8 @@ int main(int argc, char **argv) {
     } else {
         if (!strcmp(m.name, "handshake"))
             handshakes(&m);
+        else if (!strcmp(m.name, "expired"))
+            expired(&m);
         else
             messages(&m);
         print_measure(&m);
