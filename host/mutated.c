@@ -45,19 +45,6 @@ static void put(uint8_t *at, int width, uint32_t value) {
         at[i] = (uint8_t)(value >> 8 * (width - 1 - i));
 }
 
-/* CRC32c over the packet with a checksum of 0 (RFC 4960 appendix B). */
-static void seal(struct datagram *packet) {
-    uint32_t sum = 0xffffffff;
-    memset(packet->bytes + 8, 0, 4);
-    for (size_t i = 0; i < packet->length; i++) {
-        sum ^= packet->bytes[i];
-        for (int bit = 0; bit < 8; bit++)
-            sum = sum >> 1 ^ (sum & 1 ? 0x82f63b78 : 0);
-    }
-    for (int i = 0; i < 4; i++)
-        packet->bytes[8 + i] = (uint8_t)(~sum >> 8 * i);
-}
-
 /* ---- What each end gets in a session without a mutation, and chunks that no session of ours has ---- */
 
 static void keep(int end, const uint8_t *datagram, size_t length) {
@@ -87,7 +74,7 @@ static void keep_chunk(int end, uint8_t kind, size_t value_length) {
     put(packet.bytes + 14, 2, (uint32_t)(4 + value_length));
     for (size_t i = 0; i < value_length; i++)
         packet.bytes[16 + i] = (uint8_t)i;
-    seal(&packet);
+    seal(packet.bytes, packet.length);
     keep(end, packet.bytes, packet.length);
 }
 
@@ -193,7 +180,7 @@ static void make_mutant(struct datagram *packet, int end) {
     if (pick(8) && packet->bytes[12] != 1)
         put(packet->bytes + 4, 4, tags[end]);
     if (pick(16))
-        seal(packet);
+        seal(packet->bytes, packet->length);
 }
 
 /* ---- What may come of one ---- */

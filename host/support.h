@@ -75,9 +75,22 @@ static sctp_assoc_config default_config(void) {
 }
 
 /* The bytes of the message with this number; two numbers give other bytes from the fourth one on. */
-static void fill(uint8_t *message, size_t length, uint32_t number) {
+static inline void fill(uint8_t *message, size_t length, uint32_t number) {
     for (size_t i = 0; i < length; i++)
         message[i] = (uint8_t)(i < 4 ? number >> (8 * i) : number * 31 + i * 7);
+}
+
+/* Writes the checksum of a packet: CRC32c over it, with a checksum of 0 (RFC 4960 appendix B). */
+static inline void seal(uint8_t *packet, size_t length) {
+    uint32_t sum = 0xffffffff;
+    memset(packet + 8, 0, 4);
+    for (size_t i = 0; i < length; i++) {
+        sum ^= packet[i];
+        for (int bit = 0; bit < 8; bit++)
+            sum = sum >> 1 ^ (sum & 1 ? 0x82f63b78 : 0);
+    }
+    for (int i = 0; i < 4; i++)
+        packet[8 + i] = (uint8_t)(~sum >> 8 * i);
 }
 
 /* Hands over all that `from` has to send at `now`. */

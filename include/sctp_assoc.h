@@ -100,14 +100,15 @@ typedef struct sctp_assoc_config {
     uint32_t max_send_message_size;    /* bytes; a longer message is refused */
     uint32_t max_receive_message_size; /* bytes; a longer message closes the association */
     uint16_t max_num_outbound_streams; /* offered, 1 to 65,535 */
-    uint16_t max_num_inbound_streams;  /* offered, 1 to 65,535 */
+    uint16_t max_num_inbound_streams;  /* offered, 1 to 65,535; a peer that uses more streams is not refused */
     uint16_t local_port;               /* SCTP port, not 0; a server takes both from the INIT */
     uint16_t remote_port;
     uint64_t rto_initial_ms;           /* retransmission timeouts, ms (RFC 4960 section 6.3.1) */
     uint64_t rto_min_ms;
     uint64_t rto_max_ms;
     size_t max_init_retransmits;       /* how often INIT and COOKIE ECHO go out again; SCTP_ASSOC_NO_LIMIT */
-    size_t max_data_retransmits;       /* timeouts in a row before DATA is no longer sent again; SCTP_ASSOC_NO_LIMIT */
+    size_t max_data_retransmits;       /* timeouts in a row after which DATA is no longer sent again; nothing tells of
+                                        * that, so bound the wait for an acknowledgement; SCTP_ASSOC_NO_LIMIT */
 } sctp_assoc_config;
 
 /* Writes the defaults: buffer 1,048,576, messages 65,536, streams 65,535, ports 5000, timeouts 3000, 1000 and 60,000,
@@ -139,8 +140,9 @@ sctp_assoc_code sctp_assoc_make_token(const sctp_assoc_config *config, uint32_t 
 /* ---- Begin and end ----
  *
  * Each of the first three makes an association and puts it into the slot; one that the slot held before is freed then.
- * `max_payload_size` is the greatest payload of one DATA chunk, 1 to 65,519; a datagram has up to 28 bytes more (1172
- * for UDP over links of 1280 bytes and IPv6).
+ * `max_payload_size` is the greatest payload of one DATA chunk, 1 to 65,519 (1172 for UDP over links of 1280 bytes and
+ * IPv6; UDP carries no more than 65,479). A datagram with DATA has up to 28 bytes more, and up to 3 beside where it is
+ * no multiple of 4. Some other datagrams get longer: see sctp_assoc_poll_transmit.
  *
  * Codes: DONE, NO_MEMORY, BAD_PAYLOAD_SIZE, and BAD_INITIAL_TSN or BAD_TOKEN. At all but DONE the slot stays as it was.
  */
@@ -193,7 +195,24 @@ sctp_assoc_code sctp_assoc_handle_datagram(sctp_assoc *slot, uint64_t now, const
                                            uint32_t *fate);
 
 /* Copies the next datagram that is due at `now` to the front of the buffer; `length` says how long it is. Codes: DONE,
- * EMPTY_SLOT, NOTHING, NO_ROOM, FAILED, NO_MEMORY (the association has failed, and what was due is lost). */
+ * EMPTY_SLOT, NOTHING, NO_ROOM, FAILED, NO_MEMORY (the association has failed, and what was due is lost).
+ *
+ * At NO_ROOM the datagram stays, and those behind it wait: come again with `length` bytes of room, or have
+ * SCTP_ASSOC_MAX_DATAGRAM from the start, which is always enough. How long datagrams get, in bytes:
+ *   DATA                        28 and the payload, at most max_payload_size (rounded up to 4)
+ *   COOKIE ECHO                 16 and the State Cookie that the peer's INIT ACK had (rounded up to 4)
+ *   SACK                        28 and 4 for each gap in what came; with more than 16,379 gaps none is sent
+ *   RE-CONFIG                   32 and 2 for each stream of one request (rounded up to 4)
+ *   FORWARD TSN                 20 and 4 for each ordered stream on which messages are given up; past 16,381 streams
+ *                               none is sent
+ *   HEARTBEAT ACK               at most as long as the HEARTBEAT that came
+ *   all others                  up to 100
+ * One request resets all streams that were closed here since the last request was answered, or that the peer reset by
+ * one of its own. So with max_payload_size 1200 a datagram has more than 1228 bytes where the peer leaves more than 300
+ * gaps, where one request resets more than 598 streams, or where messages are given up on more than 302. UDP carries
+ * such a datagram in parts (up to 65,507 bytes); where it may not, close streams in groups, and wait for the
+ * SCTP_ASSOC_EVENT_RESET_COMPLETE of one group before the next. What cannot be sent counts as lost. */
+#define SCTP_ASSOC_MAX_DATAGRAM 65548
 sctp_assoc_code sctp_assoc_poll_transmit(sctp_assoc *slot, uint64_t now, uint8_t *buffer, size_t room, size_t *length);
 
 /* Writes the moment at which the next timer expires. Where it isn't after now, sctp_assoc_handle_timeout is due. Codes:
@@ -207,7 +226,9 @@ sctp_assoc_code sctp_assoc_handle_timeout(sctp_assoc *slot, uint64_t now);
 /* ---- Events ---- */
 
 #define SCTP_ASSOC_EVENT_CONNECTED 1            /* established: messages can be written from now on */
-#define SCTP_ASSOC_EVENT_HANDSHAKE_FAILED 2     /* INIT or COOKIE ECHO went out too often; `reason` says which */
+#define SCTP_ASSOC_EVENT_HANDSHAKE_FAILED 2     /* INIT or COOKIE ECHO went out too often; `reason` says which. It may
+                                                 * be told once for each of the two. A late answer still establishes:
+                                                 * CONNECTED may follow it, or come before it */
 #define SCTP_ASSOC_EVENT_LOST 3                 /* the association was closed; `reason` */
 #define SCTP_ASSOC_EVENT_DATAGRAM_RECEIVED 4    /* a DATA chunk was taken in; once for each */
 #define SCTP_ASSOC_EVENT_STREAM_ENDED 5         /* `stream` ended; `counters` are its last ones */
@@ -251,8 +272,9 @@ typedef struct sctp_assoc_event {
 sctp_assoc_code sctp_assoc_poll_event(sctp_assoc *slot, sctp_assoc_event *event);
 
 /* For whoever keeps the slots of several associations: DONE tells, once and as soon as it is so, that the application
- * began a shutdown here (sctp_assoc_shutdown): nothing is written any more. Reads, and the calls of the loop, go on until
- * sctp_assoc_is_drained. Nobody has to ask. Codes: DONE, EMPTY_SLOT, NOTHING. */
+ * began a shutdown here (sctp_assoc_shutdown): nothing is written any more. That is the beginning of the end; all is
+ * over only where sctp_assoc_is_drained says so, and reads and the calls of the loop go on until then. Nobody has to
+ * ask. Codes: DONE, EMPTY_SLOT, NOTHING. */
 sctp_assoc_code sctp_assoc_poll_endpoint_event(sctp_assoc *slot);
 
 /* ---- Questions ----
@@ -312,7 +334,9 @@ sctp_assoc_code sctp_assoc_rto(sctp_assoc *slot, uint64_t *ms);
 sctp_assoc_code sctp_assoc_open_stream(sctp_assoc *slot, uint16_t stream, uint32_t payload_type);
 
 /* Takes out the identifier of the oldest stream that the peer opened and that wasn't accepted yet. It needs no
- * accepting to be read or written. Codes: DONE, EMPTY_SLOT, NOTHING (also where the association has failed). */
+ * accepting to be read or written, but its identifier waits here, in two bytes, each time that the peer opens it: so
+ * call this at each SCTP_ASSOC_EVENT_OPENED, also where the answer is of no use. Codes: DONE, EMPTY_SLOT, NOTHING (also
+ * where the association has failed). */
 sctp_assoc_code sctp_assoc_accept_stream(sctp_assoc *slot, uint16_t *stream);
 
 /* Accepts one message, which goes out with sctp_assoc_poll_transmit as the windows allow. Codes: DONE, EMPTY_SLOT,
@@ -322,7 +346,8 @@ sctp_assoc_code sctp_assoc_write(sctp_assoc *slot, uint16_t stream, uint32_t pay
                                  size_t length);
 
 /* Copies the next message of a stream, whole, to the front of the buffer, and writes its length and its payload
- * protocol identifier. At NO_ROOM the message stays, and `length` says how long it is. Where the peer ended its half,
+ * protocol identifier. At NO_ROOM the message stays, and `length` says how long it is. A message of length 0 comes only
+ * from a peer that sends DATA without a byte; it cannot be written back (EMPTY_MESSAGE). Where the peer ended its half,
  * the stream may end with its last message: then there is NO_STREAM behind it. Codes: DONE, EMPTY_SLOT, NOTHING,
  * NO_ROOM, FAILED, NO_STREAM, STREAM_CLOSED, NO_MEMORY (the message stays, or the association has failed). */
 sctp_assoc_code sctp_assoc_read(sctp_assoc *slot, uint16_t stream, uint8_t *buffer, size_t room, size_t *length,
@@ -348,9 +373,9 @@ sctp_assoc_code sctp_assoc_close_stream(sctp_assoc *slot, uint16_t stream);
 #define SCTP_ASSOC_REXMIT 1   /* `value` times; at 0 it goes out once */
 #define SCTP_ASSOC_TIMED 2    /* for `value` ms from the first sctp_assoc_poll_transmit behind the write; at 0 never */
 
-/* From now on writes of all streams take messages of up to `bytes` bytes; what was accepted stays. At first this is
- * max_send_message_size of the configuration. Codes: DONE (also where the association has failed, and then nothing
- * changes), EMPTY_SLOT. */
+/* From now on writes of all streams take messages of up to `bytes` bytes, at 0 none; what was accepted stays. At first
+ * this is max_send_message_size of the configuration. Codes: DONE (also where the association has failed, and then
+ * nothing changes), EMPTY_SLOT. */
 sctp_assoc_code sctp_assoc_set_max_send_message_size(sctp_assoc *slot, uint32_t bytes);
 
 /* Sets how messages of a stream that are written from now on are sent: in order or not, and how long. A message past

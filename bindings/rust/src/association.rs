@@ -115,8 +115,23 @@ impl Association {
     /// then. It gives up the messages that are past their [`Reliability`](crate::Reliability), and may leave
     /// [`Event::BufferedAmountLow`] for that; and with the last datagram of a shutdown it leaves [`Event::Lost`].
     ///
-    /// Errors: `NoRoom` where the buffer is shorter than the datagram, which stays; `Failed`; `NoMemory`, where the
-    /// association failed and what was due is lost.
+    /// How long datagrams get, in bytes, rounded up to 4:
+    ///
+    /// - DATA: 28 and the payload;
+    /// - COOKIE ECHO: 16 and the State Cookie that the peer's INIT ACK had;
+    /// - SACK: 28 and 4 for each gap in what came (past 16,379 gaps none is sent);
+    /// - RE-CONFIG: 32 and 2 for each stream of one request, which resets all streams that were closed here since the
+    ///   last request was answered, or that the peer reset by one of its own;
+    /// - FORWARD TSN: 20 and 4 for each ordered stream on which messages are given up (past 16,381 none is sent);
+    /// - HEARTBEAT ACK: at most as long as the HEARTBEAT that came;
+    /// - all others: up to 100.
+    ///
+    /// A buffer of [`MAX_DATAGRAM`](crate::MAX_DATAGRAM) bytes is always long enough. UDP carries up to 65,507 bytes,
+    /// in parts where that is more than the path takes; where it may not, close streams in groups, and wait for
+    /// [`Event::ResetComplete`] of one group before the next. What cannot be sent counts as lost.
+    ///
+    /// Errors: `NoRoom` where the buffer is shorter than the datagram, which stays, with those behind it; `Failed`;
+    /// `NoMemory`, where the association failed and what was due is lost.
     pub fn poll_transmit<'b>(&mut self, now: Instant, buffer: &'b mut [u8]) -> Result<Option<&'b [u8]>, Error> {
         let moment = self.nanos(now);
         let mut length = 0;
@@ -156,7 +171,8 @@ impl Association {
         Ok(done_or_nothing(code, 0)?.then(|| Event::of(&told)))
     }
 
-    /// What whoever keeps this association is to be told, once. None where nothing is. Nobody has to ask.
+    /// What whoever keeps this association is to be told, once: that its end has begun. All is over only where
+    /// [`is_drained`](Association::is_drained) says so. None where nothing is to be told. Nobody has to ask.
     pub fn poll_endpoint_event(&mut self) -> Option<EndpointEvent> {
         // SAFETY: the slot holds an association that nobody else uses now.
         let code = unsafe { sys::sctp_assoc_poll_endpoint_event(self.slot.get()) };
@@ -272,8 +288,8 @@ impl Association {
         }
     }
 
-    /// From now on writes of all streams take messages of up to so many bytes; what was accepted stays. At first this
-    /// is `max_send_message_size` of the configuration. In a failed association nothing changes.
+    /// From now on writes of all streams take messages of up to so many bytes, at 0 none; what was accepted stays. At
+    /// first this is `max_send_message_size` of the configuration. In a failed association nothing changes.
     pub fn set_max_send_message_size(&mut self, bytes: u32) {
         // SAFETY: the slot holds an association that nobody else uses now.
         unsafe { sys::sctp_assoc_set_max_send_message_size(self.slot.get(), bytes) };
@@ -290,7 +306,8 @@ impl Association {
     }
 
     /// Takes out the oldest stream that the peer opened and that was not accepted yet. A stream needs no accepting to
-    /// be read or written.
+    /// be read or written, but its identifier waits here, in two bytes, each time that the peer opens it: so call this
+    /// at each [`Event::Opened`], also where the answer is of no use.
     pub fn accept_stream(&mut self) -> Option<Stream<'_>> {
         let mut id = 0;
         // SAFETY: the slot holds an association that nobody else uses now; it writes an identifier.

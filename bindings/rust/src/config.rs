@@ -5,7 +5,8 @@ use std::time::Duration;
 #[derive(Clone, Debug, PartialEq, Eq)]
 pub struct Config {
     /// Greatest payload of one DATA chunk, 1 to 65,519 bytes; 1172, which fits links of 1280 bytes below UDP and IPv6.
-    /// A datagram has up to 28 bytes more.
+    /// A datagram with DATA has up to 28 bytes more, and up to 3 beside where this is no multiple of 4.
+    /// [`poll_transmit`](crate::Association::poll_transmit) says how long others get.
     pub max_payload_size: u32,
     /// The receive buffer and the window that is offered, in bytes; 1,048,576. A peer refuses one below 1500.
     pub max_receive_buffer_size: u32,
@@ -15,7 +16,7 @@ pub struct Config {
     pub max_receive_message_size: u32,
     /// Streams offered for sending; 65,535. A peer refuses 0.
     pub max_num_outbound_streams: u16,
-    /// Streams offered for receiving; 65,535. A peer refuses 0.
+    /// Streams offered for receiving; 65,535. A peer refuses 0; one that uses more of them is not refused.
     pub max_num_inbound_streams: u16,
     /// Own SCTP port, not 0; 5000. A server takes both ports from the INIT.
     pub local_port: u16,
@@ -29,7 +30,8 @@ pub struct Config {
     pub rto_max: Duration,
     /// How often INIT and COOKIE ECHO go out again before the handshake fails; 8. None is no limit.
     pub max_init_retransmits: Option<usize>,
-    /// Timeouts in a row before DATA is no longer sent again. None, the default, is no limit.
+    /// Timeouts in a row after which DATA is no longer sent again; nothing tells of that, so bound the wait for an
+    /// acknowledgement. None, the default, is no limit.
     pub max_data_retransmits: Option<usize>,
 }
 

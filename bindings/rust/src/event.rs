@@ -16,7 +16,8 @@ pub enum EndpointEvent {
 pub enum Event {
     /// Established: messages can be written from now on.
     Connected,
-    /// INIT or COOKIE ECHO went out too often without an answer.
+    /// INIT or COOKIE ECHO went out too often without an answer; told once for each of the two. A late answer still
+    /// establishes: [`Event::Connected`] may follow this, or come before it.
     HandshakeFailed {
         /// Which of the two.
         reason: Reason,

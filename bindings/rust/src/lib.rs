@@ -23,7 +23,7 @@
 //!
 //! /// Hands over what `from` has to send.
 //! fn pass_on(from: &mut Association, to: &mut Association, now: Instant) -> Result<(), Error> {
-//!     let mut buffer = [0; 1500];
+//!     let mut buffer = [0; sctp_assoc::MAX_DATAGRAM];
 //!     while let Some(datagram) = from.poll_transmit(now, &mut buffer)? {
 //!         to.handle_datagram(now, datagram)?;
 //!     }
@@ -49,6 +49,9 @@
 //! assert_eq!(message.payload_type, PayloadType::String);
 //! # Ok::<(), Error>(())
 //! ```
+
+/// No datagram that [`poll_transmit`](Association::poll_transmit) gives is longer, in bytes.
+pub const MAX_DATAGRAM: usize = 65548;
 
 mod association;
 mod config;
