@@ -4,9 +4,10 @@
  * association down, which ends at both sides, too. It is the guide to sctp_assoc.h.
  *
  *   cc -O2 -Iinclude -o echo examples/echo.c "$(./library)"
- *   ./echo server 9899                    serves one client at a time: the one whose INIT came last
+ *   ./echo server 9899                    serves up to 16 clients; at port 0 it takes a free one, and prints which
  *   ./echo client 127.0.0.1 9899 100
  */
+#define _DEFAULT_SOURCE
 #include "sctp_assoc.h"
 
 #include <arpa/inet.h>
@@ -18,14 +19,25 @@
 #include <time.h>
 #include <unistd.h>
 
+#define SECOND UINT64_C(1000000000)
 #define MAX_PAYLOAD_SIZE 1172 /* fits links of 1280 bytes, below UDP and IPv6 */
 #define STREAM 1
 #define ON_THE_WAY 10 /* messages that the client has out at a time; the sockets have room for so many */
 #define END_WITHIN 20 /* seconds that a shutdown may take; a peer that is gone never answers it */
 
-static sctp_assoc slot = SCTP_ASSOC_EMPTY;
+#define CLIENTS 16    /* that a server has at a time */
+#define SILENT 60     /* seconds without a datagram, after which a client may lose its place to a new one */
+
+/* One association, and the peer at the other end of it. */
+struct end {
+    sctp_assoc slot; /* empty where there is none */
+    struct sockaddr_in peer;
+    bool is_up;      /* its handshake is done */
+    uint64_t heard;  /* when a datagram came last that was for it */
+};
+
+static struct end ends[CLIENTS]; /* a client has the first alone */
 static sctp_assoc_config config;
-static struct sockaddr_in peer;
 static int udp;
 static bool is_client, is_ending;
 static uint64_t end_until; /* where it is ending */
@@ -49,21 +61,22 @@ static uint64_t now(void) {
     return (uint64_t)t.tv_sec * 1000000000 + (uint64_t)t.tv_nsec;
 }
 
-/* Makes the association, in place of one that was there before. */
-static void begin(void) {
+/* Makes the association of an end. */
+static void begin(struct end *end, const struct sockaddr_in *peer) {
     sctp_assoc_identity identity;
     if (getentropy(&identity, sizeof identity) != 0)
         stop("no random bytes: errno", (unsigned)errno);
     identity.tag |= 1; /* so that neither number is 0 */
     identity.initial_tsn |= 1;
-    done((is_client ? sctp_assoc_client : sctp_assoc_server)(&slot, &config, MAX_PAYLOAD_SIZE, &identity, now()));
+    done((is_client ? sctp_assoc_client : sctp_assoc_server)(&end->slot, &config, MAX_PAYLOAD_SIZE, &identity, now()));
+    end->peer = *peer;
+    end->is_up = false;
+    end->heard = now();
 }
 
-/* A server goes on when its association has ended. */
-static void wait_for_next(void) {
-    puts("an association ended");
-    fflush(stdout);
-    begin();
+static bool is_live(struct end *end) {
+    bool answer;
+    return sctp_assoc_is_closed(&end->slot, &answer) == SCTP_ASSOC_DONE;
 }
 
 /* The client's message with this number, in both of its ways. Answers its length. */
@@ -74,70 +87,140 @@ static size_t message(unsigned long number, uint8_t *bytes) {
     return length;
 }
 
-static void send_more(void) {
+static void send_more(struct end *end) {
     uint8_t bytes[8192];
     for (; sent < count && sent < echoed + ON_THE_WAY; sent++)
-        done(sctp_assoc_write(&slot, STREAM, SCTP_ASSOC_PPID_OF_STREAM, bytes, message(sent, bytes)));
+        done(sctp_assoc_write(&end->slot, STREAM, SCTP_ASSOC_PPID_OF_STREAM, bytes, message(sent, bytes)));
 }
 
-/* A server sends a message back, unless the stream has ended meanwhile, or the client shuts down. */
-static void send_back(uint16_t stream, uint32_t type, const uint8_t *bytes, size_t length) {
-    sctp_assoc_code code = sctp_assoc_write(&slot, stream, type, bytes, length);
-    if (code != SCTP_ASSOC_RESET_PENDING && code != SCTP_ASSOC_NO_STREAM && code != SCTP_ASSOC_NOT_ESTABLISHED)
+/* A server sends a message back, unless the stream has ended meanwhile, the client shuts down, or the message is empty,
+ * as it comes from a peer that breaks the rules. */
+static void send_back(struct end *end, uint16_t stream, uint32_t type, const uint8_t *bytes, size_t length) {
+    sctp_assoc_code code = sctp_assoc_write(&end->slot, stream, type, bytes, length);
+    if (code != SCTP_ASSOC_RESET_PENDING && code != SCTP_ASSOC_NO_STREAM && code != SCTP_ASSOC_NOT_ESTABLISHED &&
+        code != SCTP_ASSOC_EMPTY_MESSAGE)
         done(code);
 }
 
 /* A stream that ended is read no more. */
-static bool read_one(uint16_t stream, uint8_t *bytes, size_t room, size_t *length, uint32_t *type) {
-    sctp_assoc_code code = sctp_assoc_read(&slot, stream, bytes, room, length, type);
+static bool read_one(struct end *end, uint16_t stream, uint8_t *bytes, size_t room, size_t *length, uint32_t *type) {
+    sctp_assoc_code code = sctp_assoc_read(&end->slot, stream, bytes, room, length, type);
     return code != SCTP_ASSOC_NO_STREAM && done(code);
 }
 
-/* A server sends each message back; a client looks at it, and closes the stream behind the last one. */
-static void read_all(uint16_t stream) {
+/* A server sends each message back; a client looks at it, and closes the stream after the last one. */
+static void read_all(struct end *end, uint16_t stream) {
     static uint8_t bytes[65536], wanted[8192];
     size_t length;
     uint32_t type;
-    while (read_one(stream, bytes, sizeof bytes, &length, &type)) {
+    while (read_one(end, stream, bytes, sizeof bytes, &length, &type)) {
         if (!is_client)
-            send_back(stream, type, bytes, length);
+            send_back(end, stream, type, bytes, length);
         else if (message(echoed++, wanted) != length || memcmp(wanted, bytes, length) != 0)
             stop("another message came back than that with the number", (unsigned)echoed - 1);
     }
     if (is_client && echoed == count)
-        done(sctp_assoc_close_stream(&slot, stream));
+        done(sctp_assoc_close_stream(&end->slot, stream));
     else if (is_client)
-        send_more();
+        send_more(end);
 }
 
-static void take_events(void) {
-    sctp_assoc_event event;
-    while (done(sctp_assoc_poll_event(&slot, &event))) {
-        if (event.kind == SCTP_ASSOC_EVENT_CONNECTED && is_client) {
-            done(sctp_assoc_open_stream(&slot, STREAM, SCTP_ASSOC_PPID_BINARY));
-            send_more();
-        } else if (event.kind == SCTP_ASSOC_EVENT_READABLE) {
-            if (!is_client || echoed < count)
-                read_all(event.stream);
-        } else if (event.kind == SCTP_ASSOC_EVENT_RESET_COMPLETE && is_client) {
-            is_ending = done(sctp_assoc_shutdown(&slot));
-            end_until = now() + END_WITHIN * UINT64_C(1000000000);
-        } else if (event.kind == SCTP_ASSOC_EVENT_RESET_FAILED && is_client) {
-            stop("the stream was not reset for the reason", event.reason);
-        } else if (event.kind == SCTP_ASSOC_EVENT_LOST || event.kind == SCTP_ASSOC_EVENT_HANDSHAKE_FAILED) {
-            if (is_client && !is_ending)
-                stop("the association ended for the reason", event.reason);
-            if (!is_client)
-                wait_for_next();
-        }
+static void on_client_event(struct end *end, const sctp_assoc_event *event) {
+    if (event->kind == SCTP_ASSOC_EVENT_CONNECTED) {
+        done(sctp_assoc_open_stream(&end->slot, STREAM, SCTP_ASSOC_PPID_BINARY));
+        send_more(end);
+    } else if (event->kind == SCTP_ASSOC_EVENT_READABLE && echoed < count) {
+        read_all(end, event->stream);
+    } else if (event->kind == SCTP_ASSOC_EVENT_RESET_COMPLETE) {
+        is_ending = done(sctp_assoc_shutdown(&end->slot));
+        end_until = now() + END_WITHIN * SECOND;
+    } else if (event->kind == SCTP_ASSOC_EVENT_RESET_FAILED) {
+        stop("the stream was not reset for the reason", event->reason);
+    } else if (event->kind == SCTP_ASSOC_EVENT_LOST || event->kind == SCTP_ASSOC_EVENT_HANDSHAKE_FAILED) {
+        if (!is_ending)
+            stop("the association ended for the reason", event->reason);
     }
 }
 
-static void send_all(void) {
-    uint8_t datagram[1500];
+/* Each stream that the peer opens is taken from the list of those that wait to be accepted, or the list would grow. */
+static void on_server_event(struct end *end, const sctp_assoc_event *event) {
+    uint16_t opened;
+    if (event->kind == SCTP_ASSOC_EVENT_CONNECTED)
+        end->is_up = true;
+    else if (event->kind == SCTP_ASSOC_EVENT_OPENED)
+        done(sctp_assoc_accept_stream(&end->slot, &opened));
+    else if (event->kind == SCTP_ASSOC_EVENT_READABLE)
+        read_all(end, event->stream);
+}
+
+static void take_events(struct end *end) {
+    sctp_assoc_event event;
+    while (done(sctp_assoc_poll_event(&end->slot, &event)))
+        (is_client ? on_client_event : on_server_event)(end, &event);
+}
+
+/* Sends what is due. Most datagrams have up to MAX_PAYLOAD_SIZE and 28 bytes; one that names many gaps or streams may
+ * have more, and the network then carries it in parts. */
+static void send_all(struct end *end) {
+    static uint8_t datagram[SCTP_ASSOC_MAX_DATAGRAM];
     size_t length;
-    while (done(sctp_assoc_poll_transmit(&slot, now(), datagram, sizeof datagram, &length)))
-        sendto(udp, datagram, length, 0, (struct sockaddr *)&peer, sizeof peer);
+    while (done(sctp_assoc_poll_transmit(&end->slot, now(), datagram, sizeof datagram, &length)))
+        sendto(udp, datagram, length, 0, (struct sockaddr *)&end->peer, sizeof end->peer);
+}
+
+/* What is due at an end. That of a server whose association is over is free for another client then. */
+static void serve(struct end *end) {
+    bool is_over = false;
+    take_events(end);
+    send_all(end);
+    take_events(end);
+    done(sctp_assoc_is_drained(&end->slot, &is_over));
+    if (is_client || !is_over)
+        return;
+    puts("an association ended");
+    fflush(stdout);
+    done(sctp_assoc_free(&end->slot));
+}
+
+static struct end *find(const struct sockaddr_in *from) {
+    for (struct end *end = ends; end < ends + CLIENTS; end++)
+        if (is_live(end) && end->peer.sin_addr.s_addr == from->sin_addr.s_addr && end->peer.sin_port == from->sin_port)
+            return end;
+    return NULL;
+}
+
+/* A place for one more client: a free one, or else that of the client that was silent longest of those whose handshake
+ * isn't done or that were silent for long. */
+static struct end *place(void) {
+    struct end *oldest = NULL;
+    for (struct end *end = ends; end < ends + CLIENTS; end++) {
+        if (!is_live(end))
+            return end;
+        if ((!end->is_up || now() - end->heard > SILENT * SECOND) && (!oldest || end->heard < oldest->heard))
+            oldest = end;
+    }
+    return oldest;
+}
+
+/* A stranger gets a place only by a packet that a server answers: an INIT, whole and with the right checksum. So it is
+ * handed to an association of its own first, and whoever is served goes on being served. One that begins anew, after it
+ * was silent for long, gets its old place. */
+static void meet(const struct sockaddr_in *from, const uint8_t *datagram, size_t length, struct end *old) {
+    static uint8_t answer[SCTP_ASSOC_MAX_DATAGRAM];
+    struct end stranger = {.slot = SCTP_ASSOC_EMPTY}, *chosen = old ? old : place();
+    uint32_t fate;
+    if (!chosen || length <= 12 || datagram[12] != 1) /* the type of the first chunk; 1 is INIT */
+        return;
+    begin(&stranger, from);
+    done(sctp_assoc_handle_datagram(&stranger.slot, now(), datagram, length, &fate));
+    if (!done(sctp_assoc_poll_transmit(&stranger.slot, now(), answer, sizeof answer, &length))) {
+        done(sctp_assoc_free(&stranger.slot));
+        return;
+    }
+    sendto(udp, answer, length, 0, (const struct sockaddr *)from, sizeof *from);
+    if (is_live(chosen))
+        done(sctp_assoc_free(&chosen->slot));
+    *chosen = stranger; /* a slot may be moved */
 }
 
 static void receive_all(void) {
@@ -146,41 +229,71 @@ static void receive_all(void) {
     socklen_t size = sizeof from;
     ssize_t length;
     while ((length = recvfrom(udp, datagram, sizeof datagram, MSG_DONTWAIT, (struct sockaddr *)&from, &size)) >= 0) {
-        bool is_peer = from.sin_addr.s_addr == peer.sin_addr.s_addr && from.sin_port == peer.sin_port;
-        if (!is_peer && !is_client && length > 12 && datagram[12] == 1) { /* an INIT, from a new client */
-            peer = from;
-            is_peer = true;
-            begin();
+        struct end *end = find(&from);
+        uint32_t fate = SCTP_ASSOC_NO_PACKET; /* what is not for this association is left */
+        if (end) {
+            done(sctp_assoc_handle_datagram(&end->slot, now(), datagram, (size_t)length, &fate));
+            if (fate == SCTP_ASSOC_TAKEN)
+                end->heard = now();
+            serve(end);
         }
-        uint32_t fate; /* what is no packet for this association is left */
-        if (is_peer)
-            done(sctp_assoc_handle_datagram(&slot, now(), datagram, (size_t)length, &fate));
-        take_events();
-        send_all();
+        if (!is_client && (!end || (fate == SCTP_ASSOC_REPEATED_INIT && now() - end->heard > SILENT * SECOND)))
+            meet(&from, datagram, (size_t)length, end);
     }
+}
+
+/* The next moment at which a timer of any association expires; UINT64_MAX where none runs. */
+static uint64_t next_due(void) {
+    uint64_t next = UINT64_MAX, due;
+    for (struct end *end = ends; end < ends + CLIENTS; end++)
+        if (sctp_assoc_poll_timeout(&end->slot, &due) == SCTP_ASSOC_DONE && due < next)
+            next = due;
+    return next;
 }
 
 /* Until a datagram comes or a timer expires. */
 static void wait_for_either(void) {
-    uint64_t due;
-    int timeout_ms = -1;
-    if (done(sctp_assoc_poll_timeout(&slot, &due))) {
-        uint64_t at = now();
-        timeout_ms = due > at ? (int)((due - at + 999999) / 1000000) : 0;
-    }
+    uint64_t due = next_due(), at = now();
+    int timeout_ms = due == UINT64_MAX ? -1 : due > at ? (int)((due - at + 999999) / 1000000) : 0;
     struct pollfd ready = {.fd = udp, .events = POLLIN};
     poll(&ready, 1, timeout_ms);
-    if (done(sctp_assoc_poll_timeout(&slot, &due)) && due <= now())
-        done(sctp_assoc_handle_timeout(&slot, now()));
+}
+
+static void meet_timers(void) {
+    uint64_t due;
+    for (struct end *end = ends; end < ends + CLIENTS; end++) {
+        if (sctp_assoc_poll_timeout(&end->slot, &due) == SCTP_ASSOC_DONE && due <= now()) {
+            done(sctp_assoc_handle_timeout(&end->slot, now()));
+            serve(end);
+        }
+    }
 }
 
 /* A server goes on; a client does so until the association has ended, but not for ever. */
 static bool goes_on(void) {
     bool is_over = false;
-    done(sctp_assoc_is_drained(&slot, &is_over));
+    if (!is_client)
+        return true;
+    done(sctp_assoc_is_drained(&ends[0].slot, &is_over));
     if (is_ending && !is_over && now() > end_until)
         stop("the shutdown was not answered within seconds:", END_WITHIN);
-    return !is_client || (count > 0 && !is_over);
+    return count > 0 && !is_over;
+}
+
+static void print_port(void) {
+    struct sockaddr_in own;
+    socklen_t size = sizeof own;
+    if (getsockname(udp, (struct sockaddr *)&own, &size) != 0)
+        stop("no port: errno", (unsigned)errno);
+    printf("serving on port %u\n", (unsigned)ntohs(own.sin_port));
+    fflush(stdout);
+}
+
+static struct sockaddr_in address_of(const char *address, const char *port) {
+    struct sockaddr_in at = {.sin_family = AF_INET, .sin_port = htons((uint16_t)atoi(port))};
+    if (inet_pton(AF_INET, address, &at.sin_addr) != 1)
+        stop("no IPv4 address in word", 2);
+    return at;
 }
 
 int main(int argc, char **argv) {
@@ -189,23 +302,25 @@ int main(int argc, char **argv) {
         fprintf(stderr, "usage: echo server PORT | echo client ADDRESS PORT COUNT\n");
         return 2;
     }
-    struct sockaddr_in own = {.sin_family = AF_INET, .sin_port = is_client ? 0 : htons((uint16_t)atoi(argv[2]))};
+    struct sockaddr_in own = address_of("0.0.0.0", is_client ? "0" : argv[2]);
     udp = socket(AF_INET, SOCK_DGRAM, 0);
     if (udp < 0 || bind(udp, (struct sockaddr *)&own, sizeof own) != 0)
         stop("no UDP socket: errno", (unsigned)errno);
     done(sctp_assoc_default_config(&config));
     if (is_client) {
-        peer = (struct sockaddr_in){.sin_family = AF_INET, .sin_port = htons((uint16_t)atoi(argv[3]))};
+        struct sockaddr_in peer = address_of(argv[2], argv[3]);
         count = strtoul(argv[4], NULL, 10);
-        if (inet_pton(AF_INET, argv[2], &peer.sin_addr) != 1)
-            stop("no IPv4 address in word", 2);
+        begin(&ends[0], &peer);
+        serve(&ends[0]);
+    } else {
+        print_port();
     }
-    for (begin(); goes_on();) {
-        send_all();
+    while (goes_on()) {
         wait_for_either();
+        meet_timers();
         receive_all();
-        take_events();
     }
-    printf("%lu messages came back, the stream ended at both sides, and so did the association\n", echoed);
-    return done(sctp_assoc_free(&slot)) ? 0 : 1;
+    if (is_client)
+        printf("%lu messages came back, the stream ended at both sides, and so did the association\n", echoed);
+    return is_client && !done(sctp_assoc_free(&ends[0].slot)) ? 1 : 0;
 }

@@ -3,7 +3,7 @@
  * of a stream once the peer reset the other one (RFC 8831 section 6.7), and ends with its association. LOSS of 1,000
  * datagrams are lost, each way.
  *
- *   usrsctp_echo server PORT LOSS
+ *   usrsctp_echo server PORT LOSS           at 127.0.0.1; it prints its port, one that is free where PORT is 0
  *   usrsctp_echo client PORT LOSS COUNT     to PORT at 127.0.0.1
  */
 #define _GNU_SOURCE
@@ -38,7 +38,7 @@ static char link_name; /* its address names the link to usrsctp */
 static int udp, loss;
 static struct sockaddr_in peer;
 static bool is_client, is_up, is_over;
-static bool peer_half_is_reset, own_half_is_reset, reset_is_due; /* of STREAM */
+static bool peer_half_is_reset, own_half_is_reset, reset_is_due, reset_is_asked; /* of STREAM */
 static unsigned long count, sent, echoed;
 static struct message *waiting, **waiting_end = &waiting;
 static uint8_t coming[MAX_MESSAGE];
@@ -101,7 +101,7 @@ static void on_reset(uint16_t flags) {
         stop("a reset failed");
     peer_half_is_reset |= (flags & SCTP_STREAM_RESET_INCOMING_SSN) != 0;
     own_half_is_reset |= (flags & SCTP_STREAM_RESET_OUTGOING_SSN) != 0;
-    reset_is_due |= !is_client && (flags & SCTP_STREAM_RESET_INCOMING_SSN);
+    reset_is_due |= !is_client && !reset_is_asked && (flags & SCTP_STREAM_RESET_INCOMING_SSN);
 }
 
 static int on_receive(struct socket *socket, union sctp_sockstore from, void *data, size_t length,
@@ -171,14 +171,16 @@ static void send_what_waits(struct socket *socket) {
     }
 }
 
-/* Asks for a reset of the own half of the stream. Where an earlier request is open it stays due. */
+/* Asks for a reset of the own half of the stream, once: where datagrams are lost, that the peer reset its half may be
+ * told again when the association is already closing. Where an earlier request is open it stays due. */
 static void reset_stream(struct socket *socket) {
     _Alignas(struct sctp_reset_streams) uint8_t room[sizeof(struct sctp_reset_streams) + sizeof(uint16_t)] = {0};
     struct sctp_reset_streams *which = (struct sctp_reset_streams *)room;
     which->srs_flags = SCTP_STREAM_RESET_OUTGOING;
     which->srs_number_streams = 1;
     which->srs_stream_list[0] = STREAM;
-    reset_is_due = usrsctp_setsockopt(socket, IPPROTO_SCTP, SCTP_RESET_STREAMS, which, sizeof room) < 0;
+    reset_is_asked = usrsctp_setsockopt(socket, IPPROTO_SCTP, SCTP_RESET_STREAMS, which, sizeof room) >= 0;
+    reset_is_due = !reset_is_asked;
     if (reset_is_due && errno != EALREADY && errno != EAGAIN)
         stop("usrsctp_setsockopt");
 }
@@ -208,8 +210,7 @@ static int serve(void) {
     struct socket *listener = new_socket(), *accepted = NULL;
     if (usrsctp_listen(listener, 1) < 0)
         stop("usrsctp_listen");
-    while (!is_over) {
-        go_on();
+    for (go_on(); !is_over; go_on()) {
         if (!accepted && (accepted = usrsctp_accept(listener, NULL, NULL)))
             usrsctp_set_non_blocking(accepted, 1);
         if (accepted)
@@ -243,6 +244,15 @@ static int be_client(void) {
     return echoed == count && is_reset && is_over ? 0 : 1;
 }
 
+static void print_port(void) {
+    struct sockaddr_in own;
+    socklen_t size = sizeof own;
+    if (getsockname(udp, (struct sockaddr *)&own, &size) != 0)
+        stop("getsockname");
+    printf("serving on port %u\n", (unsigned)ntohs(own.sin_port));
+    fflush(stdout);
+}
+
 int main(int argc, char **argv) {
     is_client = argc == 5 && strcmp(argv[1], "client") == 0;
     if (!is_client && (argc != 4 || strcmp(argv[1], "server") != 0))
@@ -257,6 +267,8 @@ int main(int argc, char **argv) {
     } else if (udp < 0 || bind(udp, (struct sockaddr *)&at, sizeof at) != 0) {
         stop("bind");
     }
+    if (!is_client)
+        print_port();
     usrsctp_init_nothreads(0, on_packet, quiet);
     usrsctp_sysctl_set_sctp_blackhole(2);
     usrsctp_register_address(&link_name);

@@ -2,12 +2,13 @@
 //! 8,192 bytes and looks at what comes back. Then the client closes the stream, which ends at both sides, and shuts the
 //! association down, which ends at both sides, too.
 //!
-//!     cargo run --example echo -- server 9899              serves one client at a time: the one whose INIT came last
+//!     cargo run --example echo -- server 9899              serves up to 16 clients; at port 0 it takes a free one
 //!     cargo run --example echo -- client 127.0.0.1:9899 100
-use sctp_assoc::{Association, Config, Event, Identity, PayloadType, Stream};
+use sctp_assoc::{Association, Config, Event, Fate, Identity, PayloadType, Stream, MAX_DATAGRAM};
 use std::error::Error;
 use std::fs::File;
 use std::io::{ErrorKind, Read};
+use std::mem;
 use std::net::{SocketAddr, UdpSocket};
 use std::time::{Duration, Instant};
 
@@ -16,15 +17,30 @@ const STREAM: u16 = 1;
 const ON_THE_WAY: usize = 10;
 /// So long a shutdown may take. A peer that is gone never answers it.
 const END_WITHIN: Duration = Duration::from_secs(20);
+/// Clients that a server has at a time.
+const CLIENTS: usize = 16;
+/// After so long without a datagram a client may lose its place to a new one.
+const SILENT: Duration = Duration::from_secs(60);
 
 type Result<T> = std::result::Result<T, Box<dyn Error>>;
 
-/// A UDP socket and the association with the peer behind it.
-struct End {
+/// A UDP socket, and the associations behind it: one of a client, up to [`CLIENTS`] of a server.
+struct Echo {
     udp: UdpSocket,
-    peer: Option<SocketAddr>,
-    association: Association,
+    ends: Vec<End>,
     client: Option<Client>,
+    /// Room for a datagram, of either way.
+    buffer: Vec<u8>,
+}
+
+/// One association, and the peer at the other end of it.
+struct End {
+    peer: SocketAddr,
+    association: Association,
+    /// Its handshake is done.
+    is_up: bool,
+    /// When a datagram came last that was for it.
+    heard: Instant,
 }
 
 /// How far a client is.
@@ -41,10 +57,6 @@ fn identity() -> Result<Identity> {
     Ok(Identity::from_random(bytes))
 }
 
-fn server() -> Result<Association> {
-    Ok(Association::server(&Config::default(), &identity()?, Instant::now())?)
-}
-
 /// The client's message with this number, in both of its ways.
 fn message(number: usize) -> Vec<u8> {
     let length = 1 + number * 977 % 8192;
@@ -59,12 +71,16 @@ fn read(stream: &mut Stream<'_>) -> Result<Option<(PayloadType, Vec<u8>)>> {
     }
 }
 
-/// A message goes back, unless the stream has ended meanwhile, or the client shuts down.
+/// A message goes back, unless the stream has ended meanwhile, the client shuts down, or the message is empty, as it
+/// comes from a peer that breaks the rules.
 fn send_back(stream: &mut Stream<'_>, payload_type: PayloadType, bytes: &[u8]) -> Result<()> {
     match stream.write_as(payload_type, bytes) {
-        Err(sctp_assoc::Error::ResetPending | sctp_assoc::Error::NoStream | sctp_assoc::Error::NotEstablished) => {
-            Ok(())
-        }
+        Err(
+            sctp_assoc::Error::ResetPending
+            | sctp_assoc::Error::NoStream
+            | sctp_assoc::Error::NotEstablished
+            | sctp_assoc::Error::EmptyMessage,
+        ) => Ok(()),
         answer => Ok(answer?),
     }
 }
@@ -84,14 +100,104 @@ impl Client {
 }
 
 impl End {
-    fn run(&mut self) -> Result<()> {
-        while self.goes_on()? {
-            self.send_all()?;
-            self.take_events()?;
-            if self.goes_on()? {
-                self.wait()?; // what was sent may have ended it, and then nothing more comes
-                self.take_events()?;
+    fn new(peer: SocketAddr, association: Association) -> End {
+        End { peer, association, is_up: false, heard: Instant::now() }
+    }
+
+    /// Sends what is due. Most datagrams have up to the payload size and 28 bytes; one that names many gaps or streams
+    /// may have more, and the network then carries it in parts.
+    fn send_all(&mut self, udp: &UdpSocket, buffer: &mut [u8]) -> Result<()> {
+        while let Some(datagram) = self.association.poll_transmit(Instant::now(), buffer)? {
+            let _ = udp.send_to(datagram, self.peer); // what the socket does not take is lost, as on the way
+        }
+        Ok(())
+    }
+
+    /// Whether it may give way to a new client.
+    fn is_idle(&self) -> bool {
+        !self.is_up || self.heard.elapsed() > SILENT
+    }
+
+    /// A message of the server's client goes back, whatever is ready.
+    fn echo(&mut self, id: u16) -> Result<()> {
+        let mut stream = self.association.stream(id);
+        while let Some((payload_type, bytes)) = read(&mut stream)? {
+            send_back(&mut stream, payload_type, &bytes)?;
+        }
+        Ok(())
+    }
+
+    /// Each stream that the peer opens is taken from those that wait to be accepted, or these would grow in number.
+    fn on_server_event(&mut self, event: Event) -> Result<()> {
+        match event {
+            Event::Connected => self.is_up = true,
+            Event::Opened { .. } => drop(self.association.accept_stream()),
+            Event::Readable { stream } => self.echo(stream)?,
+            _ => {}
+        }
+        Ok(())
+    }
+
+    /// A client looks at what comes back, and closes the stream after the last message.
+    fn look_at(&mut self, id: u16, client: &mut Client) -> Result<()> {
+        let mut stream = self.association.stream(id);
+        while let Some((_, bytes)) = read(&mut stream)? {
+            if bytes != message(client.echoed) {
+                return Err("another message came back".into());
             }
+            client.echoed += 1;
+        }
+        if client.has_all() {
+            return Ok(stream.close()?);
+        }
+        client.send_more(&mut self.association)
+    }
+
+    fn on_client_event(&mut self, event: Event, client: &mut Client) -> Result<()> {
+        match event {
+            Event::Connected => {
+                self.association.open_stream(STREAM, PayloadType::Binary)?;
+                client.send_more(&mut self.association)?;
+            }
+            Event::Readable { stream } if !client.has_all() => self.look_at(stream, client)?,
+            Event::ResetComplete { .. } => {
+                self.association.shutdown()?;
+                client.ends_until = Some(Instant::now() + END_WITHIN);
+            }
+            Event::ResetFailed { .. } => return Err(format!("no end came: {event:?}").into()),
+            Event::Lost { .. } | Event::HandshakeFailed { .. } if client.ends_until.is_none() => {
+                return Err(format!("the association ended: {event:?}").into());
+            }
+            _ => {}
+        }
+        Ok(())
+    }
+
+    fn take_events(&mut self, client: &mut Option<Client>) -> Result<()> {
+        while let Some(event) = self.association.poll_event()? {
+            match client {
+                Some(client) => self.on_client_event(event, client)?,
+                None => self.on_server_event(event)?,
+            }
+        }
+        Ok(())
+    }
+
+    /// Does what is due at the association.
+    fn serve(&mut self, udp: &UdpSocket, client: &mut Option<Client>, buffer: &mut [u8]) -> Result<()> {
+        self.take_events(client)?;
+        self.send_all(udp, buffer)?;
+        self.take_events(client) // what was sent may have ended it
+    }
+}
+
+impl Echo {
+    fn run(&mut self) -> Result<()> {
+        self.serve_all()?;
+        while self.goes_on()? {
+            self.wait()?;
+            self.meet_timers()?;
+            self.serve_all()?;
         }
         Ok(())
     }
@@ -99,115 +205,132 @@ impl End {
     /// A server goes on; a client does so until the association has ended, but not for ever.
     fn goes_on(&self) -> Result<bool> {
         let Some(client) = &self.client else { return Ok(true) };
-        let is_over = self.association.is_drained();
+        let is_over = self.ends.iter().all(|end| end.association.is_drained());
         if !is_over && client.ends_until.is_some_and(|until| until < Instant::now()) {
             return Err("the shutdown was not answered".into());
         }
         Ok(client.count > 0 && !is_over)
     }
 
-    fn send_all(&mut self) -> Result<()> {
-        let mut buffer = [0; 1500];
-        while let Some(datagram) = self.association.poll_transmit(Instant::now(), &mut buffer)? {
-            if let Some(peer) = self.peer {
-                self.udp.send_to(datagram, peer)?;
-            }
+    /// A server lets an association go that is over.
+    fn serve_all(&mut self) -> Result<()> {
+        for end in &mut self.ends {
+            end.serve(&self.udp, &mut self.client, &mut self.buffer)?;
+        }
+        if self.client.is_none() {
+            let before = self.ends.len();
+            self.ends.retain(|end| !end.association.is_drained());
+            (self.ends.len()..before).for_each(|_| println!("an association ended"));
         }
         Ok(())
     }
 
     /// Until a datagram comes, which is handed in, or a timer expires.
     fn wait(&mut self) -> Result<()> {
-        let left = self.association.poll_timeout().map(|due| due.saturating_duration_since(Instant::now()));
-        self.udp.set_read_timeout(left.map(|left| left.max(Duration::from_millis(1))))?;
-        let mut buffer = [0; 65536];
-        match self.udp.recv_from(&mut buffer) {
-            Ok((length, from)) => self.receive(&buffer[..length], from)?,
-            Err(error) if matches!(error.kind(), ErrorKind::WouldBlock | ErrorKind::TimedOut) => {}
-            Err(error) => return Err(error.into()),
-        }
+        let due = self.ends.iter().filter_map(|end| end.association.poll_timeout()).min();
+        let left = due.map(|due| due.saturating_duration_since(Instant::now()).max(Duration::from_millis(1)));
+        self.udp.set_read_timeout(left)?;
+        let mut buffer = mem::take(&mut self.buffer);
+        let came = self.udp.recv_from(&mut buffer);
+        let answer = match came {
+            Ok((length, from)) => self.receive(&buffer[..length], from),
+            Err(error) if is_no_fault(error.kind()) => Ok(()),
+            Err(error) => Err(error.into()),
+        };
+        self.buffer = buffer;
+        answer
+    }
+
+    fn meet_timers(&mut self) -> Result<()> {
         let now = Instant::now();
-        if self.association.poll_timeout().is_some_and(|due| due <= now) {
-            self.association.handle_timeout(now)?;
+        for end in &mut self.ends {
+            if end.association.poll_timeout().is_some_and(|due| due <= now) {
+                end.association.handle_timeout(now)?;
+            }
         }
         Ok(())
     }
 
     fn receive(&mut self, datagram: &[u8], from: SocketAddr) -> Result<()> {
-        let is_init = datagram.get(12) == Some(&1);
-        if self.client.is_none() && is_init && self.peer != Some(from) {
-            self.peer = Some(from); // a new client
-            self.association = server()?;
-        }
-        if self.peer == Some(from) {
-            self.association.handle_datagram(Instant::now(), datagram)?; // what is not for it is left
+        let Some(index) = self.ends.iter().position(|end| end.peer == from) else {
+            return if self.client.is_none() { self.meet(datagram, from) } else { Ok(()) };
+        };
+        let end = &mut self.ends[index];
+        match end.association.handle_datagram(Instant::now(), datagram)? {
+            Fate::Taken => end.heard = Instant::now(),
+            Fate::RepeatedInit if self.client.is_none() && end.heard.elapsed() > SILENT => {
+                self.ends.swap_remove(index); // it begins anew
+                self.meet(datagram, from)?;
+            }
+            _ => {} // what is not for it is left
         }
         Ok(())
     }
 
-    fn take_events(&mut self) -> Result<()> {
-        while let Some(event) = self.association.poll_event()? {
-            match (event, &mut self.client) {
-                (Event::Connected, Some(client)) => {
-                    self.association.open_stream(STREAM, PayloadType::Binary)?;
-                    client.send_more(&mut self.association)?;
-                }
-                (Event::Readable { .. }, Some(client)) if client.has_all() => {}
-                (Event::Readable { stream }, _) => self.read_all(stream)?,
-                (Event::ResetComplete { .. }, Some(client)) => {
-                    self.association.shutdown()?;
-                    client.ends_until = Some(Instant::now() + END_WITHIN);
-                }
-                (Event::ResetFailed { .. }, Some(_)) => return Err(format!("no end came: {event:?}").into()),
-                (Event::Lost { .. } | Event::HandshakeFailed { .. }, Some(client)) if client.ends_until.is_none() => {
-                    return Err(format!("the association ended: {event:?}").into());
-                }
-                (Event::Lost { .. }, None) => {
-                    println!("an association ended");
-                    self.association = server()?; // for the next client
-                }
-                _ => {}
-            }
+    /// A stranger gets a place only by a packet that a server answers: an INIT, whole and with the right checksum. So
+    /// it is handed to an association of its own first, and whoever is served goes on being served.
+    fn meet(&mut self, datagram: &[u8], from: SocketAddr) -> Result<()> {
+        if datagram.get(12) != Some(&1) {
+            return Ok(()); // the type of the first chunk; 1 is INIT
         }
+        let now = Instant::now();
+        let mut stranger = End::new(from, Association::server(&Config::default(), &identity()?, now)?);
+        if stranger.association.handle_datagram(now, datagram)? != Fate::Taken {
+            return Ok(());
+        }
+        let mut answer = [0; MAX_DATAGRAM];
+        let Some(answer) = stranger.association.poll_transmit(now, &mut answer)? else { return Ok(()) };
+        if !self.make_place() {
+            return Ok(());
+        }
+        let _ = self.udp.send_to(answer, from);
+        self.ends.push(stranger);
         Ok(())
     }
 
-    /// A server sends each message back; a client looks at it, and closes the stream behind the last one.
-    fn read_all(&mut self, id: u16) -> Result<()> {
-        let mut stream = self.association.stream(id);
-        while let Some((payload_type, bytes)) = read(&mut stream)? {
-            match &mut self.client {
-                None => send_back(&mut stream, payload_type, &bytes)?,
-                Some(client) if bytes == message(client.echoed) => client.echoed += 1,
-                Some(_) => return Err("another message came back".into()),
-            }
+    /// Where all places are taken, the client that was silent longest of those that may give way loses its own.
+    fn make_place(&mut self) -> bool {
+        if self.ends.len() < CLIENTS {
+            return true;
         }
-        match &mut self.client {
-            Some(client) if client.has_all() => Ok(stream.close()?),
-            Some(client) => client.send_more(&mut self.association),
-            None => Ok(()),
-        }
+        let idle = self.ends.iter().enumerate().filter(|(_, end)| end.is_idle());
+        let Some((index, _)) = idle.min_by_key(|(_, end)| end.heard) else { return false };
+        self.ends.swap_remove(index);
+        true
     }
+}
+
+/// Whether nothing came in time, or a signal did.
+fn is_no_fault(kind: ErrorKind) -> bool {
+    matches!(kind, ErrorKind::WouldBlock | ErrorKind::TimedOut | ErrorKind::Interrupted)
+}
+
+fn be_server(port: &str) -> Result<Echo> {
+    let udp = UdpSocket::bind(("0.0.0.0", port.parse()?))?;
+    println!("serving on port {}", udp.local_addr()?.port());
+    Ok(Echo { udp, ends: Vec::new(), client: None, buffer: vec![0; MAX_DATAGRAM] })
+}
+
+fn be_client(peer: &str, count: &str) -> Result<Echo> {
+    let association = Association::client(&Config::default(), &identity()?, Instant::now())?;
+    Ok(Echo {
+        udp: UdpSocket::bind("0.0.0.0:0")?,
+        ends: vec![End::new(peer.parse()?, association)],
+        client: Some(Client { count: count.parse()?, sent: 0, echoed: 0, ends_until: None }),
+        buffer: vec![0; MAX_DATAGRAM],
+    })
 }
 
 fn main() -> Result<()> {
     let words: Vec<String> = std::env::args().skip(1).collect();
     let words: Vec<&str> = words.iter().map(String::as_str).collect();
-    let mut end = match words[..] {
-        ["server", port] => {
-            let udp = UdpSocket::bind(("0.0.0.0", port.parse()?))?;
-            End { udp, peer: None, association: server()?, client: None }
-        }
-        ["client", peer, count] => End {
-            udp: UdpSocket::bind("0.0.0.0:0")?,
-            peer: Some(peer.parse()?),
-            association: Association::client(&Config::default(), &identity()?, Instant::now())?,
-            client: Some(Client { count: count.parse()?, sent: 0, echoed: 0, ends_until: None }),
-        },
+    let mut echo = match words[..] {
+        ["server", port] => be_server(port)?,
+        ["client", peer, count] => be_client(peer, count)?,
         _ => return Err("usage: echo server PORT | echo client ADDRESS:PORT COUNT".into()),
     };
-    end.run()?;
-    if let Some(client) = end.client {
+    echo.run()?;
+    if let Some(client) = echo.client {
         println!("{} messages came back, the stream ended at both sides, and so did the association", client.echoed);
     }
     Ok(())
