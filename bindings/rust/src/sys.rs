@@ -177,3 +177,70 @@ extern "C" {
     pub(crate) fn sctp_assoc_high_mark(slot: *mut Slot, stream: u16, bytes: *mut usize) -> u32;
     pub(crate) fn sctp_assoc_set_high_mark(slot: *mut Slot, stream: u16, bytes: usize) -> u32;
 }
+
+#[cfg(test)]
+mod tests {
+    use super::*;
+    use std::mem::{size_of, size_of_val, MaybeUninit};
+    use std::ptr::addr_of;
+
+    /// Each struct is laid out as the header's, of which `host/layout.c` prints the list.
+    #[test]
+    fn structs_are_laid_out_as_in_the_header() {
+        let mut listed = String::new();
+        macro_rules! layout {
+            ($name:expr, $type:ident, $($field:ident),*) => {
+                listed += &format!("{} {}\n", $name, size_of::<$type>());
+                // SAFETY: each field of these structs may have all bytes 0.
+                let made: $type = unsafe { MaybeUninit::zeroed().assume_init() };
+                let $type { $($field: _),* } = &made; // no field is left out
+                $(
+                    let offset = addr_of!(made.$field) as usize - addr_of!(made) as usize;
+                    listed += &format!("{}.{} {} {}\n", $name, stringify!($field), offset, size_of_val(&made.$field));
+                )*
+            };
+        }
+        layout!("sctp_assoc", Slot, at, live);
+        layout!(
+            "sctp_assoc_config",
+            Config,
+            max_receive_buffer_size,
+            max_send_message_size,
+            max_receive_message_size,
+            max_num_outbound_streams,
+            max_num_inbound_streams,
+            local_port,
+            remote_port,
+            rto_initial_ms,
+            rto_min_ms,
+            rto_max_ms,
+            max_init_retransmits,
+            max_data_retransmits
+        );
+        layout!("sctp_assoc_identity", Identity, tag, initial_tsn, cookie);
+        layout!(
+            "sctp_assoc_token",
+            Token,
+            tag,
+            initial_tsn,
+            window,
+            num_outbound_streams,
+            num_inbound_streams,
+            forward_tsn
+        );
+        layout!("sctp_assoc_counters", Counters, messages_sent, bytes_sent, messages_received, bytes_received);
+        layout!("sctp_assoc_event", Event, kind, reason, stream, counters);
+        layout!(
+            "sctp_assoc_totals",
+            Totals,
+            data_chunks,
+            sacks,
+            retransmission_timeouts,
+            ack_timeouts,
+            fast_retransmissions
+        );
+        // This crate names no heap of its own.
+        let of_header = include_str!("../../../host/layout.txt").lines().filter(|line| !line.contains("_block"));
+        assert_eq!(listed.lines().collect::<Vec<_>>(), of_header.collect::<Vec<_>>());
+    }
+}
