@@ -69,7 +69,7 @@ impl Stream<'_> {
         let needed = match self.read(&mut []) {
             Err(Error::NoRoom { needed }) => needed,
             Err(error) => return Err(error),
-            Ok(_) => return Ok(None),
+            Ok(empty) => return Ok(empty.map(|message| (message.payload_type, Vec::new()))),
         };
         let mut bytes = vec![0; needed];
         let payload_type = self.read(&mut bytes)?.map(|message| message.payload_type);

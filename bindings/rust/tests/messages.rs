@@ -75,3 +75,31 @@ fn an_association_goes_to_another_thread() -> Result<(), Error> {
     let moved = std::thread::spawn(move || exchange(&mut link, 0, 1, PayloadType::Binary));
     moved.join().expect("the thread ended well")
 }
+
+/// CRC32c of a packet whose checksum is 0 (RFC 4960 appendix B).
+fn checksum(packet: &[u8]) -> [u8; 4] {
+    let fold = |sum: u32, _| (sum >> 1) ^ (if sum & 1 == 1 { 0x82f6_3b78 } else { 0 });
+    let sum = packet.iter().fold(u32::MAX, |sum, byte| (0..8).fold(sum ^ u32::from(*byte), fold));
+    (!sum).to_le_bytes()
+}
+
+/// A peer that breaks the rules sends DATA without a byte: that is a message, too, and none that can be written.
+#[test]
+fn an_empty_message_is_read() -> Result<(), Error> {
+    let mut link = Link::established(&Config::default())?;
+    link.ends[0].open_stream(1, PayloadType::Binary)?.write(b"x")?;
+    let mut buffer = [0; sctp_assoc::MAX_DATAGRAM];
+    let length = link.ends[0].poll_transmit(link.now, &mut buffer)?.expect("DATA").len();
+    assert_eq!(length, 32);
+    let packet = &mut buffer[..28]; // without its byte, and the padding
+    packet[15] = 16; // the length of the chunk
+    packet[8..12].fill(0);
+    let sum = checksum(packet);
+    packet[8..12].copy_from_slice(&sum);
+    link.ends[1].handle_datagram(link.now, packet)?;
+    let mut stream = link.ends[1].stream(1);
+    assert_eq!(stream.read_vec()?, Some((PayloadType::Binary, Vec::new())));
+    assert_eq!(stream.read_vec()?, None);
+    assert_eq!(stream.write(b""), Err(Error::EmptyMessage));
+    Ok(())
+}
