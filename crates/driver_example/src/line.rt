@@ -1,15 +1,17 @@
 // Lines that come in.
 use anyhow::{Result, bail};
-use bytes::Bytes;
-use sctp_assoc::Instant;
 use std::alloc::Global;
+
+/// Nanoseconds of a millisecond.
+const MILLISECOND: u64 = 1_000_000;
 
 /// Something that happens to a driver.
 #[derive(Drop)]
 pub struct Happening {
-    pub now: Instant,
+    /// When, in nanoseconds.
+    pub now: u64,
     /// The datagram that came; None where the moment came without one.
-    pub datagram: Option<Bytes>,
+    pub datagram: Option<Vec<u8>>,
 }
 
 /// Reads a line without its newline.
@@ -18,13 +20,17 @@ pub fn parse(alloc: Global, line: &[u8]) -> Result<Happening> {
     let fields: Vec<&str> = text.split(' ').collect(alloc)?;
     match fields.as_slice() {
         [millis, "wake"] => Ok(Happening {
-            now: Instant::from_millis(millis.parse::<u64>()?),
+            now: nanos(millis.parse::<u64>()?),
             datagram: None,
         }),
         [millis, "in", bytes] => Ok(Happening {
-            now: Instant::from_millis(millis.parse::<u64>()?),
-            datagram: Some(Bytes::from_vec(hex::decode(alloc, *bytes)?)?),
+            now: nanos(millis.parse::<u64>()?),
+            datagram: Some(hex::decode(alloc, *bytes)?),
         }),
         _ => bail!("neither a datagram nor a moment: {text}"),
     }
+}
+
+fn nanos(millis: u64) -> u64 {
+    millis.saturating_mul(MILLISECOND)
 }
