@@ -1,5 +1,5 @@
 //! Callers of a pair, each of which needs one part of what `Pair` promises: where one of most clauses of `Pair` or
-//! fields of what it promises is lost, a function here is no longer proved (docs/GATE.md has the exceptions).
+//! fields of what it promises is lost, a function here is no longer proved (docs/EVIDENCE.md has the exceptions).
 //! `exchange` is a caller of one association, and cites its laws.
 #![tactic(auto)]
 

@@ -584,7 +584,8 @@ impl Association {
     /// any identifier will do; the numbers of streams that the handshake agreed on are not enforced.
     ///
     /// Refused, in this order with nothing changed: `ErrAssociationFailed`; `ErrStreamAlreadyExist`, also where the
-    /// peer opened it; `ErrStreamCreateFailed` where no generation is left (the last one is 2^64 - 2); `ErrNoMemory`.
+    /// peer opened it; `ErrStreamResetPending` where a reset of it is open or failed; `ErrStreamCreateFailed` where no
+    /// generation is left (the last one is 2^64 - 2); `ErrNoMemory`.
     #[tactic(auto, using(crate::proofs::CallsLeadOn::open_leads_on))]
     pub fn open_stream(
         &mut self,

@@ -1,80 +1,88 @@
-//! The association layer of SCTP (RFC 4960) without input or output. Datagrams, moments and calls of the application
-//! go in; events, deadlines and packets come out.
+//! The association layer of SCTP (RFC 4960) with partial reliability (RFC 3758) and stream resets (RFC 6525), without
+//! input or output. Datagrams, moments and calls of the application go in; datagrams, events and the next deadline come
+//! out.
+//!
+//! Most users want `sctp_driver`, which keeps one association together with the datagrams and messages that wait, and
+//! checks verification tags. Use this crate if you write a driver of your own.
 //!
 //! # Where to start
 //!
-//! An [`Association`] is one side. There are two ways to make one:
+//! An [`Association`] is one side of a connection. There are two ways to make one:
 //!
-//! - [`Association::new`] makes a client or a server, which a handshake is to establish.
-//! - [`Association::new_with_out_of_band_init`] makes one that is established at once. Both sides exchanged their
-//!   INIT chunks in another way before; such a chunk is called a token, and [`token`] makes it.
+//! - [`Association::new`] makes a client or a server. A handshake establishes it.
+//! - [`Association::new_with_out_of_band_init`] makes one that is established at once. Both sides exchange their INIT
+//!   chunks beforehand, for example by signalling. Such a chunk is called a token, and [`token`] makes it.
 //!
 //! | Calls | Who makes them |
 //! |---|---|
-//! | [`Association::handle_timeout`], [`Association::handle_event`] | the driver: a moment or a datagram came |
-//! | [`Association::poll`] | the driver or the application: what happened |
-//! | [`Association::open_stream`], [`Association::stream`] | the application: a [`Stream`], to write and to read |
-//! | [`Association::accept_stream`], [`Association::stream_ids`] | the application: what the peer opened, and all |
-//! | [`Association::set_max_send_message_size`] | the application: how long a message may be |
-//! | [`Association::shutdown`] | the application: an end once all that was accepted is acknowledged |
-//! | [`Association::close`] | the application: an end at once |
+//! | [`Association::handle_timeout`], [`Association::handle_event`] | the driver, when a moment or a datagram came |
+//! | [`Association::poll`] | the driver or the application, to learn what happened |
+//! | [`Association::open_stream`], [`Association::stream`] | the application, to write and read on a [`Stream`] |
+//! | [`Association::accept_stream`] | the application, once for each stream that the peer opens |
+//! | [`Association::stream_ids`] | the application, to list all live streams |
+//! | [`Association::set_max_send_message_size`] | the application, to limit the length of a message |
+//! | [`Association::shutdown`] | the application, to end once all that was accepted is acknowledged |
+//! | [`Association::close`] | the application, to end at once |
 //! | [`Association::poll_transmit`], [`Association::poll_timeout`] | the driver: what to send, and when to wake |
-//! | [`Association::poll_endpoint_event`] | the driver: whether a shutdown began here |
+//! | [`Association::poll_endpoint_event`] | the driver, to learn that `shutdown` was called here |
 //! | `state`, `is_closed`, `rtt`, `cwnd` and the other questions | anybody, at any time; they change nothing |
-//! | [`Association::run`], [`Association::carry_out`] | who keeps calls as values, or reasons about all of them |
+//! | [`Association::run`], [`Association::carry_out`] | code that keeps calls as values, or reasons about them |
 //!
 //! # The loop
 //!
 //! One turn of a driver's loop, at the moment `now`:
 //!
 //! 1. If `poll_timeout` answers a moment that is not after `now`, call `handle_timeout`.
-//! 2. If a datagram came, read it by [`PartialDecode::unmarshal`] and hand it to `handle_event`. Leave one that
-//!    cannot be read: it is no SCTP packet, or there was no memory for it.
-//! 3. Call `poll` until it answers None. On [`StreamEvent::Readable`] read that stream until `read` answers None.
-//!    From [`Event::Connected`] on streams can be written.
-//! 4. Call `poll_transmit` until it answers None, and send each of the datagrams that it answers. Where it gives
-//!    messages up, a stream may fall to its low mark, and with a SHUTDOWN COMPLETE the association closes: the next
-//!    turn's `poll` tells, or one right behind it.
+//! 2. If a datagram came, decode it with [`PartialDecode::unmarshal`] and hand it to `handle_event`. Drop a datagram
+//!    that does not decode: it is no SCTP packet, or there was no memory for it.
+//! 3. Call `poll` until it answers None. On [`StreamEvent::Readable`], read that stream until `read` answers None. You
+//!    can write from [`Event::Connected`] on.
+//! 4. Call `poll_transmit` until it answers None, and send each datagram. `poll_transmit` can queue events too, because
+//!    it gives messages up and ends a shutdown; call `poll` again after it.
 //! 5. Sleep until the moment that `poll_timeout` answers, or until a datagram comes.
 //!
-//! A new client begins with step 4, since its INIT waits there. After a write outside of the loop, go on with step 4.
+//! A new client begins with step 4, because its INIT waits there. After a write outside the loop, go on with step 4.
 //!
-//! This order is advice. Each call is safe in each state and at each moment, and refuses by name what it cannot do.
+//! This order is advice. Every call is safe in every state and at every moment, and refuses by name what it cannot do.
 //!
 //! # Moments
 //!
-//! An [`Instant`] counts nanoseconds from a moment that the driver chooses, up to some 584 years. Nothing here reads
-//! a clock. A moment that is earlier than one before it is no error.
+//! An [`Instant`] counts nanoseconds from a moment that the driver chooses; it lasts for some 584 years. Nothing here
+//! reads a clock. A moment earlier than the last one is not an error.
 //!
-//! # Memory and refusals
+//! # Errors
 //!
-//! What may take memory answers a `Result`, and says [`Error::ErrNoMemory`] where it gets none. What that leaves
-//! depends on the call:
+//! A call that answers an error other than [`Error::ErrNoMemory`] changed nothing. Calls that may take memory answer
+//! that one if they get none:
 //!
-//! - `handle_event`, `handle_timeout`, `poll_transmit` and `close` leave the association failed
-//!   ([`Association::is_failed`]), and so do `stop` and `close` of a [`Stream`] whose read half was open, and a `read`
-//!   or `read_sctp` that leaves the receive buffer exhausted, or of a stream with a generation that the peer ended.
-//!   No timer runs, and each later call that answers a `Result` answers [`Error::ErrAssociationFailed`]. The questions
-//!   about its state, its side, its addresses and its counts answer what they answered before the call.
-//! - Any other call changed nothing, and may be made again.
+//! | Call | What is left after `ErrNoMemory` |
+//! |---|---|
+//! | `handle_event`, `handle_timeout`, `poll_transmit`, `close` | a failed association |
+//! | `stop` and `close` of a [`Stream`] whose read half was open | a failed association |
+//! | `read`, `read_sctp`, if the read closes the association, or the peer ended the stream | a failed association |
+//! | any other call | nothing changed; make the call again |
 //!
-//! A call that answers another error changed nothing.
+//! A failed association ([`Association::is_failed`]) is over: no timer runs, and each later call that answers a
+//! `Result` answers [`Error::ErrAssociationFailed`]. Questions about its state, side, addresses and counts answer what
+//! they answered before the call that failed.
 //!
-//! # Faults
+//! # Faults of the peer
 //!
-//! A datagram that does not decode changes nothing, nor does a chunk of a handshake or of a shutdown that comes out of
-//! its state, but for two: an INIT, and a COOKIE ECHO with this side's cookie, which is acknowledged again. A *fault*
-//! is a chunk that ends an open association: an ABORT, which a peer may well send, and what none should send: a SACK of
-//! a TSN that was not sent, an INIT once the association is established, a chunk that is not processed here.
-//! A fault ends the processing of its packet. If the association is open (in any state but Closed), the fault also
-//! closes it: all timers stop, no packet waits any more, each live stream ends with its last counters
-//! ([`Event::DataChannelStatsFinal`]), and [`Event::AssociationLost`] tells it. Only a failed handshake that nobody was
-//! told of yet is told behind it. After that no datagram changes anything.
+//! A datagram that does not decode changes nothing. Nor does a chunk of the handshake or of the shutdown that comes in
+//! a state that does not expect it, with two exceptions: an INIT, and a COOKIE ECHO with this side's cookie, which is
+//! acknowledged again.
+//!
+//! A *fault* is a chunk that ends an open association. A well-behaved peer may send one of them, an ABORT. The others
+//! are a SACK of a TSN that was not sent, an INIT once the association is established, and a chunk of a type that is
+//! not processed here. The rest of the packet is not looked at. If the association is open (in any state but Closed),
+//! it closes: all timers stop, no packet waits any more, each live stream ends with its last counters
+//! ([`Event::DataChannelStatsFinal`]), and [`Event::AssociationLost`] is told. Only a failed handshake that was not
+//! told yet comes after that event. From then on no datagram changes anything.
 //!
 //! # What is left to the driver
 //!
-//! To check the verification tag of each packet (RFC 4960 section 8.5), to find the association that a datagram is
-//! for, and to choose first TSN, tag and cookie, which nobody else should be able to guess.
+//! The driver checks the verification tag of each packet (RFC 4960 section 8.5), finds the association that a datagram
+//! is for, and chooses first TSN, tag and cookie. Nobody else should be able to guess these.
 #![tactic(auto)]
 
 mod association;

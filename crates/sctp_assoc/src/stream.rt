@@ -45,8 +45,8 @@ impl<'a> Stream<'a> {
     /// ever be read; the peer is told by an ABORT then.
     ///
     /// Refused, in this order: `ErrAssociationFailed`, `ErrStreamClosed` where the stream is gone or its read half is
-    /// closed, both with nothing changed; `ErrNoMemory`, which only such a close wants, and which leaves the
-    /// association failed.
+    /// closed, both with nothing changed; `ErrNoMemory`, which leaves the association failed. A read takes memory only
+    /// if it closes the association, or if the peer ended the stream and it is not read to its end.
     pub fn read(&mut self) -> Result<Option<Chunks>, Error>
         ensures same { lender self.new ≡ lender self.old }
         ensures id { id_of self.new ≡ id_of self.old }
@@ -88,7 +88,8 @@ impl<'a> Stream<'a> {
     /// they go out with `poll_transmit`, as the windows allow, in pieces of the payload size.
     ///
     /// Refused, in this order with nothing changed: `ErrAssociationFailed`; `ErrStreamClosed` where the stream is gone
-    /// or its write half is closed; `ErrPayloadDataStateNotExist` outside Established; `ErrEmptyMessage`;
+    /// or its write half is closed; `ErrPayloadDataStateNotExist` outside Established; `ErrStreamResetPending` where a
+    /// reset of it is open or failed, or the peer ended it and it is not read to its end; `ErrEmptyMessage`;
     /// `ErrOutboundPacketTooLarge` for a message that is longer than `max_send_message_size`; `ErrNoMemory`.
     pub fn write(&mut self, bytes: &[u8]) -> Result<usize, Error>
         ensures same { lender self.new ≡ lender self.old }

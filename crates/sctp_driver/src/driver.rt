@@ -352,8 +352,8 @@ impl Driver {
     }
 
     /// What whoever holds this driver is to be told, once; None where nothing is. That `shutdown` began is told by
-    /// `EndpointEvent::drained`, as soon as it did: the driver needs no more calls of the application, but those with
-    /// datagrams and moments go on until `is_drained`. Never refused, and takes no memory.
+    /// `EndpointEvent::drained`, as soon as it did: no message is accepted from the application from then on, but
+    /// reads, datagrams and timers go on until `is_drained`. Never refused, and takes no memory.
     pub fn poll_endpoint_event(&mut self) -> Option<EndpointEvent>
         ensures told { endpoint_event_polled self.old.association ≡ (self.new.association, result) }
         ensures others { self.new ≡ with_association self.old self.new.association }

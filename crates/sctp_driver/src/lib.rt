@@ -1,26 +1,26 @@
-//! One association with what a user of sockets keeps beside it, in numbers and bytes: the datagrams that wait to go
-//! out, the messages that wait for a buffer that is long enough, and the rule of verification tags (RFC 4960 section
-//! 8.5).
+//! One association for users of sockets. A [`Driver`] takes datagrams as bytes and moments as numbers, and checks
+//! verification tags (RFC 4960 section 8.5). It keeps the datagrams that wait to go out, and the messages that wait for
+//! a buffer that is long enough.
 //!
-//! A [`Driver`] is made as a client, as a server, or joined by two tokens. One turn of its loop, at the moment `now`:
+//! Make a driver as a client, as a server, or joined by two tokens. One turn of its loop, at the moment `now`:
 //!
 //! 1. If `poll_timeout` answers a moment that is not after `now`, call `handle_timeout`.
-//! 2. If a datagram came, hand it to `handle_datagram`. One that is no packet, or is not for this association, is left.
-//! 3. Call `poll_event` until it answers None. On `StreamEvent::Readable` call `read` until it answers `Nothing` or the
-//!    stream is gone.
-//! 4. Call `poll_transmit` until it answers `Nothing`, and send each datagram that it gives. Where it gives messages
-//!    up, a stream may fall to its low mark, and with a SHUTDOWN COMPLETE the association closes: the next turn's
-//!    `poll_event` tells, or one right behind it.
+//! 2. If a datagram came, hand it to `handle_datagram`, which drops what is no packet or not for this association.
+//! 3. Call `poll_event` until it answers None. On `StreamEvent::Readable`, call `read` until it answers `Nothing` or
+//!    the stream is gone. On `StreamEvent::Opened`, call `accept_stream`.
+//! 4. Call `poll_transmit` until it answers `Nothing`, and send each datagram. `poll_transmit` can queue events too,
+//!    since it gives messages up and ends a shutdown; call `poll_event` again after it.
 //! 5. Sleep until the moment that `poll_timeout` answers, or until a datagram comes.
 //!
-//! A stream ends where either side stops or closes it (`stop`, `close_stream`): both are told so, and can open it anew.
+//! A stream ends when either side stops or closes it (`stop`, `close_stream`). Both sides are told, and can then open
+//! it anew.
 //!
-//! An association ends gracefully by `shutdown` of either side, once all that was accepted at both is acknowledged, and
-//! at once by `close`. After `shutdown` the loop goes on until `is_drained`. `poll_endpoint_event` tells whoever holds
-//! the driver that `shutdown` began here.
+//! `shutdown` ends an association gracefully, once all that either side accepted is acknowledged; `close` ends it at
+//! once. After `shutdown`, go on with the loop until `is_drained`. `poll_endpoint_event` tells whoever holds the driver
+//! that `shutdown` was called here.
 //!
-//! Moments are nanoseconds from one that the user chooses. Each call is safe in each state and at each moment. What
-//! it refuses it refuses by name, and the page of each call says what is left then.
+//! Moments are nanoseconds from one that you choose. Every call is safe in every state and at every moment. It refuses
+//! by name what it cannot do, and its page says what is left then.
 #![tactic(auto)]
 
 mod driver;

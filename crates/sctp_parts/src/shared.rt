@@ -13,7 +13,7 @@ pub struct IssuedAid {
     pub id: AssociationId,
 }
 
-/// What an association tells its endpoint.
+/// What an association tells its endpoint. There is one kind: the end of the association has begun.
 #[derive(Debug, Drop)]
 pub struct EndpointEvent {
     inner: EndpointEventInner,
@@ -27,7 +27,8 @@ enum EndpointEventInner {
 impl EndpointEvent {
     ghost use Rattle.sctp_parts.specs.Shared.{drained_event};
 
-    /// The event that says that the application began a shutdown.
+    /// The event that tells that the application began a shutdown. It is told as soon as that is so, and all is over
+    /// only where `Association::is_drained` says so: datagrams, timers and reads go on until then.
     pub fn drained() -> Self
         ensures { result ≡ drained_event }
     {
@@ -36,7 +37,7 @@ impl EndpointEvent {
         }
     }
 
-    /// Whether this is the last event of its association.
+    /// Whether this event tells that the application began a shutdown, which each of them does.
     pub fn is_drained(&self) -> bool
         ensures { IsTrue result ↔ (self.now ≡ drained_event) }
     {

@@ -40,15 +40,19 @@ pub enum Fault {
 /// | `ErrNoMemory` | whatever may take memory, where it gets none |
 /// | `ErrAssociationFailed` | each call after one that found no memory in its middle |
 /// | `ErrStreamAlreadyExist`, `ErrStreamCreateFailed` | `Association::open_stream` |
+/// | `ErrStreamResetPending` | `Association::open_stream`, and the writes of a stream |
 /// | `ErrStreamNotExisted` | `Association::stream` |
 /// | `ErrStreamClosed` | the calls of a stream |
 /// | `ErrPayloadDataStateNotExist`, `ErrEmptyMessage`, `ErrOutboundPacketTooLarge` | the writes of a stream |
+/// | `ErrResetPacketInStateNotExist` | `stop` and `close` of a stream |
+/// | `ErrShutdownNonEstablished` | `Association::shutdown` |
 /// | `Malformed` | reading and writing of packets, and the checks of packets and chunks |
 /// | `ErrHandshakeInitAck`, `ErrHandshakeCookieEcho` | no call; the event `HandshakeFailed` has them |
 ///
-/// `ErrHandleInitState`, `ErrInitAckNoCookie`, `ErrAbortChunk`, `ErrChunkTypeUnhandled`, `ErrInflightQueueTsnPop`,
-/// `ErrTsnRequestNotExist`, `ErrContradictoryPieces` and `ErrInboundMessageTooLarge` are faults of chunks: they close
-/// an association and are answered by no call of it. The others are those of calls that do not exist so far.
+/// `ErrHandleInitState`, `ErrInitAckNoCookie`, `ErrAbortChunk`, `ErrChunkTypeUnhandled`, `ErrParameterType`,
+/// `ErrInflightQueueTsnPop`, `ErrTsnRequestNotExist`, `ErrContradictoryPieces` and `ErrInboundMessageTooLarge` are
+/// faults of chunks: they close an association, and no call answers them. Nor does any call answer
+/// `ErrReceiveBufferExhausted`: the event `AssociationLost` tells of that, with a reason of its own.
 #[derive(Clone, Copy, Debug, PartialEq, Eq, ThisError)]
 pub enum Error {
     #[error("payload size is not in 1 to 65519")]
