@@ -62,13 +62,13 @@ static bool done(sctp_assoc_code code) {
     return code == SCTP_ASSOC_DONE;
 }
 
-static sctp_assoc_identity identity(uint32_t tag) {
+static inline sctp_assoc_identity identity(uint32_t tag) {
     sctp_assoc_identity named = {.tag = tag, .initial_tsn = tag * 1000};
     memset(named.cookie, (int)tag, sizeof named.cookie);
     return named;
 }
 
-static sctp_assoc_config default_config(void) {
+static inline sctp_assoc_config default_config(void) {
     sctp_assoc_config config;
     CHECK(sctp_assoc_default_config(&config) == SCTP_ASSOC_DONE);
     return config;

@@ -1,35 +1,35 @@
 /*
  * sctp_assoc: the association layer of SCTP (RFC 4960) for C and C++.
  *
- * One association a slot. Datagrams, moments and calls of the application go in; datagrams, events and the next moment
- * come out. No call reads a clock, a socket or a random source, blocks, calls back or keeps anything between calls but
- * in the slot. `./library` builds the archive to link with.
+ * One association lies in one slot. Datagrams, moments and calls of the application go in; datagrams, events and the
+ * next moment come out. No call reads a clock, a socket or a random source, blocks, calls back, or keeps anything
+ * outside of the slot. `./library` builds the archive to link with; docs/GUIDE.md shows how to use it.
  *
  * One turn of the loop, at the moment `now`:
- *   1. if sctp_assoc_poll_timeout gives a moment that isn't after now: sctp_assoc_handle_timeout;
- *   2. if a datagram came: sctp_assoc_handle_datagram;
- *   3. sctp_assoc_poll_event until it answers SCTP_ASSOC_NOTHING; at SCTP_ASSOC_EVENT_READABLE sctp_assoc_read until it
- *      does so too, or the stream is gone;
- *   4. sctp_assoc_poll_transmit until it answers SCTP_ASSOC_NOTHING, and send each datagram; do so also after each
- *      datagram that was handed in and after each write, since no timer runs for what waits to go out; where it may
- *      give messages up (sctp_assoc_set_reliability) or end the association (sctp_assoc_shutdown), poll for events
- *      behind it, too;
- *   5. sleep until the moment of sctp_assoc_poll_timeout, or until a datagram comes.
+ *   1. If sctp_assoc_poll_timeout gives a moment that isn't after now, call sctp_assoc_handle_timeout.
+ *   2. If a datagram came, call sctp_assoc_handle_datagram.
+ *   3. Call sctp_assoc_poll_event until it answers SCTP_ASSOC_NOTHING. At SCTP_ASSOC_EVENT_READABLE call
+ *      sctp_assoc_read until it answers SCTP_ASSOC_NOTHING, or the stream is gone. At SCTP_ASSOC_EVENT_OPENED call
+ *      sctp_assoc_accept_stream.
+ *   4. Call sctp_assoc_poll_transmit until it answers SCTP_ASSOC_NOTHING, and send each datagram. It can queue events,
+ *      too: call sctp_assoc_poll_event again after it. Do this step also after each datagram that you handed in and
+ *      after each write, since no timer runs for what waits to go out.
+ *   5. Sleep until the moment of sctp_assoc_poll_timeout, or until a datagram comes.
  *
- * To end: sctp_assoc_shutdown, and the loop goes on until sctp_assoc_is_drained; or at once, sctp_assoc_close.
+ * To end, call sctp_assoc_shutdown and go on with the loop until sctp_assoc_is_drained; or, at once, sctp_assoc_close.
  *
- * Each call may be made in any state, in any order and at any moment; what it can't do it refuses by a code. Beyond
+ * Each call may be made in any state, in any order and at any moment. What it can't do it refuses by a code. Beyond
  * that C owes this:
  * - A slot begins with all its bytes 0 and is changed by these calls alone. It isn't copied while it holds an
  *   association (moving it is fine). One call at a time; it may go from one thread to another between calls.
- * - No pointer is NULL, even where its length is 0. What a call writes to doesn't overlap anything else that it gets,
- *   and needs no value before.
+ * - No pointer is NULL, except for bytes or identifiers of which there are 0. What a call writes to doesn't overlap
+ *   anything else that it gets, and needs no value before.
  * - A `bool` is 0 or 1. Nothing here is called from a signal handler, or from the child of a fork of a process with
  *   threads.
  * - The library takes memory by malloc and realloc and gives it back by free. A program that defines rattle_alloc,
  *   rattle_realloc and rattle_dealloc itself (SCTP_ASSOC_HEAP below) has those called in their place.
  *
- * Moments (`now`) are nanoseconds from one that the program chooses; lengths and sizes are bytes; numbers are in the
+ * Moments (`now`) are nanoseconds from one that the program chooses. Lengths and sizes are bytes. Numbers are in the
  * host's byte order. Bytes that go in are copied, and no pointer is kept after a call.
  */
 #ifndef SCTP_ASSOC_H
@@ -42,6 +42,19 @@
 #ifdef __cplusplus
 extern "C" {
 #endif
+
+/* ---- The release ---- */
+
+#define SCTP_ASSOC_VERSION_MAJOR 0
+#define SCTP_ASSOC_VERSION_MINOR 1
+#define SCTP_ASSOC_VERSION_PATCH 0
+/* 10,000 times the first number, 100 times the second, and the third. What is declared here stays as long as the first
+ * number does; as long as that is 0, it stays while the second does. */
+#define SCTP_ASSOC_VERSION                                                                                             \
+    (10000 * SCTP_ASSOC_VERSION_MAJOR + 100 * SCTP_ASSOC_VERSION_MINOR + SCTP_ASSOC_VERSION_PATCH)
+
+/* The number of the archive, to compare with the header's. */
+uint32_t sctp_assoc_version(void);
 
 /* ---- The slot ---- */
 
@@ -56,16 +69,23 @@ typedef struct sctp_assoc {
 
 /* ---- Codes ----
  *
- * Each call answers one of these. What it gives is written where it answers SCTP_ASSOC_DONE, and a length or a count
- * also at SCTP_ASSOC_NO_ROOM; at every other code what the pointers lead to stays as it was.
+ * Each call answers one of these. What it gives is written if it answers SCTP_ASSOC_DONE, and a length or a count also
+ * at SCTP_ASSOC_NO_ROOM. At every other code what the pointers lead to stays as it was.
  */
 typedef uint32_t sctp_assoc_code;
 
 #define SCTP_ASSOC_DONE 0
 /* The slot is empty. Nothing changed. */
 #define SCTP_ASSOC_EMPTY_SLOT 1
-/* Memory was refused. What that leaves the call says; where it leaves the association failed,
- * sctp_assoc_is_failed tells so, and each later call that has the code SCTP_ASSOC_FAILED answers it. */
+/* Memory was refused. What that leaves:
+ *   sctp_assoc_handle_datagram               all is as before, or the association has failed
+ *   sctp_assoc_handle_timeout                the association has failed
+ *   sctp_assoc_poll_transmit                 the association has failed, and what was due is lost
+ *   sctp_assoc_close, _stop, _close_stream   the association has failed
+ *   sctp_assoc_read                          the message stays, or the association has failed
+ *   all other calls                          nothing changed
+ * sctp_assoc_is_failed tells whether it has. Then it is over, and each later call that has the code SCTP_ASSOC_FAILED
+ * answers that. */
 #define SCTP_ASSOC_NO_MEMORY 2
 /* There is none: no datagram is due, no event waits, no message is ready, no stream is to be accepted, or no timer
  * runs. */
@@ -129,7 +149,7 @@ typedef struct sctp_assoc_token {
     uint32_t window;               /* bytes */
     uint16_t num_outbound_streams;
     uint16_t num_inbound_streams;
-    bool forward_tsn;              /* its Supported Extensions list FORWARD TSN (RFC 3758 section 3.1): where the
+    bool forward_tsn;              /* its Supported Extensions list FORWARD TSN (RFC 3758 section 3.1): if the
                                     * peer's do, messages may be given up */
 } sctp_assoc_token;
 
@@ -140,9 +160,9 @@ sctp_assoc_code sctp_assoc_make_token(const sctp_assoc_config *config, uint32_t 
 /* ---- Begin and end ----
  *
  * Each of the first three makes an association and puts it into the slot; one that the slot held before is freed then.
- * `max_payload_size` is the greatest payload of one DATA chunk, 1 to 65,519 (1172 for UDP over links of 1280 bytes and
- * IPv6; UDP carries no more than 65,479). A datagram with DATA has up to 28 bytes more, and up to 3 beside where it is
- * no multiple of 4. Some other datagrams get longer: see sctp_assoc_poll_transmit.
+ * `max_payload_size` is the greatest payload of one DATA chunk, 1 to 65,519 (at most 1204 for UDP over links of 1280
+ * bytes and IPv6, less below DTLS; UDP carries no more than 65,479). A datagram with DATA has up to 28 bytes more, and
+ * up to 3 besides if it is no multiple of 4. Some other datagrams get longer: see sctp_assoc_poll_transmit.
  *
  * Codes: DONE, NO_MEMORY, BAD_PAYLOAD_SIZE, and BAD_INITIAL_TSN or BAD_TOKEN. At all but DONE the slot stays as it was.
  */
@@ -166,18 +186,18 @@ sctp_assoc_code sctp_assoc_free(sctp_assoc *slot);
 /* Begins to end the association gracefully (RFC 4960 section 9.2), and returns at once. From now on nothing is accepted
  * from the application: writes and resets of streams are refused by NOT_ESTABLISHED and CANNOT_RESET. What was accepted
  * is still sent, and messages of the peer still come. Go on with the loop: once all messages of both sides are
- * acknowledged the association closes as by sctp_assoc_close, here and at the peer, and SCTP_ASSOC_EVENT_LOST tells it
+ * acknowledged, the association closes as by sctp_assoc_close, here and at the peer, and SCTP_ASSOC_EVENT_LOST tells it
  * with the reason SCTP_ASSOC_REASON_CLOSED. Read what comes at once, since unread messages are gone then. The loop is
- * over where sctp_assoc_is_drained says so and sctp_assoc_poll_transmit answers NOTHING.
+ * over once sctp_assoc_is_drained says so and sctp_assoc_poll_transmit answers NOTHING.
  *
- * A peer that is gone is waited for without a limit of time, and a side that closed answers nothing any more, even if
- * the last datagram that it sent is lost. So wait for a bounded time, and end it by sctp_assoc_close then.
+ * A peer that is gone is waited for without a limit, and a side that closed answers nothing any more, even if the last
+ * datagram that it sent is lost. So wait for a bounded time, and then call sctp_assoc_close.
  *
- * Codes: DONE, EMPTY_SLOT, FAILED, SHUTDOWN_NOT_ESTABLISHED (also where either side has begun a shutdown). */
+ * Codes: DONE, EMPTY_SLOT, FAILED, SHUTDOWN_NOT_ESTABLISHED (also if either side has begun a shutdown). */
 sctp_assoc_code sctp_assoc_shutdown(sctp_assoc *slot);
 
 /* Closes the association at once; nothing is told to the peer, and each stream ends. Datagrams and messages that wait
- * at the slot can still be taken; SCTP_ASSOC_EVENT_LOST comes behind the events that wait. Codes: DONE, EMPTY_SLOT,
+ * at the slot can still be taken; SCTP_ASSOC_EVENT_LOST comes after the events that wait. Codes: DONE, EMPTY_SLOT,
  * FAILED, NO_MEMORY (the association has failed). */
 sctp_assoc_code sctp_assoc_close(sctp_assoc *slot);
 
@@ -197,7 +217,7 @@ sctp_assoc_code sctp_assoc_handle_datagram(sctp_assoc *slot, uint64_t now, const
 /* Copies the next datagram that is due at `now` to the front of the buffer; `length` says how long it is. Codes: DONE,
  * EMPTY_SLOT, NOTHING, NO_ROOM, FAILED, NO_MEMORY (the association has failed, and what was due is lost).
  *
- * At NO_ROOM the datagram stays, and those behind it wait: come again with `length` bytes of room, or have
+ * At NO_ROOM the datagram stays, and those after it wait: come again with `length` bytes of room, or have
  * SCTP_ASSOC_MAX_DATAGRAM from the start, which is always enough. How long datagrams get, in bytes:
  *   DATA                        28 and the payload, at most max_payload_size (rounded up to 4)
  *   COOKIE ECHO                 16 and the State Cookie that the peer's INIT ACK had (rounded up to 4)
@@ -208,18 +228,18 @@ sctp_assoc_code sctp_assoc_handle_datagram(sctp_assoc *slot, uint64_t now, const
  *   HEARTBEAT ACK               at most as long as the HEARTBEAT that came
  *   all others                  up to 100
  * One request resets all streams that were closed here since the last request was answered, or that the peer reset by
- * one of its own. So with max_payload_size 1200 a datagram has more than 1228 bytes where the peer leaves more than 300
- * gaps, where one request resets more than 598 streams, or where messages are given up on more than 302. UDP carries
- * such a datagram in parts (up to 65,507 bytes); where it may not, close streams in groups, and wait for the
+ * one of its own. So with max_payload_size 1200 a datagram has more than 1228 bytes if the peer leaves more than 300
+ * gaps, if one request resets more than 598 streams, or if messages are given up on more than 302. UDP carries such a
+ * datagram in fragments (up to 65,507 bytes). If it may not, close streams in groups, and wait for the
  * SCTP_ASSOC_EVENT_RESET_COMPLETE of one group before the next. What cannot be sent counts as lost. */
 #define SCTP_ASSOC_MAX_DATAGRAM 65548
 sctp_assoc_code sctp_assoc_poll_transmit(sctp_assoc *slot, uint64_t now, uint8_t *buffer, size_t room, size_t *length);
 
-/* Writes the moment at which the next timer expires. Where it isn't after now, sctp_assoc_handle_timeout is due. Codes:
+/* Writes the moment at which the next timer expires. If it isn't after now, sctp_assoc_handle_timeout is due. Codes:
  * DONE, EMPTY_SLOT, NOTHING. */
 sctp_assoc_code sctp_assoc_poll_timeout(sctp_assoc *slot, uint64_t *moment);
 
-/* Does what the timers that expired by `now` ask for, and nothing where none did; packets come by
+/* Does what the timers that expired by `now` ask for, and nothing if none did; packets come by
  * sctp_assoc_poll_transmit. Codes: DONE, EMPTY_SLOT, FAILED, NO_MEMORY (the association has failed). */
 sctp_assoc_code sctp_assoc_handle_timeout(sctp_assoc *slot, uint64_t now);
 
@@ -264,7 +284,7 @@ typedef struct sctp_assoc_counters {
 typedef struct sctp_assoc_event {
     uint32_t kind;   /* SCTP_ASSOC_EVENT_.. */
     uint32_t reason; /* SCTP_ASSOC_REASON_.. */
-    uint16_t stream; /* 0 where the kind has none */
+    uint16_t stream; /* 0 if the kind has none */
     sctp_assoc_counters counters; /* of SCTP_ASSOC_EVENT_STREAM_ENDED, else all 0 */
 } sctp_assoc_event;
 
@@ -273,7 +293,7 @@ sctp_assoc_code sctp_assoc_poll_event(sctp_assoc *slot, sctp_assoc_event *event)
 
 /* For whoever keeps the slots of several associations: DONE tells, once and as soon as it is so, that the application
  * began a shutdown here (sctp_assoc_shutdown): nothing is written any more. That is the beginning of the end; all is
- * over only where sctp_assoc_is_drained says so, and reads and the calls of the loop go on until then. Nobody has to
+ * over only once sctp_assoc_is_drained says so, and reads and the calls of the loop go on until then. Nobody has to
  * ask. Codes: DONE, EMPTY_SLOT, NOTHING. */
 sctp_assoc_code sctp_assoc_poll_endpoint_event(sctp_assoc *slot);
 
@@ -328,15 +348,15 @@ sctp_assoc_code sctp_assoc_rto(sctp_assoc *slot, uint64_t *ms);
 /* Of sctp_assoc_write alone: that which sctp_assoc_open_stream set. */
 #define SCTP_ASSOC_PPID_OF_STREAM UINT32_MAX
 
-/* Makes a stream on this side, whose messages have this payload protocol identifier where a write names none. Nothing
+/* Makes a stream on this side, whose messages have this payload protocol identifier unless a write names one. Nothing
  * is sent: the peer sees the stream by its first message. Codes: DONE, EMPTY_SLOT, FAILED, STREAM_EXISTS,
  * RESET_PENDING, NO_STREAM_LEFT, NO_MEMORY (nothing changed). */
 sctp_assoc_code sctp_assoc_open_stream(sctp_assoc *slot, uint16_t stream, uint32_t payload_type);
 
 /* Takes out the identifier of the oldest stream that the peer opened and that wasn't accepted yet. It needs no
  * accepting to be read or written, but its identifier waits here, in two bytes, each time that the peer opens it: so
- * call this at each SCTP_ASSOC_EVENT_OPENED, also where the answer is of no use. Codes: DONE, EMPTY_SLOT, NOTHING (also
- * where the association has failed). */
+ * call this at each SCTP_ASSOC_EVENT_OPENED, even if the answer is of no use. Codes: DONE, EMPTY_SLOT, NOTHING (also if
+ * the association has failed). */
 sctp_assoc_code sctp_assoc_accept_stream(sctp_assoc *slot, uint16_t *stream);
 
 /* Accepts one message, which goes out with sctp_assoc_poll_transmit as the windows allow. Codes: DONE, EMPTY_SLOT,
@@ -347,8 +367,8 @@ sctp_assoc_code sctp_assoc_write(sctp_assoc *slot, uint16_t stream, uint32_t pay
 
 /* Copies the next message of a stream, whole, to the front of the buffer, and writes its length and its payload
  * protocol identifier. At NO_ROOM the message stays, and `length` says how long it is. A message of length 0 comes only
- * from a peer that sends DATA without a byte; it cannot be written back (EMPTY_MESSAGE). Where the peer ended its half,
- * the stream may end with its last message: then there is NO_STREAM behind it. Codes: DONE, EMPTY_SLOT, NOTHING,
+ * from a peer that sends DATA without a byte; it cannot be written back (EMPTY_MESSAGE). If the peer ended its half,
+ * the stream may end with its last message, and the next read answers NO_STREAM. Codes: DONE, EMPTY_SLOT, NOTHING,
  * NO_ROOM, FAILED, NO_STREAM, STREAM_CLOSED, NO_MEMORY (the message stays, or the association has failed). */
 sctp_assoc_code sctp_assoc_read(sctp_assoc *slot, uint16_t stream, uint8_t *buffer, size_t room, size_t *length,
                                 uint32_t *payload_type);
@@ -359,8 +379,8 @@ sctp_assoc_code sctp_assoc_finish(sctp_assoc *slot, uint16_t stream);
 
 /* Closes the read half of a stream and asks for a reset of it (RFC 6525, RFC 8831 section 6.7). What was accepted goes
  * out first; then the peer is asked to reset its half, too. Nothing of the stream can be read or written any more, and
- * a message that didn't fit a buffer is dropped. Its end is told by SCTP_ASSOC_EVENT_STREAM_ENDED, _FINISHED and behind
- * that _RESET_COMPLETE, at the peer, too. Where the read half is closed already, nothing changes. Codes: DONE,
+ * a message that didn't fit a buffer is dropped. Its end is told by SCTP_ASSOC_EVENT_STREAM_ENDED, _FINISHED and after
+ * that _RESET_COMPLETE, at the peer, too. If the read half is closed already, nothing changes. Codes: DONE,
  * EMPTY_SLOT, FAILED, NO_STREAM, CANNOT_RESET, NO_MEMORY (the association has failed). */
 sctp_assoc_code sctp_assoc_stop(sctp_assoc *slot, uint16_t stream);
 
@@ -371,16 +391,16 @@ sctp_assoc_code sctp_assoc_close_stream(sctp_assoc *slot, uint16_t stream);
 /* How long a message is sent again (RFC 3758 section 4.1); any other number is SCTP_ASSOC_RELIABLE. */
 #define SCTP_ASSOC_RELIABLE 0 /* until it is acknowledged */
 #define SCTP_ASSOC_REXMIT 1   /* `value` times; at 0 it goes out once */
-#define SCTP_ASSOC_TIMED 2    /* for `value` ms from the first sctp_assoc_poll_transmit behind the write; at 0 never */
+#define SCTP_ASSOC_TIMED 2    /* for `value` ms from the first sctp_assoc_poll_transmit after the write; at 0 never */
 
 /* From now on writes of all streams take messages of up to `bytes` bytes, at 0 none; what was accepted stays. At first
- * this is max_send_message_size of the configuration. Codes: DONE (also where the association has failed, and then
+ * this is max_send_message_size of the configuration. Codes: DONE (also if the association has failed, and then
  * nothing changes), EMPTY_SLOT. */
 sctp_assoc_code sctp_assoc_set_max_send_message_size(sctp_assoc *slot, uint32_t bytes);
 
 /* Sets how messages of a stream that are written from now on are sent: in order or not, and how long. A message past
  * that is given up whole by sctp_assoc_poll_transmit, and the peer reads all of it or nothing; no timer runs for it.
- * Where the peer doesn't list FORWARD TSN, none is given up, and messages of SCTP_ASSOC_PPID_DCEP never are. Codes:
+ * If the peer doesn't list FORWARD TSN, none is given up, and messages of SCTP_ASSOC_PPID_DCEP never are. Codes:
  * DONE, EMPTY_SLOT, FAILED, NO_STREAM. */
 sctp_assoc_code sctp_assoc_set_reliability(sctp_assoc *slot, uint16_t stream, bool unordered, uint32_t kind,
                                            uint32_t value);
@@ -404,7 +424,7 @@ sctp_assoc_code sctp_assoc_set_payload_type(sctp_assoc *slot, uint16_t stream, u
 /* Writes the buffered amount: how many bytes were accepted on the stream and are neither acknowledged nor given up. */
 sctp_assoc_code sctp_assoc_buffered_amount(sctp_assoc *slot, uint16_t stream, size_t *bytes);
 
-/* Writes, or sets, the low mark, in bytes, at first 0. Where an acknowledgement, or what sctp_assoc_poll_transmit gives
+/* Writes, or sets, the low mark, in bytes, at first 0. If an acknowledgement, or what sctp_assoc_poll_transmit gives
  * up, takes the buffered amount from above it to it or below, SCTP_ASSOC_EVENT_BUFFERED_LOW tells. Setting it tells
  * nothing. */
 sctp_assoc_code sctp_assoc_low_mark(sctp_assoc *slot, uint16_t stream, size_t *bytes);
@@ -420,7 +440,7 @@ sctp_assoc_code sctp_assoc_set_high_mark(sctp_assoc *slot, uint16_t stream, size
  * A program that defines all three has the library take its memory from them; `#define SCTP_ASSOC_HEAP` before this
  * header declares them. Give the linker the program's definitions before the archive. `align` is a power of two up to
  * 16, and a block of `size` 0 has an address of its own too. What rattle_realloc answers keeps its first `kept` bytes.
- * The first two answer ok = false where they refuse; then the old block stays as it was, and `at` leads anywhere but to
+ * The first two answer ok = false if they refuse; then the old block stays as it was, and `at` leads anywhere but to
  * NULL. None of the three calls the library.
  */
 #ifdef SCTP_ASSOC_HEAP

@@ -94,7 +94,7 @@ impl Association {
 
     /// Takes in one datagram that came at `now`: an SCTP packet from its common header on.
     ///
-    /// Errors: `Failed`; `NoMemory`, where all is as before or the association failed.
+    /// Errors: `Failed`; `NoMemory`: all is as before, or the association failed.
     pub fn handle_datagram(&mut self, now: Instant, datagram: &[u8]) -> Result<Fate, Error> {
         let moment = self.nanos(now);
         let mut fate = 0;
@@ -111,7 +111,7 @@ impl Association {
         })
     }
 
-    /// Copies the next datagram that is due at `now` to the front of the buffer. None where none is due: call it until
+    /// Copies the next datagram that is due at `now` to the front of the buffer. None if none is due: call it until
     /// then. It gives up the messages that are past their [`Reliability`](crate::Reliability), and may leave
     /// [`Event::BufferedAmountLow`] for that; and with the last datagram of a shutdown it leaves [`Event::Lost`].
     ///
@@ -127,11 +127,11 @@ impl Association {
     /// - all others: up to 100.
     ///
     /// A buffer of [`MAX_DATAGRAM`](crate::MAX_DATAGRAM) bytes is always long enough. UDP carries up to 65,507 bytes,
-    /// in parts where that is more than the path takes; where it may not, close streams in groups, and wait for
+    /// in fragments if that is more than the path takes; if it may not, close streams in groups, and wait for
     /// [`Event::ResetComplete`] of one group before the next. What cannot be sent counts as lost.
     ///
-    /// Errors: `NoRoom` where the buffer is shorter than the datagram, which stays, with those behind it; `Failed`;
-    /// `NoMemory`, where the association failed and what was due is lost.
+    /// Errors: `NoRoom` if the buffer is shorter than the datagram, which stays, with those after it; `Failed`;
+    /// `NoMemory`: the association failed, and what was due is lost.
     pub fn poll_transmit<'b>(&mut self, now: Instant, buffer: &'b mut [u8]) -> Result<Option<&'b [u8]>, Error> {
         let moment = self.nanos(now);
         let mut length = 0;
@@ -143,7 +143,7 @@ impl Association {
         Ok(done_or_nothing(code, length)?.then(|| &buffer[..length]))
     }
 
-    /// The moment at which the next timer expires; None where no timer runs. Where it is not after now,
+    /// The moment at which the next timer expires; None if no timer runs. If it is not after now,
     /// [`handle_timeout`](Association::handle_timeout) is due.
     pub fn poll_timeout(&self) -> Option<Instant> {
         let mut nanos = 0;
@@ -153,15 +153,15 @@ impl Association {
         self.began.checked_add(Duration::from_nanos(nanos))
     }
 
-    /// Does what the timers that expired by `now` ask for, and nothing where none did.
+    /// Does what the timers that expired by `now` ask for, and nothing if none did.
     ///
-    /// Errors: `Failed`; `NoMemory`, where the association failed.
+    /// Errors: `Failed`; `NoMemory`: the association failed.
     pub fn handle_timeout(&mut self, now: Instant) -> Result<(), Error> {
         // SAFETY: the slot holds an association that nobody else uses now.
         done(unsafe { sys::sctp_assoc_handle_timeout(self.slot.get(), self.nanos(now)) })
     }
 
-    /// Takes out the oldest event. None where none waits.
+    /// Takes out the oldest event. None if none waits.
     ///
     /// Errors: `Failed`.
     pub fn poll_event(&mut self) -> Result<Option<Event>, Error> {
@@ -171,8 +171,8 @@ impl Association {
         Ok(done_or_nothing(code, 0)?.then(|| Event::of(&told)))
     }
 
-    /// What whoever keeps this association is to be told, once: that its end has begun. All is over only where
-    /// [`is_drained`](Association::is_drained) says so. None where nothing is to be told. Nobody has to ask.
+    /// What whoever keeps this association is to be told, once: that its end has begun. All is over only once
+    /// [`is_drained`](Association::is_drained) says so. None if nothing is to be told. Nobody has to ask.
     pub fn poll_endpoint_event(&mut self) -> Option<EndpointEvent> {
         // SAFETY: the slot holds an association that nobody else uses now.
         let code = unsafe { sys::sctp_assoc_poll_endpoint_event(self.slot.get()) };
@@ -183,13 +183,13 @@ impl Association {
     /// refused by `NotEstablished`, and stops of streams by `CannotReset`. What was accepted is still sent, and messages
     /// of the peer still come. Go on with the loop: once all messages of both sides are acknowledged the association
     /// closes, at the peer, too, and [`Event::Lost`] tells it with [`Reason::Closed`](crate::Reason::Closed). Read what
-    /// comes at once: unread messages are gone then. The loop is over where [`is_drained`](Association::is_drained) says
+    /// comes at once: unread messages are gone then. The loop is over once [`is_drained`](Association::is_drained) says
     /// so and `poll_transmit` gives None.
     ///
     /// A peer that is gone is waited for without a limit of time, and a side that closed answers nothing any more, even
     /// if the last datagram that it sent is lost. So wait for a bounded time, and [`close`](Association::close) then.
     ///
-    /// Errors: `Failed`; `ShutdownNotEstablished`, also where either side has begun a shutdown.
+    /// Errors: `Failed`; `ShutdownNotEstablished`, also if either side has begun a shutdown.
     pub fn shutdown(&mut self) -> Result<(), Error> {
         // SAFETY: the slot holds an association that nobody else uses now.
         done(unsafe { sys::sctp_assoc_shutdown(self.slot.get()) })
@@ -198,7 +198,7 @@ impl Association {
     /// Closes the association at once. The peer is told nothing, and each stream ends. A datagram that waits, and a
     /// message that did not fit a buffer, can still be taken.
     ///
-    /// Errors: `Failed`; `NoMemory`, where the association failed.
+    /// Errors: `Failed`; `NoMemory`: the association failed.
     pub fn close(&mut self) -> Result<(), Error> {
         // SAFETY: the slot holds an association that nobody else uses now.
         done(unsafe { sys::sctp_assoc_close(self.slot.get()) })
@@ -295,10 +295,10 @@ impl Association {
         unsafe { sys::sctp_assoc_set_max_send_message_size(self.slot.get(), bytes) };
     }
 
-    /// Makes a stream on this side. What is written on it carries this payload type where a write names none. Nothing
+    /// Makes a stream on this side. What is written on it carries this payload type unless a write names one. Nothing
     /// is sent for it: the peer sees the stream by its first message.
     ///
-    /// Errors: `Failed`, `StreamExists` (also where the peer opened it), `ResetPending`, `NoStreamLeft`, `NoMemory`.
+    /// Errors: `Failed`, `StreamExists` (also if the peer opened it), `ResetPending`, `NoStreamLeft`, `NoMemory`.
     pub fn open_stream(&mut self, id: u16, payload_type: PayloadType) -> Result<Stream<'_>, Error> {
         // SAFETY: the slot holds an association that nobody else uses now.
         done(unsafe { sys::sctp_assoc_open_stream(self.slot.get(), id, payload_type.number()) })?;
@@ -307,7 +307,7 @@ impl Association {
 
     /// Takes out the oldest stream that the peer opened and that was not accepted yet. A stream needs no accepting to
     /// be read or written, but its identifier waits here, in two bytes, each time that the peer opens it: so call this
-    /// at each [`Event::Opened`], also where the answer is of no use.
+    /// at each [`Event::Opened`], even if the answer is of no use.
     pub fn accept_stream(&mut self) -> Option<Stream<'_>> {
         let mut id = 0;
         // SAFETY: the slot holds an association that nobody else uses now; it writes an identifier.

@@ -5,7 +5,7 @@ use std::time::Duration;
 #[derive(Clone, Debug, PartialEq, Eq)]
 pub struct Config {
     /// Greatest payload of one DATA chunk, 1 to 65,519 bytes; 1172, which fits links of 1280 bytes below UDP and IPv6.
-    /// A datagram with DATA has up to 28 bytes more, and up to 3 beside where this is no multiple of 4.
+    /// A datagram with DATA has up to 28 bytes more, and up to 3 besides if this is no multiple of 4.
     /// [`poll_transmit`](crate::Association::poll_transmit) says how long others get.
     pub max_payload_size: u32,
     /// The receive buffer and the window that is offered, in bytes; 1,048,576. A peer refuses one below 1500.

@@ -1,7 +1,7 @@
 use crate::sys;
 use std::fmt;
 
-/// Why a call was refused. Where a page says nothing else, the call changed nothing.
+/// Why a call was refused. Unless the page of a call says otherwise, the call changed nothing.
 #[derive(Clone, Copy, Debug, PartialEq, Eq)]
 #[non_exhaustive]
 pub enum Error {
@@ -30,7 +30,7 @@ pub enum Error {
     NoStreamLeft,
     /// There is no such stream.
     NoStream,
-    /// A shutdown begins while the association is established, and at no other time, so not behind another one.
+    /// A shutdown begins while the association is established, and at no other time, so not after another one.
     ShutdownNotEstablished,
     /// Messages are written while the association is established, and at no other time.
     NotEstablished,
@@ -97,7 +97,7 @@ impl fmt::Display for Error {
 
 impl std::error::Error for Error {}
 
-/// What a code means where a call has an answer beside it. `length` as in [`Error::of`].
+/// What a code means if the call has an answer besides. `length` as in [`Error::of`].
 pub(crate) fn done_or_nothing(code: u32, length: usize) -> Result<bool, Error> {
     match code {
         sys::DONE => Ok(true),
@@ -106,7 +106,7 @@ pub(crate) fn done_or_nothing(code: u32, length: usize) -> Result<bool, Error> {
     }
 }
 
-/// What a code means where a call has no answer beside it.
+/// What a code means if the call has no answer besides.
 pub(crate) fn done(code: u32) -> Result<(), Error> {
     match code {
         sys::DONE => Ok(()),

@@ -42,7 +42,7 @@ pub enum Event {
         stream: u16,
     },
     /// Messages of a stream can be read: read until there is none. Told for each DATA chunk that is taken in while one
-    /// is ready, so several may come of one event, and none of the next; and where the peer gave up what stood before.
+    /// is ready, so several may come of one event, and none of the next; and if the peer gave up what stood before.
     Readable {
         /// The stream's identifier.
         stream: u16,
@@ -78,7 +78,7 @@ pub enum Event {
     Other {
         /// The number of its kind.
         kind: u32,
-        /// The stream's identifier, 0 where it has none.
+        /// The stream's identifier, 0 if it has none.
         stream: u16,
     },
 }

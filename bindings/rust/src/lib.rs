@@ -8,8 +8,8 @@
 //! 2. If a datagram came, hand it to [`handle_datagram`](Association::handle_datagram).
 //! 3. Call [`poll_event`](Association::poll_event) until it gives None; at [`Event::Readable`] call
 //!    [`read`](Stream::read) until it does so too, or the stream is gone.
-//! 4. Call [`poll_transmit`](Association::poll_transmit) until it gives None, and send each datagram. Where it may give
-//!    messages up ([`Reliability`]) or end the association, poll for events behind it, too.
+//! 4. Call [`poll_transmit`](Association::poll_transmit) until it gives None, and send each datagram. It can queue
+//!    events, too: poll for events again after it.
 //! 5. Sleep until the moment of `poll_timeout`, or until a datagram comes.
 //!
 //! To end call [`shutdown`](Association::shutdown), and go on until [`is_drained`](Association::is_drained); or, to end

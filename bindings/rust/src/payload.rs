@@ -52,7 +52,7 @@ pub enum Reliability {
     Reliable,
     /// So many times; at 0 it goes out once.
     Retransmissions(u32),
-    /// So long after the first [`poll_transmit`](crate::Association::poll_transmit) behind its write; whole
+    /// So long after the first [`poll_transmit`](crate::Association::poll_transmit) after its write; whole
     /// milliseconds count, up to 2^32 - 1. At 0 it never goes out.
     Lifetime(Duration),
 }

@@ -44,11 +44,11 @@ impl Stream<'_> {
         done(unsafe { sys::sctp_assoc_write(slot, self.id, payload_type, message.as_ptr(), message.len()) })
     }
 
-    /// Copies the next message to the front of the buffer. None where none is ready. Where the peer ended its half, the
-    /// stream may end with its last message: then there is `NoStream` behind it.
+    /// Copies the next message to the front of the buffer. None if none is ready. If the peer ended its half, the
+    /// stream may end with its last message, and the next read answers `NoStream`.
     ///
-    /// Errors: `NoRoom` where the buffer is shorter than the message, which stays; `Failed`, `NoStream`,
-    /// `StreamClosed`; `NoMemory`, where the message stays or the association failed.
+    /// Errors: `NoRoom` if the buffer is shorter than the message, which stays; `Failed`, `NoStream`,
+    /// `StreamClosed`; `NoMemory`: the message stays, or the association failed.
     pub fn read<'b>(&mut self, buffer: &'b mut [u8]) -> Result<Option<Message<'b>>, Error> {
         let slot = self.association.slot.get();
         let (mut length, mut number) = (0, 0);
@@ -88,9 +88,9 @@ impl Stream<'_> {
     /// out first; then the peer is asked to reset its half, too. Nothing can be read or written any more, and a message
     /// that did not fit a buffer is dropped. [`Event::StreamEnded`](crate::Event::StreamEnded),
     /// [`Event::Finished`](crate::Event::Finished) and [`Event::ResetComplete`](crate::Event::ResetComplete) tell the
-    /// end, at the peer, too. Where the read half is closed already, nothing changes.
+    /// end, at the peer, too. If the read half is closed already, nothing changes.
     ///
-    /// Errors: `Failed`, `NoStream`, `CannotReset`; `NoMemory`, where the association failed.
+    /// Errors: `Failed`, `NoStream`, `CannotReset`; `NoMemory`: the association failed.
     pub fn stop(&mut self) -> Result<(), Error> {
         // SAFETY: the slot holds an association that nobody else uses now.
         done(unsafe { sys::sctp_assoc_stop(self.association.slot.get(), self.id) })
@@ -106,7 +106,7 @@ impl Stream<'_> {
 
     /// Sets how messages are sent that are written from now on: in order or not, and how long they are sent again. A
     /// message past that is given up whole by [`poll_transmit`](Association::poll_transmit), and the peer reads all of
-    /// it or nothing; no timer runs for it. Where the peer does not list FORWARD TSN (RFC 3758), none is given up, and
+    /// it or nothing; no timer runs for it. If the peer does not list FORWARD TSN (RFC 3758), none is given up, and
     /// messages under [`PayloadType::Dcep`] never are.
     ///
     /// Errors: `Failed`, `NoStream`.
@@ -117,7 +117,7 @@ impl Stream<'_> {
         done(unsafe { sys::sctp_assoc_set_reliability(slot, self.id, unordered, kind, value) })
     }
 
-    /// The payload type of messages whose write names none: that with which the stream was opened, and `Unknown` where
+    /// The payload type of messages whose write names none: that with which the stream was opened, and `Unknown` if
     /// the peer opened it.
     ///
     /// Errors: `Failed`, `NoStream`.
@@ -154,7 +154,7 @@ impl Stream<'_> {
         self.ask(sys::sctp_assoc_buffered_amount)
     }
 
-    /// The low mark, in bytes, at first 0: where an acknowledgement, or what a poll gives up, takes the buffered amount
+    /// The low mark, in bytes, at first 0: if an acknowledgement, or what a poll gives up, takes the buffered amount
     /// from above it to it or below, that is told as
     /// [`Event::BufferedAmountLow`](crate::Event::BufferedAmountLow).
     ///

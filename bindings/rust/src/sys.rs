@@ -88,6 +88,8 @@ pub(crate) const NO_LIMIT: usize = usize::MAX;
 pub(crate) const PPID_OF_STREAM: u32 = u32::MAX;
 
 extern "C" {
+    #[cfg(test)]
+    fn sctp_assoc_version() -> u32;
     pub(crate) fn sctp_assoc_default_config(config: *mut Config) -> u32;
     pub(crate) fn sctp_assoc_make_token(config: *const Config, tag: u32, initial_tsn: u32, token: *mut Token) -> u32;
     pub(crate) fn sctp_assoc_client(
@@ -183,6 +185,15 @@ mod tests {
     use super::*;
     use std::mem::{size_of, size_of_val, MaybeUninit};
     use std::ptr::addr_of;
+
+    /// The archive is of the release that this crate's manifest says.
+    #[test]
+    fn the_archive_is_of_this_release() {
+        let mut numbers = env!("CARGO_PKG_VERSION").split('.').map(|number| number.parse::<u32>().unwrap());
+        let mut next = || numbers.next().unwrap();
+        // SAFETY: it takes nothing and answers a constant.
+        assert_eq!(10_000 * next() + 100 * next() + next(), unsafe { sctp_assoc_version() });
+    }
 
     /// Each struct is laid out as the header's, of which `host/layout.c` prints the list.
     #[test]

@@ -25,6 +25,8 @@ pub struct Config {
     pub max_data_retransmits: usize,
 }
 
+const _: () = prove!(size_of::<Config>() == 64);
+
 /// What names one side: its verification tag, its first TSN and its State Cookie.
 #[repr(C)]
 #[derive(Drop)]
@@ -33,6 +35,8 @@ pub struct Identity {
     pub initial_tsn: u32,
     pub cookie: [u8; 32],
 }
+
+const _: () = prove!(size_of::<Identity>() == 40);
 
 /// The values of an INIT chunk that is exchanged in another way than in a packet.
 #[repr(C)]
@@ -45,6 +49,8 @@ pub struct Token {
     pub num_inbound_streams: u16,
     pub forward_tsn: bool,
 }
+
+const _: () = prove!(size_of::<Token>() == 20);
 
 fn limit(retransmits: usize) -> Option<usize>
     ensures { result ≡ limit_of retransmits }

@@ -25,6 +25,8 @@ pub struct Counters {
     pub bytes_received: u64,
 }
 
+const _: () = prove!(size_of::<Counters>() == 32);
+
 /// An event. `include/sctp_assoc.h` has the numbers of kinds and reasons.
 #[repr(C)]
 #[derive(Drop)]
@@ -34,6 +36,8 @@ pub struct Told {
     pub stream: u16,
     pub counters: Counters,
 }
+
+const _: () = prove!(size_of::<Told>() == 48);
 
 const CONNECTED: u32 = 1;
 

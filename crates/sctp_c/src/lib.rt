@@ -13,6 +13,7 @@ mod datagrams;
 mod events;
 mod handle;
 mod questions;
+mod release;
 mod settings;
 mod slot;
 mod stats;

@@ -17,6 +17,8 @@ pub struct Slot {
     ghost tied: { live ≡ is_some handle.driver },
 }
 
+const _: () = prove!(size_of::<Slot>() == 16);
+
 impl Slot {
     fn empty(alloc: Global) -> Slot
         ensures { result.handle.driver ≡ None }

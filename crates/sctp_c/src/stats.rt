@@ -26,6 +26,8 @@ pub struct Totals {
     pub fast_retransmissions: u64,
 }
 
+const _: () = prove!(size_of::<Totals>() == 40);
+
 fn totals_of(stats: AssociationStats) -> Totals
     ensures { result ≡ totals_of stats }
 {
