@@ -14,10 +14,9 @@ first_congestion mtu window = record {
   partial_bytes_acked = 0;
 }
 
--- slow start: the window grows by the bytes that came, at most to the double; section 7.2.1 lets it grow by one packet
--- at most (docs/DECISIONS.md)
-abbrev pub slowly_started : ℕ → CongestionWindow → CongestionWindow
-slowly_started acked c = record c { cwnd = sum_of c.cwnd (min acked c.cwnd) }
+-- slow start: the window grows by the bytes that came, and by one packet at most (section 7.2.1)
+abbrev pub slowly_started : ℕ → ℕ → CongestionWindow → CongestionWindow
+slowly_started acked mtu c = record c { cwnd = sum_of c.cwnd (min acked mtu) }
 
 abbrev pub with_more_acked : ℕ → CongestionWindow → CongestionWindow
 with_more_acked acked c =
@@ -41,7 +40,7 @@ avoided acked waits mtu c =
 abbrev pub grown : ℕ → Bool → Bool → ℕ → CongestionWindow → CongestionWindow
 grown acked waits recovers mtu c =
     if nat_lt c.ssthresh c.cwnd then avoided acked waits mtu c else
-    if waits && not recovers then slowly_started acked c else c
+    if waits && not recovers then slowly_started acked mtu c else c
 
 -- the least slow start threshold after a loss: four packets
 abbrev pub least_threshold : ℕ → ℕ

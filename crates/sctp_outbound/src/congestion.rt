@@ -36,15 +36,15 @@ impl CongestionWindow {
         if self.cwnd > self.ssthresh {
             self.avoid(acked, waits, mtu);
         } else if waits && !recovers {
-            self.start_slowly(acked);
+            self.start_slowly(acked, mtu);
         }
     }
 
-    // Slow start: by what came, and by no more than the window itself.
-    fn start_slowly(&mut self, acked: u64)
-        ensures { self.new ≡ slowly_started acked self.old }
+    // Slow start: by what came, and by no more than one packet.
+    fn start_slowly(&mut self, acked: u64, mtu: u32)
+        ensures { self.new ≡ slowly_started acked mtu self.old }
     {
-        let more = acked.min(u64::from(self.cwnd)) as u32;
+        let more = acked.min(u64::from(mtu)) as u32;
         self.cwnd = self.cwnd.saturating_add(more);
     }
 

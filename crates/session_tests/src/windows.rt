@@ -12,19 +12,35 @@ fn outcome(alloc: Global, text: &str) -> Result<Shown, Error> {
     ran(alloc, &TransportConfig::default(), steps.as_slice())
 }
 
-/// Three pieces of 12,000 bytes fill the first window; their acknowledgement opens it by what came.
+/// Three pieces of 12,000 bytes fill the first window; their acknowledgement opens it by one packet.
 static SLOW_START: &str =
     "send A 0\ndeliver B 0 0\ndeliver B 1 0\ndeliver B 2 0\nsend B 0\ndeliver A 0 0\nsend A 0\n";
 
 static SLOW_START_REPLIES: &str =
-    "ok\nwrote 12000\npackets 0 3\nok\nok\nok\npackets 0 1\nok\npackets 3 6\n";
+    "ok\nwrote 12000\npackets 0 3\nok\nok\nok\npackets 0 1\nok\npackets 3 4\n";
 
 #[test]
 fn an_acknowledgement_opens_the_window(rt: HostRuntime) -> Result<(), Fail> {
     let text = written(rt.alloc(), 12_000, SLOW_START)?;
     let shown = outcome(rt.alloc(), text.as_str())?;
     assert_eq!(rt; shown.replies.as_str(), SLOW_START_REPLIES);
-    assert_eq!(rt; shown.a.windows.0, 7980);
+    assert_eq!(rt; shown.a.windows.0, 5608);
+    Ok(())
+}
+
+/// Fewer bytes than a packet has come while others wait.
+static SHORT: &str =
+    "send A 0\nwrite A 1 62\ndeliver B 0 0\ntime B 200\nsend B 200\ndeliver A 0 200\n";
+
+#[test]
+fn a_short_acknowledgement_opens_it_by_what_came(rt: HostRuntime) -> Result<(), Fail> {
+    let text = written(rt.alloc(), 1200, SHORT)?;
+    let shown = outcome(rt.alloc(), text.as_str())?;
+    assert_eq!(rt;
+        shown.replies.as_str(),
+        "ok\nwrote 1200\npackets 0 1\nwrote 1\nok\nok\npackets 0 1\nok\n"
+    );
+    assert_eq!(rt; shown.a.windows.0, 5580);
     Ok(())
 }
 
