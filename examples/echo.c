@@ -1,7 +1,7 @@
 /*
  * Messages that come back, over UDP (RFC 6951): a server that echoes, and a client that sends COUNT messages of 1 to
  * 8,192 bytes and looks at what comes back. Then the client closes the stream, which ends at both sides, and shuts the
- * association down, which ends at both sides, too. It is the guide to sctp_assoc.h.
+ * association down, which ends at both sides, too. docs/GUIDE.md explains the calls.
  *
  *   cc -O2 -Iinclude -o echo examples/echo.c "$(./library)"
  *   ./echo server 9899                    serves up to 16 clients; at port 0 it takes a free one, and prints which

@@ -1,0 +1,74 @@
+/* Runs the C code of docs/GUIDE.md, which host/run takes out of the page: a client and a server, whose datagrams go
+ * through two queues, shake hands, exchange a message in each direction, close the stream and shut down. */
+#define _DEFAULT_SOURCE
+#include "support.h"
+
+#include <unistd.h>
+
+#define WAITING 64 /* datagrams that may wait in a queue */
+
+struct datagram {
+    uint8_t bytes[PAYLOAD_SIZE + 28];
+    size_t length;
+};
+
+static sctp_assoc ends[2];
+static struct datagram queues[2][WAITING]; /* what waits for each end */
+static size_t waiting[2];
+static unsigned came; /* messages */
+
+static void begin_to_write(sctp_assoc *slot);
+static void take_events(sctp_assoc *slot);
+
+static void send_datagram(sctp_assoc *slot, const uint8_t *bytes, size_t length) {
+    int to = slot == &ends[0];
+    struct datagram *last = &queues[to][waiting[to]++];
+    CHECK(waiting[to] <= WAITING && length <= sizeof last->bytes);
+    memcpy(last->bytes, bytes, length);
+    last->length = length;
+}
+
+static void take_message(sctp_assoc *slot, uint16_t stream, const uint8_t *message, size_t length) {
+    CHECK(slot->live && stream == 1 && length == 5 && memcmp(message, "hello", 5) == 0);
+    came++;
+}
+
+#include "guide.h"
+
+/* Turns of both ends until none has a datagram for the other. */
+static void go_on(uint64_t now) {
+    turn(&ends[0], now, NULL, 0);
+    turn(&ends[1], now, NULL, 0);
+    while (waiting[0] + waiting[1] > 0) {
+        for (int end = 0; end < 2; end++) {
+            static struct datagram taken[WAITING];
+            size_t count = waiting[end];
+            memcpy(taken, queues[end], sizeof taken);
+            waiting[end] = 0;
+            for (size_t i = 0; i < count; i++)
+                turn(&ends[end], now, taken[i].bytes, taken[i].length);
+        }
+    }
+}
+
+int main(void) {
+    begin(&ends[0], true, 0);
+    begin(&ends[1], false, 0);
+    go_on(0);
+    CHECK(came == 2);
+    for (int tenths = 1; tenths <= 10; tenths++) /* what was delayed is acknowledged */
+        go_on((uint64_t)tenths * 100 * MS);
+    CHECK(done(sctp_assoc_close_stream(&ends[0], 1)));
+    go_on(1100 * MS);
+    size_t count = 77;
+    CHECK(done(sctp_assoc_stream_ids(&ends[1], NULL, 0, &count)) && count == 0);
+    CHECK(done(sctp_assoc_shutdown(&ends[0])));
+    go_on(1200 * MS);
+    for (int end = 0; end < 2; end++) {
+        bool is_over = false;
+        CHECK(done(sctp_assoc_is_drained(&ends[end], &is_over)) && is_over);
+    }
+    free_both(ends);
+    puts("guide: ok");
+    return 0;
+}
