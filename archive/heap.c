@@ -1,4 +1,4 @@
-/* The heap of the library where the program defines none of its own: malloc, realloc and free. It stands in a member of
+/* The heap of the library if the program defines none of its own: malloc, realloc and free. It stands in a member of
  * the archive by itself, so that a program which defines these three functions has its own ones called. */
 #define SCTP_ASSOC_HEAP
 #include "sctp_assoc.h"

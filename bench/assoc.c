@@ -5,7 +5,7 @@
  *   assoc CASE COUNT SIZE     streams, unread or in_flight: a message with little there, and with much
  *   assoc CASE COUNT SIZE     expired: COUNT ordered messages, whose lifetimes end in one poll
  *
- * Its clock goes on by 10 ms where both ends are idle. */
+ * Its clock goes on by 10 ms if both ends are idle. */
 #define SCTP_ASSOC_HEAP
 #include "bench.h"
 #include "sctp_assoc.h"
@@ -75,7 +75,7 @@ static bool read_one(uint16_t stream) {
     return true;
 }
 
-/* Takes all events of an end. Where `reads`, all messages are read, too. */
+/* Takes all events of an end. If `reads`, all messages are read, too. */
 static void take_events(int end, bool reads) {
     sctp_assoc_event event;
     while (done(sctp_assoc_poll_event(&ends[end], &event))) {

@@ -2,7 +2,7 @@
  *
  *   usrsctp CASE COUNT SIZE     small, packet, large, unordered, lossy, handshake or memory
  *
- * Its clock is the benchmark's: it goes on by 10 ms where both ends are idle. */
+ * Its clock is the benchmark's: it goes on by 10 ms if both ends are idle. */
 #define _GNU_SOURCE
 #include "bench.h"
 

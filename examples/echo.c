@@ -30,7 +30,7 @@
 
 /* One association, and the peer at the other end of it. */
 struct end {
-    sctp_assoc slot; /* empty where there is none */
+    sctp_assoc slot; /* empty if there is none */
     struct sockaddr_in peer;
     bool is_up;      /* its handshake is done */
     uint64_t heard;  /* when a datagram came last that was for it */
@@ -242,7 +242,7 @@ static void receive_all(void) {
     }
 }
 
-/* The next moment at which a timer of any association expires; UINT64_MAX where none runs. */
+/* The next moment at which a timer of any association expires; UINT64_MAX if none runs. */
 static uint64_t next_due(void) {
     uint64_t next = UINT64_MAX, due;
     for (struct end *end = ends; end < ends + CLIENTS; end++)

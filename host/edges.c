@@ -1,4 +1,4 @@
-/* The release that the archive tells, and NULL where no bytes or identifiers are meant: by each call that takes a
+/* The release that the archive tells, and NULL if no bytes or identifiers are meant: by each call that takes a
  * pointer and a length. */
 #include "support.h"
 

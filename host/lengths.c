@@ -126,7 +126,7 @@ static void long_heartbeat(size_t length) {
 static void long_cookie(size_t more) {
     sctp_assoc_config config = default_config();
     sctp_assoc_identity client = identity(1), server = identity(2);
-    size_t length, cookie = 32; /* the parameters begin behind the header of the packet and 20 bytes of INIT ACK */
+    size_t length, cookie = 32; /* the parameters begin after the header of the packet and 20 bytes of INIT ACK */
     now = 0;
     CHECK(done(sctp_assoc_client(&ends[0], &config, PAYLOAD_SIZE, &client, now)));
     CHECK(done(sctp_assoc_server(&ends[1], &config, PAYLOAD_SIZE, &server, now)));
@@ -148,7 +148,7 @@ static void long_cookie(size_t more) {
     free_both(ends);
 }
 
-/* DATA without a byte, behind the last that came, is an empty message. */
+/* DATA without a byte, after the last that came, is an empty message. */
 static void empty_message(void) {
     size_t length, read = 1;
     uint32_t type;

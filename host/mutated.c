@@ -1,7 +1,7 @@
 /* Mutated datagrams into an established end. None may crash it, none that is left may change it, and none may close it
  * without an event that says so and a chunk that is a named cause.
  *
- *   mutated [COUNT [SEED]]     100,000 datagrams where nothing is said */
+ *   mutated [COUNT [SEED]]     100,000 datagrams if nothing is said */
 #include "support.h"
 
 #define MAX_LENGTH 4096
@@ -20,7 +20,7 @@ static const uint32_t tags[2] = {1, 2};
 static struct datagram corpus[2][MAX_CORPUS]; /* what each end gets */
 static size_t corpus_length[2];
 static sctp_assoc ends[2];
-static uint32_t unsent_tsn; /* behind the last that the end under test sent */
+static uint32_t unsent_tsn; /* after the last that the end under test sent */
 static uint64_t now, random_state, closed_count, taken_count;
 static uint8_t bytes[65536];
 
@@ -152,7 +152,7 @@ static void mutate_once(struct datagram *packet, int end) {
             few[i] = (uint8_t)pick(256);
         append(packet, few, 1 + pick(64));
         break;
-    case 5: /* the other's chunks behind this one's */
+    case 5: /* the other's chunks after this one's */
         while (packet->length % 4 != 0)
             append(packet, (const uint8_t *)"", 1);
         append(packet, other->bytes + 12, other->length - 12);
@@ -185,7 +185,7 @@ static void make_mutant(struct datagram *packet, int end) {
 
 /* ---- What may come of one ---- */
 
-/* Where the chunk behind this one begins. */
+/* Where the chunk after this one begins. */
 static size_t next_chunk(const uint8_t *packet, size_t at) {
     uint32_t length = get(packet + at + 2, 2);
     return at + (length < 4 ? 4 : (length + 3) / 4 * 4);

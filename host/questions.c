@@ -11,7 +11,7 @@ static uint16_t ids[3];
 static size_t count, low, high;
 static uint32_t type;
 
-/* All that is asked or set of one stream answers this code. Where that is not DONE nothing is written. */
+/* All that is asked or set of one stream answers this code. If that is not DONE nothing is written. */
 static void about_stream(sctp_assoc *slot, uint16_t stream, sctp_assoc_code code) {
     counters.bytes_sent = low = high = type = 77;
     CHECK(sctp_assoc_set_payload_type(slot, stream, SCTP_ASSOC_PPID_STRING) == code);

@@ -1,9 +1,9 @@
 /* One session again and again, with another of its growths refused each time, and then with all growths from there on.
  * Whatever is refused, nothing is read that was not written, nothing twice, on an ordered stream nothing out of order,
- * and all blocks are given back. Where no association failed of it, all that was written is read, and a shutdown behind
- * it closes both sides.
+ * and all blocks are given back. If no association failed of it, all that was written is read, and a shutdown
+ * after it closes both sides.
  *
- *   refused_memory [EVERY]     tries each EVERY-th growth; 1 where nothing is said */
+ *   refused_memory [EVERY]     tries each EVERY-th growth; 1 if nothing is said */
 #include "support.h"
 
 #define IN_ORDER 1
@@ -32,7 +32,7 @@ static bool is_drained(int end) {
     return answer;
 }
 
-/* A call of an end, which is made again where memory was refused and nothing changed. */
+/* A call of an end, which is made again if memory was refused and nothing changed. */
 #define TRY(end, call) (again = true, code = (call), is_to_try_again(end, code) ? (code = (call)) : code)
 static sctp_assoc_code code;
 static bool again;

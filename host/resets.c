@@ -71,7 +71,7 @@ static void ended_by(sctp_assoc_code (*call)(sctp_assoc *, uint16_t), sctp_assoc
     CHECK(done(sctp_assoc_open_stream(&ends[0], STREAM, SCTP_ASSOC_PPID_BINARY)));
 }
 
-/* What the peer sent before the end can be read, and the end is told behind it. */
+/* What the peer sent before the end can be read, and the end is told after it. */
 static void read_to_the_end(void) {
     begin();
     carry(0, 30);

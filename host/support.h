@@ -13,7 +13,7 @@
 #define PAYLOAD_SIZE 1172
 #define MS UINT64_C(1000000)
 
-/* Ends the program where something that a test states is not so. */
+/* Ends the program if something that a test states is not so. */
 #define CHECK(is_so) ((is_so) ? (void)0 : failed(__FILE__, __LINE__, #is_so))
 
 static void failed(const char *file, int line, const char *stated) {

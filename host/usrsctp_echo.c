@@ -3,7 +3,7 @@
  * of a stream once the peer reset the other one (RFC 8831 section 6.7), and ends with its association. LOSS of 1,000
  * datagrams are lost, each way.
  *
- *   usrsctp_echo server PORT LOSS           at 127.0.0.1; it prints its port, one that is free where PORT is 0
+ *   usrsctp_echo server PORT LOSS           at 127.0.0.1; it prints its port, one that is free if PORT is 0
  *   usrsctp_echo client PORT LOSS COUNT     to PORT at 127.0.0.1
  */
 #define _GNU_SOURCE
@@ -171,8 +171,8 @@ static void send_what_waits(struct socket *socket) {
     }
 }
 
-/* Asks for a reset of the own half of the stream, once: where datagrams are lost, that the peer reset its half may be
- * told again when the association is already closing. Where an earlier request is open it stays due. */
+/* Asks for a reset of the own half of the stream, once: if datagrams are lost, that the peer reset its half may be
+ * told again when the association is already closing. If an earlier request is open it stays due. */
 static void reset_stream(struct socket *socket) {
     _Alignas(struct sctp_reset_streams) uint8_t room[sizeof(struct sctp_reset_streams) + sizeof(uint16_t)] = {0};
     struct sctp_reset_streams *which = (struct sctp_reset_streams *)room;

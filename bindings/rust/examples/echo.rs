@@ -288,7 +288,7 @@ impl Echo {
         Ok(())
     }
 
-    /// Where all places are taken, the client that was silent longest of those that may give way loses its own.
+    /// If all places are taken, the client that was silent longest of those that may give way loses its own.
     fn make_place(&mut self) -> bool {
         if self.ends.len() < CLIENTS {
             return true;

@@ -29,7 +29,7 @@ impl CongestionWindow {
     }
 
     /// A SACK moved the cumulative TSN ack point, and so many bytes that were outstanding came with it. It grows only
-    /// where DATA waits, and in slow start not while a loss is recovered from (sections 7.2.1 and 7.2.2).
+    /// if DATA waits, and in slow start not while a loss is recovered from (sections 7.2.1 and 7.2.2).
     pub(crate) fn grow(&mut self, acked: u64, waits: bool, recovers: bool, mtu: u32)
         ensures { self.new ≡ grown acked waits recovers mtu self.old }
     {

@@ -28,7 +28,7 @@ impl EndpointEvent {
     ghost use Rattle.sctp_parts.specs.Shared.{drained_event};
 
     /// The event that tells that the application began a shutdown. It is told as soon as that is so, and all is over
-    /// only where `Association::is_drained` says so: datagrams, timers and reads go on until then.
+    /// only when `Association::is_drained` says so: datagrams, timers and reads go on until then.
     pub fn drained() -> Self
         ensures { result ≡ drained_event }
     {

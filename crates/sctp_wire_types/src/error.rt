@@ -37,7 +37,7 @@ pub enum Fault {
 /// | Error | Who answers it |
 /// |---|---|
 /// | `ErrBadPayloadSize`, `ErrBadInitialTsn`, `ErrBadToken` | the constructors of an association |
-/// | `ErrNoMemory` | whatever may take memory, where it gets none |
+/// | `ErrNoMemory` | whatever may take memory, if it gets none |
 /// | `ErrAssociationFailed` | each call after one that found no memory in its middle |
 /// | `ErrStreamAlreadyExist`, `ErrStreamCreateFailed` | `Association::open_stream` |
 /// | `ErrStreamResetPending` | `Association::open_stream`, and the writes of a stream |
