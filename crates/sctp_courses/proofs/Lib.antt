@@ -1,0 +1,11 @@
+pub mod Asking
+pub mod Coming
+pub mod Counts
+pub mod Firsts
+pub mod Marks
+pub mod Performing
+pub mod Places
+pub mod Proved
+pub mod Reading
+pub mod Steps
+pub mod Times
