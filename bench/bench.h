@@ -12,7 +12,7 @@
 
 #define PAYLOAD_SIZE 1200         /* greatest payload of one DATA chunk, in bytes */
 #define PACKET_SIZE 1228          /* the packet that holds it */
-#define MAX_WAITING 512           /* messages that a writer has accepted and unacknowledged at a time .. */
+#define MAX_WAITING 512           /* messages that are written and not read at a time .. */
 #define MAX_WAITING_BYTES 1000000 /* .. and their bytes */
 #define TICK_MS 10                /* by which the virtual clock goes on if both ends are idle */
 #define IDLE_PAIRS 1000           /* associations whose memory is measured */
