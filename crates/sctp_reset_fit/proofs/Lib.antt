@@ -1,0 +1,14 @@
+pub mod Comes
+pub mod Coming
+pub mod Delivered
+pub mod Leading
+pub mod Named
+pub mod Numbers
+pub mod Once
+pub mod Parted
+pub mod Passing
+pub mod Performing
+pub mod Piles
+pub mod Proved
+pub mod Reading
+pub mod Retiring

@@ -1,0 +1,95 @@
+-- The laws of this crate.
+use Rattle.std.proofs.Common.{◌≡◌, refl, sym, ap, ◌∙◌, ℕ, ◌≤◌, true, Option, arith}
+use Rattle.std.proofs.Common.{nat_le}
+use Rattle.sctp_serial.specs.Serial.{tsn_lte}
+use Rattle.sctp_generations.specs.Generations.{GenerationsView}
+use Rattle.sctp_reset_requests.specs.Request.{PeerRequestView}
+use Rattle.sctp_streams.specs.Streams.{StreamMap}
+use Rattle.sctp_courses.specs.Course.{Course, boundary_at}
+use Rattle.sctp_reset_fit.specs.Held.{IsHeldOn, IsMadeOn}
+use Rattle.sctp_reset_fit.specs.Laws.{IsPiece, LaterDataWaits, LeadsOn, MessagesAreRead, NewDataIsTaken}
+use Rattle.sctp_reset_fit.specs.Laws.{NothingStandsForTheStart, RequestsArePerformed, StreamsAreReadOut}
+use Rattle.sctp_reset_fit.specs.Laws.{WhatIsHiddenIsHidden}
+use Rattle.sctp_reset_fit.specs.Stands.{TellsHeld, last_below}
+use Rattle.sctp_reset_fit.proofs.Coming.{hidden_as, keeps, takes}
+use Rattle.sctp_reset_fit.proofs.Numbers.{lte_both}
+use Rattle.sctp_reset_fit.proofs.Passing.{LeadsToOne, reads_out}
+use Rattle.sctp_reset_fit.proofs.Performing.{performs}
+use Rattle.sctp_reset_fit.proofs.Piles.{empty_on, more_on, passed_on, pushed_on, skipped_on, taken_on}
+use Rattle.sctp_reset_fit.proofs.Reading.{reads_one}
+
+-- what a stream holds is told from offsets
+tells : (initial id : ℕ) → TellsHeld initial id IsPiece (IsHeldOn initial)
+tells initial id = record {
+  empty = empty_on initial;
+  more = more_on initial;
+  pushes = λ q os p limit so same accepted h. pushed_on initial q os p h;
+  skips = skipped_on initial;
+  passes = passed_on initial;
+}
+
+abbrev leads_on : {initial id : ℕ} {g : GenerationsView} {m : StreamMap} {o : Option PeerRequestView} {c : Course}
+    → LeadsToOne initial id IsPiece (IsHeldOn initial) g m o c → LeadsOn initial id g m o c
+leads_on l = record { after = l.after; leads = l.leads; stands = l.stands; told = l.told }
+
+pub nothing_stands_for_the_start : NothingStandsForTheStart
+nothing_stands_for_the_start initial id = record {
+  live = tt;
+  next = omega arith;
+  marks = refl;
+  kept = tt;
+  deferred = λ o. omega arith;
+  waits = refl;
+  once_named = tt;
+  once_live = omega arith;
+  once_marked = omega arith;
+  open_where_marked = λ some l e. absurd (some refl);
+  near = omega arith;
+  still = (refl, refl, refl);
+}
+
+pub what_is_hidden_is_hidden : WhatIsHiddenIsHidden
+what_is_hidden_is_hidden initial id t g m o c inv h near =
+    hidden_as initial id IsPiece (IsHeldOn initial) (tells initial id) g o c inv m t h near
+
+pub new_data_is_taken : NewDataIsTaken
+new_data_is_taken initial limit p t g m o c inv h near is accepted new shown =
+    leads_on (takes initial p.stream_identifier IsPiece (IsHeldOn initial) (tells initial p.stream_identifier) g o c inv
+    m p limit t h refl tt near is accepted new shown)
+
+pub later_data_waits : LaterDataWaits
+later_data_waits initial p g m o c inv h near new hidden =
+    leads_on (keeps initial p.stream_identifier IsPiece (IsHeldOn initial) (tells initial p.stream_identifier) g o c inv
+    m p h refl tt near new hidden)
+
+pub messages_are_read : MessagesAreRead
+messages_are_read initial id message t g m o c inv h is can given =
+    let r = reads_one initial id IsPiece (IsHeldOn initial) (more_on initial) (IsMadeOn initial) (taken_on initial) g m o
+    c t message inv h is can given in
+    record {
+      after = r.after;
+      leads = r.leads;
+      stands = r.stands;
+      offsets = r.offsets;
+      made = r.makes;
+      told = r.told;
+    }
+
+pub streams_are_read_out : StreamsAreReadOut
+streams_are_read_out initial id first limit g x o c inv h =
+    let l = reads_out initial id IsPiece (IsHeldOn initial) (tells initial id) o first limit g x c inv h in
+    (leads_on l.0, l.1)
+
+le_from : (a b : ℕ) → nat_le a b ≡ true → a ≤ b
+le_from a b e = grind arith
+
+pub requests_are_performed : RequestsArePerformed
+requests_are_performed initial id first limit q r x c inv h read small due =
+    let known = inv.asks.below c.performed h.waits.3 in
+    let near = h.near in
+    let compared : tsn_lte q.last_tsn (last_below initial c.point) ≡ nat_le (boundary_at c.asked c.performed) c.point =
+    ap (λ z. tsn_lte z (last_below initial c.point)) h.waits.1
+    ∙ lte_both initial (boundary_at c.asked c.performed) c.point (omega arith) small in
+    let reached : boundary_at c.asked c.performed ≤ c.point = le_from _ _ (sym compared ∙ due) in
+    let l = performs initial id IsPiece (IsHeldOn initial) (tells initial id) q first limit r x c inv h read reached in
+    (leads_on l.0, l.1)

@@ -1,0 +1,34 @@
+-- On which offsets what a stream holds stands (RFC 4960 sections 6.5, 6.6 and 6.9).
+use Rattle.std.specs.Prelude.{◌≡◌, ◌≤◌, ◌+◌, ℕ, List, map, flat_map}
+use Rattle.sctp_wire_types.specs.declared.chunk.ChunkPayloadData.{ChunkPayloadData}
+use Rattle.sctp_receive_queues.specs.Messages.{ReceivedMessage, message_of}
+use Rattle.sctp_receive_queues.specs.Reassembly.{Group, Reassembly}
+use Rattle.sctp_courses.specs.Course.{times}
+use Rattle.sctp_reset_fit.specs.Stands.{offset_of}
+
+-- the offsets of these pieces
+abbrev pub offsets_in : ℕ → List ChunkPayloadData → List ℕ
+offsets_in initial pieces = map (λ (p : ChunkPayloadData). offset_of initial p.tsn) pieces
+
+-- of pieces of several messages
+abbrev pub offsets_in_all : ℕ → List (List ChunkPayloadData) → List ℕ
+offsets_in_all initial runs = flat_map (offsets_in initial) runs
+
+-- the pieces of each ordered message
+abbrev pub pieces_of_groups : List Group → List (List ChunkPayloadData)
+pieces_of_groups groups = map (λ (g : Group). g.pieces) groups
+
+-- What a stream holds stands on these offsets, each as often at most: the pieces of ordered messages, those of unordered
+-- ones, and those of which its complete messages were made.
+pub record IsHeldOn (initial : ℕ) (q : Reassembly) (os : List ℕ) : Type 0 where
+  pub made : List (List ChunkPayloadData)
+  pub complete : q.complete ≡ map message_of made
+  pub few : (o : ℕ)
+      → times o (offsets_in_all initial (pieces_of_groups q.ordered)) + times o (offsets_in_all initial q.unordered)
+      + times o (offsets_in_all initial made) ≤ times o os
+
+-- a message was made of pieces that stand on these offsets
+pub record IsMadeOn (initial : ℕ) (m : ReceivedMessage) (os : List ℕ) : Type 0 where
+  pub pieces : List ChunkPayloadData
+  pub same : m ≡ message_of pieces
+  pub offsets : os ≡ offsets_in initial pieces
