@@ -1,6 +1,6 @@
 -- DATA of a generation of its stream that is not read yet stays out of that stream.
 use Rattle.std.proofs.Common.{◌≡◌, refl, sym, ap, ◌∙◌, subst, ℕ, ◌==◌, Bool, true, false, ◌&&◌, ◌||◌, not, cond}
-use Rattle.std.proofs.Common.{if◌then◌else◌, Option, Some, None}
+use Rattle.std.proofs.Common.{if◌then◌else◌, List, Option, Some, None, is_some, ◌⊎◌, ⊎_elim, inl, inr}
 use Rattle.std.proofs.lemmas.Bool.{false≢true, or_parts}
 use Rattle.sctp_wire_types.specs.declared.chunk.ChunkPayloadData.{ChunkPayloadData}
 use Rattle.sctp_wire_types.specs.declared.error.Error.{Error}
@@ -9,6 +9,7 @@ use Rattle.sctp_inbound.specs.declared.receiver.AckTrigger.{AckTrigger}
 use Rattle.sctp_inbound.specs.Receiver.{admits}
 use Rattle.sctp_generations.specs.Deferred.{is_above}
 use Rattle.sctp_generations.specs.Generations.{has_skips}
+use Rattle.sctp_generations.specs.Retiring.{boundaries_at}
 use Rattle.sctp_reset_requests.specs.Peer.{advanced_with, boundary_for, is_behind_one, is_one_due}
 use Rattle.sctp_reset_requests.specs.Request.{PeerRequestView, names}
 use Rattle.sctp_resets.specs.Channels.{Channels}
@@ -22,7 +23,8 @@ use Rattle.sctp_assoc.specs.Resets.{channels_of, settled, settled_with, settling
 use Rattle.sctp_assoc.specs.Resets.{with_beside}
 use Rattle.sctp_assoc.specs.Shown.{Shown, all_waiting}
 use Rattle.sctp_sides.proofs.PeerRequestsInChunks.{flow_same}
-use Rattle.sctp_sides.specs.Repeats.{DataBehindIsForLater, KeptDataReachesNoStream, LaterDataStaysOut, LeavesTheStreams}
+use Rattle.sctp_sides.specs.Repeats.{DataBehindIsForLater, IsReadOfOld, KeptDataReachesNoStream, LaterDataStaysOut}
+use Rattle.sctp_sides.specs.Repeats.{LeavesTheStreams, OtherDataIsReadNow, RetiringDataIsForLater, RetiringDataStaysOut}
 
 -- Above the last TSN of a request in progress
 
@@ -48,6 +50,50 @@ pub data_behind_is_for_later : DataBehindIsForLater
 data_behind_is_for_later a piece e =
     either (is_retiring a.resets piece.stream_identifier) _
     (behind_is_above a.resets.peer.in_progress piece.stream_identifier piece.tsn e)
+
+-- Of a stream of which an ended generation is still read
+
+first_so : (first second : Bool) → first ≡ true → (first || second) ≡ true
+first_so true second e = refl
+first_so false second e = absurd (false≢true e)
+
+pub retiring_data_is_for_later : RetiringDataIsForLater
+retiring_data_is_for_later a piece old =
+    first_so (is_retiring a.resets piece.stream_identifier) _ (ap is_some old.kept)
+
+-- No other
+
+below_if : (same lower : Bool) → not (same || lower) ≡ true → (not same && not lower) ≡ true
+below_if true lower e = absurd (false≢true e)
+below_if false lower e = e
+
+named_behind : (named : Bool) (tsn last : ℕ) → is_above (cond {A = Option ℕ} named (Some last) None) tsn ≡ true
+    → (named && tsn_gt tsn last) ≡ true
+named_behind true tsn last e = below_if (tsn == last) (tsn_lt tsn last) e
+named_behind false tsn last e = absurd (false≢true e)
+
+above_is_behind : (o : Option PeerRequestView) (id tsn : ℕ) → is_above (boundary_for o id) tsn ≡ true
+    → is_behind_one o id tsn ≡ true
+above_is_behind None id tsn e = absurd (false≢true e)
+above_is_behind (Some r) id tsn e = named_behind (names r id) tsn r.last_tsn e
+
+boundaries_kept : (a : Shown) (id : ℕ) (o : Option (List ℕ)) → boundaries_at a.resets.generations.retiring id ≡ o
+    → is_some o ≡ true → IsReadOfOld a id
+boundaries_kept a id (Some boundaries) e some = record { boundaries = boundaries; kept = e }
+boundaries_kept a id None e some = absurd (false≢true some)
+
+one_of_two : (first second : Bool) → (first || second) ≡ true → (first ≡ true) ⊎ (second ≡ true)
+one_of_two true second e = inl refl
+one_of_two false second e = inr e
+
+pub other_data_is_read_now : OtherDataIsReadNow
+other_data_is_read_now a piece later =
+    ⊎_elim
+    (λ (retires : is_retiring a.resets piece.stream_identifier ≡ true).
+    inl (boundaries_kept a piece.stream_identifier _ refl retires))
+    (λ (above : is_above (boundary_for a.resets.peer.in_progress piece.stream_identifier) piece.tsn ≡ true).
+    inr (above_is_behind a.resets.peer.in_progress piece.stream_identifier piece.tsn above))
+    (one_of_two (is_retiring a.resets piece.stream_identifier) _ later)
 
 -- What is kept
 
@@ -117,3 +163,7 @@ later_data_stays_out a piece trigger new later none =
     (then_leaves a b x.0 (record { streams = refl; events = refl; to_accept = refl })
     (kept_data_reaches_no_stream b piece))
     (settled_leaves x piece.immediate_sack trigger none))
+
+pub retiring_data_stays_out : RetiringDataStaysOut
+retiring_data_stays_out a piece trigger new old none =
+    later_data_stays_out a piece trigger new (retiring_data_is_for_later a piece old) none

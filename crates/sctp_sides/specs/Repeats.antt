@@ -12,6 +12,7 @@ use Rattle.sctp_outbound_queue.specs.Outbound.{has_stream}
 use Rattle.sctp_streams.specs.declared.event.Event.{Event}
 use Rattle.sctp_inbound.specs.declared.receiver.AckTrigger.{AckTrigger}
 use Rattle.sctp_inbound.specs.Receiver.{is_new_to}
+use Rattle.sctp_generations.specs.Retiring.{boundaries_at}
 use Rattle.sctp_reset_requests.specs.declared.answer.Standing.TheVariants as standings
 use Rattle.sctp_reset_requests.specs.declared.own_request.OwnRequest.{OwnRequest}
 use Rattle.sctp_reset_requests.specs.Laws.{IsCompletedUpTo}
@@ -151,6 +152,24 @@ DataBehindIsForLater =
     (a : Shown) (piece : ChunkPayloadData) → is_deferred a.resets.peer piece.stream_identifier piece.tsn ≡ true
     → is_for_later a piece ≡ true
 
+-- A generation of this stream ended and is still read: the boundaries are kept of it and of those behind it that ended,
+-- which are the last TSNs of the requests that ended them.
+pub record IsReadOfOld (a : Shown) (id : ℕ) : Type 0 where
+  pub boundaries : List ℕ
+  pub kept : boundaries_at a.resets.generations.retiring id ≡ Some boundaries
+
+-- new DATA of such a stream is of a generation that is not read yet
+abbrev pub RetiringDataIsForLater : Type 0
+RetiringDataIsForLater =
+    (a : Shown) (piece : ChunkPayloadData) → IsReadOfOld a piece.stream_identifier → is_for_later a piece ≡ true
+
+-- no other DATA is: of a stream that retires not, DATA that lies above the last TSN of no request in progress that
+-- names the stream is of the generation that is read
+abbrev pub OtherDataIsReadNow : Type 0
+OtherDataIsReadNow =
+    (a : Shown) (piece : ChunkPayloadData) → is_for_later a piece ≡ true
+    → IsReadOfOld a piece.stream_identifier ⊎ (is_deferred a.resets.peer piece.stream_identifier piece.tsn ≡ true)
+
 -- what is kept of such DATA, or refused, reaches no stream
 abbrev pub KeptDataReachesNoStream : Type 0
 KeptDataReachesNoStream =
@@ -162,5 +181,13 @@ abbrev pub LaterDataStaysOut : Type 0
 LaterDataStaysOut =
     (a : Shown) (piece : ChunkPayloadData) (trigger : AckTrigger) → is_new_to a.receiver piece.tsn ≡ true
     → is_for_later a piece ≡ true
+    → settling_takes_memory (deferred_where_admitted (counted_data a) piece).0 ≡ false
+    → LeavesTheStreams a (on_data a piece trigger).0
+
+-- So does new DATA of a stream of which an ended generation is still read.
+abbrev pub RetiringDataStaysOut : Type 0
+RetiringDataStaysOut =
+    (a : Shown) (piece : ChunkPayloadData) (trigger : AckTrigger) → is_new_to a.receiver piece.tsn ≡ true
+    → IsReadOfOld a piece.stream_identifier
     → settling_takes_memory (deferred_where_admitted (counted_data a) piece).0 ≡ false
     → LeavesTheStreams a (on_data a piece trigger).0

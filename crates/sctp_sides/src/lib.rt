@@ -55,7 +55,8 @@ ghost use Rattle.sctp_sides.specs.Laws.{PollsBeginWithWhatWaits, SacksOfferTheBu
 ghost use Rattle.sctp_sides.specs.Laws.{BundlesFitThePacket, NewDataStaysInTheCongestionWindow, TimersDoNotClose};
 ghost use Rattle.sctp_sides.specs.Laws.{WhatWaitsIsGiven, WhatWaitsIsPolled, WritesAreHeld, WritesDoNotClose};
 ghost use Rattle.sctp_sides.specs.Repeats.{CompletedNumbersAreRepeats, CompletedRequestsStay, DataBehindIsForLater};
-ghost use Rattle.sctp_sides.specs.Repeats.{KeptDataReachesNoStream, LaterDataStaysOut, OwnRequestsWait};
+ghost use Rattle.sctp_sides.specs.Repeats.{KeptDataReachesNoStream, LaterDataStaysOut, OtherDataIsReadNow};
+ghost use Rattle.sctp_sides.specs.Repeats.{OwnRequestsWait, RetiringDataIsForLater, RetiringDataStaysOut};
 ghost use Rattle.sctp_sides.specs.Repeats.{RepeatsAreOnlyAnswered, RepeatsEndNoGeneration};
 ghost use Rattle.sctp_sides.specs.Repeats.{RepeatsRetireNothing, RepeatsStayKnown};
 ghost use Rattle.sctp_sides.specs.Restarts.{CallsRestartQuietly, ChunksRestartQuietly, CreatedSidesAreQuiet};
@@ -321,7 +322,7 @@ pub fn at_most_one_loss()
 /// Runs: from a past on which the association stands, the calls of a run, by the contract of `Association::run`, are a
 /// list of calls of one side, and the events that their replies tell are those that it tells. So a run of an association
 /// as a constructor leaves it tells of at most one loss, and where it was lost it is closed at the end and waits for no
-/// moment; and a run that begins with no stream tells last counters at most once.
+/// moment; and a run that begins with no stream tells last counters at most once. 
 pub fn runs_are_lists_of_calls()
     ensures calls { RunsAreListsOfCalls }
     ensures losses { RunsTellOneLoss }
@@ -375,8 +376,9 @@ pub fn shutdowns_wait_for_data()
 
 /// Repeats: a request of the peer to reset streams whose number is at or below the last completed one, and is not in
 /// progress, is answered as performed and retires nothing; over every list of calls completed requests stay so. A
-/// request of this side waits until no other one is active and no DATA of its streams waits or is in flight, and DATA
-/// behind a request of the peer in progress stays out of its stream (RFC 6525 sections 5.1.2, 5.2.1 and 5.2.2).
+/// request of this side waits until no other one is active and no DATA of its streams waits or is in flight. DATA behind
+/// a request of the peer in progress stays out of its stream, and so does new DATA of a stream of which an ended
+/// generation is still read, and no other DATA (RFC 6525 sections 5.1.2, 5.2.1 and 5.2.2).
 pub fn repeats_retire_nothing()
     ensures repeats { CompletedNumbersAreRepeats }
     ensures known { RepeatsRetireNothing }
@@ -386,8 +388,11 @@ pub fn repeats_retire_nothing()
     ensures repeated { RepeatsStayKnown }
     ensures held_back { OwnRequestsWait }
     ensures behind { DataBehindIsForLater }
+    ensures retiring { RetiringDataIsForLater }
+    ensures no_other { OtherDataIsReadNow }
     ensures kept_out { KeptDataReachesNoStream }
     ensures stays_out { LaterDataStaysOut }
+    ensures retiring_stays_out { RetiringDataStaysOut }
 {
     // what holds of requests by their numbers alone
     completed_requests_are_known();

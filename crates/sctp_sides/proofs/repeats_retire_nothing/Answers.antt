@@ -1,4 +1,5 @@
 use Rattle.sctp_sides.proofs.DataKeptOut.{data_behind_is_for_later, kept_data_reaches_no_stream, later_data_stays_out}
+use Rattle.sctp_sides.proofs.DataKeptOut.{other_data_is_read_now, retiring_data_is_for_later, retiring_data_stays_out}
 use Rattle.sctp_sides.proofs.OwnRequestsHeld.{own_requests_wait}
 use Rattle.sctp_sides.proofs.PeerRequestsOverRuns.{completed_requests_stay, repeats_stay_known}
 use Rattle.sctp_sides.proofs.RepeatsKnown.{completed_numbers_are_repeats, repeats_are_only_answered}
@@ -35,3 +36,12 @@ returns-clause-kept_out c = kept_data_reaches_no_stream
 
 pub returns-clause-stays_out : goal.returns-clause-stays_out
 returns-clause-stays_out c = later_data_stays_out
+
+pub returns-clause-retiring : goal.returns-clause-retiring
+returns-clause-retiring c = retiring_data_is_for_later
+
+pub returns-clause-no_other : goal.returns-clause-no_other
+returns-clause-no_other c = other_data_is_read_now
+
+pub returns-clause-retiring_stays_out : goal.returns-clause-retiring_stays_out
+returns-clause-retiring_stays_out c = retiring_data_stays_out
