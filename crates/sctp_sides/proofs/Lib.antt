@@ -10,6 +10,7 @@ mod BlocksWithin
 mod BundleLengths
 mod BundlesFilled
 mod ChunksPast
+mod CallsByActs
 mod ClosingCalls
 mod ClosingCauses
 mod ClosingPackets
@@ -73,6 +74,7 @@ mod ResetsNoMore
 mod RestartedStreams
 mod Retries
 mod RetriesInPolls
+mod RunsByActs
 mod RunsListed
 mod SentCounts
 mod ShutdownCalls

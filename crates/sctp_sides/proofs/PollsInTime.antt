@@ -17,8 +17,7 @@ use Rattle.sctp_assoc.specs.Shutdown.{completes_shutdown}
 use Rattle.sctp_assoc.proofs.ActsKeepOffsets.{done_append}
 use Rattle.sctp_assoc.proofs.Giving.{Gives}
 use Rattle.sctp_assoc.proofs.PolledSteps.{drops_gives, fast, late, marks}
-use Rattle.sctp_sides.specs.Lifetimes.{DoInOrder, GiveNothingLate, HasNothingToSend, NothingLateGoesOut}
-use Rattle.sctp_sides.specs.OneSide.{Call}
+use Rattle.sctp_sides.specs.Lifetimes.{GiveNothingLate, NothingLateGoesOut}
 use Rattle.sctp_sides.proofs.ActsOfChunks.{fast_give, give_if, marks_give, new_gives, unsent_gives}
 use Rattle.sctp_sides.proofs.FirstBegun.{IsOrderly}
 use Rattle.sctp_sides.proofs.FirstBegunRuns.{calls_keep_the_order}
@@ -141,20 +140,21 @@ exchange_if true now pieces acks forward p given quiet last =
     (quiet_acts now forward (done_all (pieces ++ acks) p) last)
 exchange_if false now pieces acks forward p given quiet last = tt
 
-module _ (calls : List Call) (a b : Shown) (h k : History) (acts : List Act) (now : ℕ) (nothing : HasNothingToSend a)
-    (binds : Binds a h) (run : DoInOrder calls a h acts b k) (works : b.failed ≡ false)
-    (uses : uses_forward_tsn b ≡ true)
+-- where its queue is in order
+module _ (b : Shown) (k : History) (now : ℕ) (binds : Binds b k) (uses : uses_forward_tsn b ≡ true)
+    (orderly : IsOrderly b.sender.queue)
   where
-    poll_in_time : GiveNothingLate now (acts_of_poll b now) (parts b k)
-    poll_in_time =
-        let s = calls_keep_the_order calls a b h k acts nothing binds run works in
+    pub polls_are_in_time : GiveNothingLate now (acts_of_poll b now) (parts b k)
+    polls_are_in_time =
         let front = acts_of_exchange b now in
         let ending = acts_of_ending (open_polled b now).0 in
         late_join now front ending (parts b k)
         (exchange_if (exchanges_data b.state) now (acts_of_data_poll b now) (acts_of_ack b)
-        (acts_of_forwarding (forwards_of_poll b now)) (parts b k) (data_in_time b now k s.binds uses s.orderly)
+        (acts_of_forwarding (forwards_of_poll b now)) (parts b k) (data_in_time b now k binds uses orderly)
         (ack_is_quiet b) (forwarding_is_quiet (forwards_of_poll b now)))
         (quiet_acts now ending (done_all front (parts b k)) (ending_is_quiet (open_polled b now).0))
 
 pub nothing_late_goes_out : NothingLateGoesOut
-nothing_late_goes_out = poll_in_time
+nothing_late_goes_out calls a b h k acts now nothing binds run works uses =
+    let s = calls_keep_the_order calls a b h k acts nothing binds run works in
+    polls_are_in_time b k now s.binds uses s.orderly

@@ -63,6 +63,7 @@ pub use Rattle.sctp_sides.proofs.HeldWeaker.{held_weaker, made_weaker}
 pub use Rattle.sctp_sides.proofs.LossToldOnce.{losses_are_told_once}
 pub use Rattle.sctp_sides.proofs.TimersOverRuns.{created_sides_are_fresh, joined_sides_are_fresh}
 pub use Rattle.sctp_sides.proofs.TimersOverRuns.{lost_sides_wait_for_nothing}
+pub use Rattle.sctp_sides.proofs.RunsByActs.{runs_do_their_acts, runs_keep_retries, runs_send_nothing_late}
 pub use Rattle.sctp_sides.proofs.RunsListed.{laws_hold_over_runs, listed, run_listed, runs_are_lists_of_calls}
 pub use Rattle.sctp_sides.proofs.RunsListed.{runs_joined}
 pub use Rattle.sctp_sides.proofs.ActiveOverRuns.{calls_restart_quietly}

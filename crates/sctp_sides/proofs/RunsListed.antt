@@ -35,11 +35,11 @@ use Rattle.sctp_sides.proofs.TimersOverRuns.{lost_sides_wait_for_nothing}
 
 -- What is not refused
 
-own_unrefused : (first own : Option Error) → first_refusal first own ≡ None → own ≡ None
+pub own_unrefused : (first own : Option Error) → first_refusal first own ≡ None → own ≡ None
 own_unrefused None own e = e
 own_unrefused (Some fault) own e = absurd (true≢false (ap is_some e))
 
-works_unrefused : (failed : Bool) (fault : Error) → failed ≡ false → (if failed then Some fault else None) ≡ None
+pub works_unrefused : (failed : Bool) (fault : Error) → failed ≡ false → (if failed then Some fault else None) ≡ None
 works_unrefused false fault e = refl
 works_unrefused true fault e = absurd (true≢false e)
 
@@ -51,7 +51,7 @@ lent_is_there true there fault missing gone e = absurd (true≢false (ap is_some
 lent_is_there false true fault missing gone e = refl
 lent_is_there false false fault missing gone e = absurd (true≢false (ap is_some e))
 
-set_unrefused : (a : Shown) (id : ℕ) → stream_refusal a id ≡ None → gone_refusal a id ≡ None
+pub set_unrefused : (a : Shown) (id : ℕ) → stream_refusal a id ≡ None → gone_refusal a id ≡ None
 set_unrefused a id e = lent_is_there a.failed _ _ _ _ e
 
 -- Lists of calls

@@ -1,23 +1,26 @@
 -- A run of the contract of one association, as a list of calls of one side: by that each law of one side over every
 -- list of calls is one of whoever carries out calls by that contract.
-use Rattle.std.specs.Prelude.{◌≡◌, ◌≤◌, ℕ, true, false, List, [], ◌∷◌, Some, None}
+use Rattle.std.specs.Prelude.{◌≡◌, ◌≤◌, ◌<◌, ℕ, ◌+◌, ◌-◌, ◌^◌, true, false, List, [], ◌∷◌, ◌++◌, Some, None}
 use Rattle.std.specs.List.{AllByRecursion, flat_map}
 use Rattle.sctp_wire_types.specs.declared.chunk.ChunkPayloadData.{ChunkPayloadData}
 use Rattle.sctp_streams.specs.declared.event.Event.{Event}
 use Rattle.sctp_streams.specs.declared.setting.Setting.TheVariants as settings
 use Rattle.sctp_streams.specs.Stream.{params_of}
-use Rattle.sctp_directions.specs.Acts.{History}
+use Rattle.sctp_directions.specs.Acts.{Act, History, Parts, done_all}
 use Rattle.sctp_assoc.specs.declared.call.Call.{Call}
 use Rattle.sctp_assoc.specs.declared.call.Call.TheVariants as calls
 use Rattle.sctp_assoc.specs.declared.call.Reply.{Reply}
 use Rattle.sctp_assoc.specs.declared.call.Reply.TheVariants as replies
-use Rattle.sctp_assoc.specs.Abstract.{RunsOn, StandsOn}
+use Rattle.sctp_assoc.specs.Abstract.{AbstractAssociation, IsRun, RunsOn, StandsOn, abstract}
 use Rattle.sctp_assoc.specs.Calls.{first_filled}
 use Rattle.sctp_assoc.specs.Closing.{is_closed_state}
+use Rattle.sctp_assoc.specs.Happened.{acts_of_poll}
+use Rattle.sctp_assoc.specs.Leads.{Binds, parts}
 use Rattle.sctp_assoc.specs.Replies.{packet_in}
-use Rattle.sctp_assoc.specs.Shown.{Shown}
+use Rattle.sctp_assoc.specs.Shown.{Shown, uses_forward_tsn}
 use Rattle.sctp_sides.specs.Brought.{CallBringsOnly, IsAmong, SideHoldsOnly}
 use Rattle.sctp_sides.specs.Generations.{HasNoGeneration, finals, times}
+use Rattle.sctp_sides.specs.Lifetimes.{DoInOrder, GiveNothingLate, GivesUnder, HasNothingToSend, times_given}
 use Rattle.sctp_sides.specs.OneSide as side
 use Rattle.sctp_sides.specs.OneSide.{IsFresh, told_by}
 use Rattle.sctp_sides.specs.Witnesses.{TellsOneLoss, WaitsForNothing}
@@ -89,3 +92,63 @@ abbrev pub ListsHoldWhatCame : Type 0
 ListsHoldWhatCame = (came : List ChunkPayloadData) (made : List side.Call) (told : List Event) (a b : Shown)
     → side.IsRun made told a b → AllByRecursion (λ (call : side.Call). CallBringsOnly (IsAmong came) call) made
     → (a.failed ≡ false → SideHoldsOnly (IsAmong came) a) → b.failed ≡ false → SideHoldsOnly (IsAmong came) b
+
+-- Acts
+
+-- These calls did acts, in order, from one association with its past to another, which stands on what is past then.
+pub record DoneByActs (made : List side.Call) (s t : AbstractAssociation) : Type 0 where
+  pub acts : List Act
+  pub in_order : DoInOrder made s.shown s.past acts t.shown t.past
+  pub stands : Binds t.shown t.past
+
+-- A run leads from what is past to what is past then by the acts of its calls.
+pub record RanByActs (made : List Call) (answers : List Reply) (a b : Shown) (packets more : List (List ℕ))
+    (h : History) : Type 0 where
+  pub past : History
+  pub run : IsRun made (abstract a h) packets answers (abstract b past) more
+  pub done : DoneByActs (flat_map side_calls_of made) (abstract a h) (abstract b past)
+
+-- The calls of a run, at whose end the association has not failed, do acts in order.
+abbrev pub RunsDoTheirActs : Type 0
+RunsDoTheirActs = (made : List Call) (answers : List Reply) (a b : Shown) (packets more : List (List ℕ)) (h : History)
+    → RunsOn made a packets answers b more → StandsOn a h → b.failed ≡ false
+    → RanByActs made answers a b packets more h
+
+-- These acts, one after another, give out the DATA of one offset, whose message may be sent again n times, at most n + 1
+-- times.
+abbrev pub KeepRetries : List Act → Parts → Type 0
+KeepRetries acts p = (before after : List Act) (act : Act) (o n : ℕ) → n < 2 ^ 32 - 1 → acts ≡ before ++ act ∷ after
+    → GivesUnder n o act (done_all before p) → times_given o acts p ≤ n + 1
+
+-- A run of a fresh association, at whose end it has not failed and FORWARD TSN is in use, keeps retries (RFC 7496
+-- section 3.1).
+abbrev pub RunsKeepRetries : Type 0
+RunsKeepRetries = (made : List Call) (answers : List Reply) (a b : Shown) (packets more : List (List ℕ)) (h : History)
+    → RunsOn made a packets answers b more → StandsOn a h → b.failed ≡ false → IsFresh a → uses_forward_tsn b ≡ true
+    → (ran : RanByActs made answers a b packets more h) × KeepRetries ran.done.acts (parts a h)
+
+-- A run comes to a poll for packets at this moment: the calls in front of it are a run, and so is the poll with those
+-- behind it.
+pub record ComesToAPoll (before : List Call) (now : ℕ) (after : List Call) (s : AbstractAssociation)
+    (packets : List (List ℕ)) (answers : List Reply) (t : AbstractAssociation) (more : List (List ℕ)) : Type 0 where
+  pub at : AbstractAssociation
+  pub given : List (List ℕ)
+  pub first : List Reply
+  pub later : List Reply
+  pub in_order : answers ≡ first ++ later
+  pub front : IsRun before s packets first at given
+  pub rest : IsRun (calls.PollTransmit now ∷ after) at given later t more
+
+-- It gives out no DATA of a message at or past its deadline, where the association has not failed before and FORWARD TSN
+-- is in use.
+abbrev pub PollsInTime : ℕ → AbstractAssociation → Type 0
+PollsInTime now s = s.shown.failed ≡ false → uses_forward_tsn s.shown ≡ true
+    → GiveNothingLate now (acts_of_poll s.shown now) (parts s.shown s.past)
+
+-- No poll of a run that begins with nothing to send gives out DATA late (RFC 3758 section 3.5).
+abbrev pub RunsSendNothingLate : Type 0
+RunsSendNothingLate = (before after : List Call) (now : ℕ) (answers : List Reply) (a b : Shown)
+    (packets more : List (List ℕ)) (h : History)
+    → RunsOn (before ++ calls.PollTransmit now ∷ after) a packets answers b more → StandsOn a h → HasNothingToSend a
+    → (k : History) × (comes : ComesToAPoll before now after (abstract a h) packets answers (abstract b k) more)
+    × PollsInTime now comes.at

@@ -63,6 +63,7 @@ ghost use Rattle.sctp_sides.specs.Restarts.{CallsRestartQuietly, ChunksRestartQu
 ghost use Rattle.sctp_sides.specs.Restarts.{JoinedSidesAreQuiet, ParametersRestartQuietly};
 ghost use Rattle.sctp_sides.specs.Restarts.{UnperformedRequestsRestartNothing, WritesWaitForResets};
 ghost use Rattle.sctp_sides.specs.Runs.{ListsHoldWhatCame, LostRunsEndClosed, RunsAreListsOfCalls};
+ghost use Rattle.sctp_sides.specs.Runs.{RunsDoTheirActs, RunsKeepRetries, RunsSendNothingLate};
 ghost use Rattle.sctp_sides.specs.Runs.{RunsTellFinalsOnce, RunsTellOneLoss};
 ghost use Rattle.sctp_sides.specs.Witnesses.{CookiesAreTimedInCookieEchoedAlone, CreatedSidesAreFresh};
 ghost use Rattle.sctp_sides.specs.Witnesses.{DelayedSacksAreTimed, EchoedCookiesAreTimed, FailedSidesWaitForNothing};
@@ -322,12 +323,17 @@ pub fn at_most_one_loss()
 /// Runs: from a past on which the association stands, the calls of a run, by the contract of `Association::run`, are a
 /// list of calls of one side, and the events that their replies tell are those that it tells. So a run of an association
 /// as a constructor leaves it tells of at most one loss, and where it was lost it is closed at the end and waits for no
-/// moment; and a run that begins with no stream tells last counters at most once. 
+/// moment; and a run that begins with no stream tells last counters at most once. At whose end the association has not
+/// failed, the calls of a run do acts in order: so a run of an association as a constructor leaves it keeps retries (RFC
+/// 7496 section 3.1), and none of its polls gives out DATA of a message at or past its deadline (RFC 3758 section 3.5).
 pub fn runs_are_lists_of_calls()
     ensures calls { RunsAreListsOfCalls }
     ensures losses { RunsTellOneLoss }
     ensures lost { LostRunsEndClosed }
     ensures finals { RunsTellFinalsOnce }
+    ensures acts { RunsDoTheirActs }
+    ensures retries { RunsKeepRetries }
+    ensures in_time { RunsSendNothingLate }
 {}
 
 /// Generations: over every list of calls that a side gets and that begins with no stream, each number that a stream was
