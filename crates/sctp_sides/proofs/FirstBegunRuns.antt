@@ -34,7 +34,7 @@ stays_failed call a b h k acts d failed = by_cases d.does
     by_cases (inr (inl u, e, l)) = ap (λ (x : Shown). x.failed) u.same ∙ failed
     by_cases (inr (inr f, e, l)) = f.failed.marked
 
-failed_for_good : (calls : List Call) (a b : Shown) (h k : History) (acts : List Act) → DoInOrder calls a h acts b k
+pub failed_for_good : (calls : List Call) (a b : Shown) (h k : History) (acts : List Act) → DoInOrder calls a h acts b k
     → a.failed ≡ true → b.failed ≡ true
 failed_for_good [] a b h k acts (none, same, past) failed = ap (λ (x : Shown). x.failed) same ∙ failed
 failed_for_good (call ∷ calls) a b h k acts (c, l, first, later, e, d, more) failed =

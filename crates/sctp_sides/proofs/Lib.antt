@@ -60,6 +60,7 @@ mod PastPackets
 mod PeerRequestsInChunks
 mod PeerRequestsInPolls
 mod PeerRequestsOverRuns
+mod PendingPieces
 mod PiecesOfOne
 mod PollsInTime
 mod PollsLeave

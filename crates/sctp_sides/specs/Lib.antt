@@ -15,3 +15,4 @@ pub mod Witnesses
 pub mod Held
 pub mod Brought
 pub mod Runs
+pub mod Pieces

@@ -54,6 +54,8 @@ ghost use Rattle.sctp_sides.specs.Laws.{PollsKeepWhatIsHeld, SacksAreSpelled, Sa
 ghost use Rattle.sctp_sides.specs.Laws.{PollsBeginWithWhatWaits, SacksOfferTheBuffer, SacksSayWhatWasTaken};
 ghost use Rattle.sctp_sides.specs.Laws.{BundlesFitThePacket, NewDataStaysInTheCongestionWindow, TimersDoNotClose};
 ghost use Rattle.sctp_sides.specs.Laws.{WhatWaitsIsGiven, WhatWaitsIsPolled, WritesAreHeld, WritesDoNotClose};
+ghost use Rattle.sctp_sides.specs.Pieces.{CreatedSidesBeginToSend, JoinedSidesBeginToSend, PendingPiecesFit};
+ghost use Rattle.sctp_sides.specs.Pieces.{PollsBeginWithNextPieces};
 ghost use Rattle.sctp_sides.specs.Repeats.{CompletedNumbersAreRepeats, CompletedRequestsStay, DataBehindIsForLater};
 ghost use Rattle.sctp_sides.specs.Repeats.{KeptDataReachesNoStream, LaterDataStaysOut, OtherDataIsReadNow};
 ghost use Rattle.sctp_sides.specs.Repeats.{OwnRequestsWait, RetiringDataIsForLater, RetiringDataStaysOut};
@@ -78,11 +80,16 @@ ghost use Rattle.sctp_sides.specs.Witnesses.{TimeoutsLeaveRequestsTimed};
 use sctp_reset_requests::{completed_requests_are_known, requests_are_held_back};
 
 /// Sending: the next piece that waits goes out with the next poll where nothing is in flight (RFC 4960 section 6.1),
-/// unless its message is given up by then.
+/// unless its message is given up by then. One DATA chunk has room for it: over every list of calls of an association
+/// that begins with nothing to send, as both constructors leave it, each piece that waits fits the payload size.
 pub fn polls_begin_with_what_waits()
     ensures polled { WhatWaitsIsPolled }
     ensures given { WhatWaitsIsGiven }
     ensures packet { PollsBeginWithWhatWaits }
+    ensures fit { PendingPiecesFit }
+    ensures next { PollsBeginWithNextPieces }
+    ensures created { CreatedSidesBeginToSend }
+    ensures joined { JoinedSidesBeginToSend }
 {}
 
 /// Bundling: a packet of DATA has one chunk, or is at most `mtu` bytes long (RFC 4960 section 6.10).
