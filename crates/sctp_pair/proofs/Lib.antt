@@ -35,6 +35,7 @@ pub mod QuietCalls
 pub mod QuietSteps
 pub mod RequestsWait
 pub mod Restarts
+pub mod SidesRun
 pub mod SinceBegun
 pub mod StepsLead
 pub mod StopCall

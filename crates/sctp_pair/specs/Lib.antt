@@ -4,3 +4,4 @@ pub mod World
 pub mod Fits
 pub mod Counted
 pub mod Callers
+pub mod Sides

@@ -3,8 +3,10 @@
 #![tactic(auto)]
 
 mod pair;
+mod sides;
 mod step;
 
 pub use pair::Pair;
 pub use sctp_assoc::Reply;
+pub use sides::sides_run_by_their_calls;
 pub use step::{Side2, Step};
