@@ -330,9 +330,10 @@ pub fn at_most_one_loss()
 /// Runs: from a past on which the association stands, the calls of a run, by the contract of `Association::run`, are a
 /// list of calls of one side, and the events that their replies tell are those that it tells. So a run of an association
 /// as a constructor leaves it tells of at most one loss, and where it was lost it is closed at the end and waits for no
-/// moment; and a run that begins with no stream tells last counters at most once. At whose end the association has not
-/// failed, the calls of a run do acts in order: so a run of an association as a constructor leaves it keeps retries (RFC
-/// 7496 section 3.1), and none of its polls gives out DATA of a message at or past its deadline (RFC 3758 section 3.5).
+/// moment; and a run that begins with no stream tells last counters at most once. Where the association has not failed
+/// at the end, the calls of a run do their acts in order: so a run of an association as a constructor leaves it keeps
+/// retries where FORWARD TSN is in use (RFC 7496 section 3.1), and none of its polls gives out DATA of a message at or
+/// past its deadline then (RFC 3758 section 3.5).
 pub fn runs_are_lists_of_calls()
     ensures calls { RunsAreListsOfCalls }
     ensures losses { RunsTellOneLoss }
