@@ -1,6 +1,7 @@
 -- Requests of the peer that were completed stay so, and are known.
 use Rattle.std.proofs.Common.{◌≡◌, refl, sym, ap, ◌∙◌, subst, ℕ, suc, ◌+◌, ◌^◌, ◌<◌, ◌≤◌, ◌==◌}
-use Rattle.std.proofs.Common.{Bool, true, false, cond, [], ◌∷◌, length, Option, Some, None, is_some, arith}
+use Rattle.std.proofs.Common.{Bool, true, false, cond, if◌then◌else◌, ◌||◌, not, List, [], ◌∷◌, length, Option, Some, None}
+use Rattle.std.proofs.Common.{is_some, arith}
 use Rattle.std.proofs.Common.{eqb-true}
 use Rattle.std.proofs.lemmas.Bool.{false≢true}
 use Rattle.std.proofs.lemmas.Bool.Decides.{nat_tests}
@@ -9,7 +10,9 @@ use Rattle.sctp_reset_requests.specs.Request.{PeerRequestView, is_due}
 use Rattle.sctp_reset_requests.specs.Peer.{PeerView, advanced, advanced_with, arrived, arrived_as, completed}
 use Rattle.sctp_reset_requests.specs.Peer.{is_completed, is_current, is_next, number_before, standing_of, taken_up}
 use Rattle.sctp_reset_requests.specs.Laws.{PeerEvent, Comes, Moves, after, after_all, HasNumber, IsCompletedUpTo}
-use Rattle.sctp_reset_requests.specs.Laws.{CompletedStayCompleted, CompletedAreKnown, AskedEndsNone}
+use Rattle.sctp_outbound_queue.specs.Outbound.{Outbound}
+use Rattle.sctp_reset_requests.specs.Own.{OwnView, asked, asked_for, quiet_ids, with_request}
+use Rattle.sctp_reset_requests.specs.Laws.{CompletedStayCompleted, CompletedAreKnown, AskedEndsNone, NamesTheCompleted}
 use Rattle.sctp_reset_requests.specs.declared.answer.Standing.{Standing}
 use Rattle.sctp_reset_requests.specs.declared.answer.Standing.TheVariants as standings
 use Rattle.sctp_wire_types.specs.declared.param.ReconfigResult.TheVariants as results
@@ -163,7 +166,29 @@ not_last (Some r) first n last h e = rw (h, e) (before_is_apart first n)
 some_same : (x y : ℕ) → Some x ≡ Some y → x ≡ y
 some_same x y e = cc
 
+-- what answers true where a test that fails answers false is what follows the test
+follows_the_test : (test : Bool) (o : OwnView) (x : OwnView × Bool) → (if test then (o, false) else x).1 ≡ true
+    → ((if test then (o, false) else x) ≡ x) × (x.1 ≡ true)
+follows_the_test true o x answered = absurd (false≢true answered)
+follows_the_test false o x answered = (refl, answered)
+
+names_the_completed : (first n : ℕ) (p : PeerView) → IsCompletedUpTo first n p → (ids : List ℕ) (last : Option ℕ)
+    (o : OwnView) → p.last_completed ≡ last → (asked_for ids last o).1 ≡ true
+    → NamesTheCompleted p o (asked_for ids last o).0
+names_the_completed first n p h ids None o e answered = absurd (false≢true answered)
+names_the_completed first n p h ids (Some last) o e answered =
+    let follows = follows_the_test (length ids == 0) o (with_request o last false ids, true) answered in
+    let named : number_before (tsn first n) ≡ last = some_same _ _ (sym h.last ∙ e) in
+    subst (λ (x : OwnView × Bool). NamesTheCompleted p o x.0) (sym follows.0) (
+      record { number = o.next_number; response_number = last; names_all = false; ids = ids },
+      refl,
+      e,
+      not_last p.in_progress first n last h.current (sym named),
+    )
+
 pub asked_ends_none : AskedEndsNone
-asked_ends_none first n last p h e =
-    not_last p.in_progress first n last h.current
-    (some_same last (number_before (tsn first n)) (sym e ∙ h.last))
+asked_ends_none first n o q p h answered =
+    let follows = follows_the_test (is_some o.active || not (length o.queued == 0)) o
+    (asked_for (quiet_ids o q) p.last_completed o) answered in
+    subst (λ (x : OwnView × Bool). NamesTheCompleted p o x.0) (sym follows.0)
+    (names_the_completed first n p h (quiet_ids o q) p.last_completed o refl follows.1)

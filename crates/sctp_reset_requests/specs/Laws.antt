@@ -1,5 +1,5 @@
 -- What holds of requests over all that can happen to them.
-use Rattle.std.specs.Prelude.{◌≡◌, ℕ, true, false, ◌+◌, ◌<◌, ◌≤◌, ◌^◌, ◌==◌, ◌||◌, ⊤, List, [], ◌∷◌, length, Option}
+use Rattle.std.specs.Prelude.{◌≡◌, ℕ, true, false, ◌+◌, ◌<◌, ◌≤◌, ◌^◌, ◌==◌, ◌||◌, ⊤, List, [], ◌∷◌, ◌++◌, length, Option}
 use Rattle.std.specs.Prelude.{Some, None, is_some}
 use Rattle.sctp_serial.specs.Serial.{tsn}
 use Rattle.sctp_wire_types.specs.declared.param.ReconfigResult.TheVariants as results
@@ -53,11 +53,19 @@ CompletedAreKnown =
     → n < k + 2 ^ 31 → r.number ≡ tsn first k
     → arrived p r cumulative_tsn ≡ (p, arrivals.Answered results.SuccessPerformed)
 
--- the response number of a request that this side asks for names none of the peer's that is in progress
+-- a request was queued whose response number is that of the peer's last completed request, and so none of the peer's
+-- that is in progress
+abbrev pub NamesTheCompleted : PeerView → OwnView → OwnView → Type 0
+NamesTheCompleted p before after =
+    (r : OwnRequest) × (after.queued ≡ before.queued ++ r ∷ []) × (p.last_completed ≡ Some r.response_number)
+    × (is_current p.in_progress r.response_number ≡ false)
+
+-- What this side asks for on its own ends no request of the peer that is in progress (RFC 6525 section 5.1.2): its
+-- response number names the last one that was completed.
 abbrev pub AskedEndsNone : Type 0
 AskedEndsNone =
-    (first n last : ℕ) (p : PeerView) → IsCompletedUpTo first n p → p.last_completed ≡ Some last
-    → is_current p.in_progress last ≡ false
+    (first n : ℕ) (o : OwnView) (q : Outbound) (p : PeerView) → IsCompletedUpTo first n p → (asked o q p).1 ≡ true
+    → NamesTheCompleted p o (asked o q p).0
 
 -- while a request is active none goes out for the first time
 abbrev pub OneIsActive : Type 0
