@@ -9,5 +9,5 @@ pub mod ListsOver
 pub mod GenerationsOver
 pub mod OwnOver
 pub mod KeptOver
-mod MarkedFinished
+pub mod MarkedFinished
 pub mod FrontWaits
