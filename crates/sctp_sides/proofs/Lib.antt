@@ -1,100 +1,109 @@
-mod ActiveInChunks
-mod ActiveInPolls
-mod ActiveOverRuns
-mod ActsOfChunks
-mod ActsOfPolls
-mod ActsPast
-mod ActsWithoutWrites
-mod BeginsNoReset
-mod BlocksWithin
-mod BundleLengths
-mod BundlesFilled
-mod ChunksPast
-mod CallsByActs
-mod ClosingCalls
-mod ClosingCauses
-mod ClosingPackets
-mod ClosingPolls
-mod DataIntake
-mod DataKeptOut
-mod DueSacks
-mod EndedPolls
-mod ExhaustedBuffers
-mod FaultCauses
-mod FirstBegun
-mod FirstBegunRuns
-mod ForwardCauses
-mod ForwardKinds
-mod ForwardTsnSettled
-mod GapsFilled
-mod GenerationsInCalls
-mod GenerationsInChunks
-mod GenerationsInResets
-mod GenerationsInSending
-mod GenerationsKept
-mod GenerationsOverRuns
-mod GivingUpKeeps
-mod HandshakeChunks
-mod HandshakeTruth
-mod HeldByCalls
-mod HeldInChunks
-mod HeldInPolls
-mod HeldInResets
-mod HeldInSending
-mod HeldOverCalls
-mod HeldPieces
-mod HeldSteps
-mod HeldStreams
-mod HeldWeaker
-mod LateGivenUp
-mod LiveStreams
-mod LossToldOnce
-mod NothingElseTaken
-mod NothingLate
-mod OwnRequestsHeld
-mod PacketLaws
-mod PacketsByChunks
-mod PastOnly
-mod PolledPackets
-mod PastPackets
-mod PeerRequestsInChunks
-mod PeerRequestsInPolls
-mod PeerRequestsOverRuns
-mod PendingPieces
-mod PiecesOfOne
-mod PollsInTime
-mod PollsLeave
+pub mod ActiveInChunks
+pub mod ActiveInPolls
+pub mod ActiveOverRuns
+pub mod ActsOfChunks
+pub mod ActsOfPolls
+pub mod ActsPast
+pub mod ActsWithoutWrites
+pub mod AscendingInCalls
+pub mod AscendingInChunks
+pub mod AscendingInPolls
+pub mod AscendingInResets
+pub mod AscendingInSending
+pub mod AscendingLists
+pub mod AscendingOverRuns
+pub mod AscendingSteps
+pub mod AscendingTold
+pub mod BeginsNoReset
+pub mod BlocksWithin
+pub mod BundleLengths
+pub mod BundlesFilled
+pub mod CallsByActs
+pub mod ChunksPast
+pub mod ClosingCalls
+pub mod ClosingCauses
+pub mod ClosingPackets
+pub mod ClosingPolls
+pub mod DataIntake
+pub mod DataKeptOut
+pub mod DueSacks
+pub mod EndedPolls
+pub mod ExhaustedBuffers
+pub mod FaultCauses
+pub mod FirstBegun
+pub mod FirstBegunRuns
+pub mod ForwardCauses
+pub mod ForwardKinds
+pub mod ForwardTsnSettled
+pub mod GapsFilled
+pub mod GenerationsInCalls
+pub mod GenerationsInChunks
+pub mod GenerationsInResets
+pub mod GenerationsInSending
+pub mod GenerationsKept
+pub mod GenerationsOverRuns
+pub mod GivingUpKeeps
+pub mod HandshakeChunks
+pub mod HandshakeTruth
+pub mod HeldByCalls
+pub mod HeldInChunks
+pub mod HeldInPolls
+pub mod HeldInResets
+pub mod HeldInSending
+pub mod HeldOverCalls
+pub mod HeldPieces
+pub mod HeldSteps
+pub mod HeldStreams
+pub mod HeldWeaker
+pub mod LateGivenUp
+pub mod LiveStreams
+pub mod LossToldOnce
+pub mod NothingElseTaken
+pub mod NothingLate
+pub mod OwnRequestsHeld
+pub mod PacketLaws
+pub mod PacketsByChunks
+pub mod PastOnly
+pub mod PastPackets
+pub mod PeerRequestsInChunks
+pub mod PeerRequestsInPolls
+pub mod PeerRequestsOverRuns
+pub mod PendingPieces
+pub mod PiecesOfOne
+pub mod PolledPackets
+pub mod PollsInTime
+pub mod PollsLeave
 pub mod Proved
-mod QuietQueues
-mod ReconfigStatus
-mod ResetLosses
-mod RepeatsKnown
-mod RequestsTimed
-mod ResetsBeside
-mod ResetsNoMore
-mod RestartedStreams
-mod Retries
-mod RetriesInPolls
-mod RunsByActs
-mod RunsListed
-mod SentCounts
-mod ShutdownCalls
-mod ShutdownEnds
-mod ShutdownOrder
-mod ShutdownsOverChunks
-mod ShutdownsOverRuns
-mod ShutdownsStayInOrder
-mod Status
-mod StatusOfPolls
-mod StopsAndReads
-mod TimersOverChunks
-mod TimersOverPolls
-mod TimersOverRuns
-mod TimersOverTimeouts
-mod TimersRun
-mod TimesGiven
-mod WaitingGoesOut
-mod WaitingInTime
-mod WindowsHold
-mod WithoutResets
-mod WrittenIsHeld
+pub mod QuietQueues
+pub mod ReconfigStatus
+pub mod RepeatsKnown
+pub mod RequestsTimed
+pub mod ResetLosses
+pub mod ResetsBeside
+pub mod ResetsNoMore
+pub mod RestartedStreams
+pub mod Retries
+pub mod RetriesInPolls
+pub mod RunsByActs
+pub mod RunsListed
+pub mod SentCounts
+pub mod ShutdownCalls
+pub mod ShutdownEnds
+pub mod ShutdownOrder
+pub mod ShutdownsOverChunks
+pub mod ShutdownsOverRuns
+pub mod ShutdownsStayInOrder
+pub mod Status
+pub mod StatusOfPolls
+pub mod StopsAndReads
+pub mod TimersOverChunks
+pub mod TimersOverPolls
+pub mod TimersOverRuns
+pub mod TimersOverTimeouts
+pub mod TimersRun
+pub mod TimesGiven
+pub mod WaitingGoesOut
+pub mod WaitingInTime
+pub mod WindowsHold
+pub mod WithoutResets
+pub mod WrittenIsHeld

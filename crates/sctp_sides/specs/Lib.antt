@@ -16,3 +16,4 @@ pub mod Held
 pub mod Brought
 pub mod Runs
 pub mod Pieces
+pub mod Ascending

@@ -22,6 +22,8 @@ ghost use Rattle.sctp_sides.specs.SideLaws.{NoResetGoesOut, ReadsChangeStreamsAl
 ghost use Rattle.sctp_sides.specs.SideLaws.{SacksAcknowledge, TakenSacksAcknowledge, TheSameHandshakeIsTheSameStage};
 ghost use Rattle.sctp_sides.specs.SideLaws.{TimeoutsMarkAtMost, TimersKeepTheStatus, ToldEventsKeepTheStatus};
 ghost use Rattle.sctp_sides.specs.SideLaws.{WhatHoldsNothingGivesNothing, WhatWaitsGoesOutAsItIs, WritesKeepTheStatus};
+ghost use Rattle.sctp_sides.specs.Ascending.{ClosesTellAscending, CreatedStreamsAscend, ForwardsAscend};
+ghost use Rattle.sctp_sides.specs.Ascending.{JoinedStreamsAscend, RunsKeepStreamsAscending};
 ghost use Rattle.sctp_sides.specs.Brought.{CallsHoldWhatCame, ReadsGiveWhatIsHeld};
 ghost use Rattle.sctp_sides.specs.Ending.{PollsCompleteWhatIsDue, ShutdownsStayInOrder};
 ghost use Rattle.sctp_sides.specs.NoReset.{AcceptedStreamsBeginNoReset, ClosesBeginNoReset, CreatedSidesResetNothing};
@@ -431,3 +433,14 @@ pub fn streams_restart_quietly()
     // what holds of requests by what waits and is in flight alone
     requests_are_held_back();
 }
+
+/// Identifiers: over every list of calls of an association that a constructor made, and whatever the peer sends, the
+/// identifiers of the live streams ascend, unless the association failed; so do those of the last counters that a close
+/// tells, and those of the streams that a FORWARD TSN names (RFC 3758 section 3.2).
+pub fn identifiers_ascend()
+    ensures created { CreatedStreamsAscend }
+    ensures joined { JoinedStreamsAscend }
+    ensures streams { RunsKeepStreamsAscending }
+    ensures finals { ClosesTellAscending }
+    ensures forwards { ForwardsAscend }
+{}
