@@ -14,8 +14,8 @@ use Rattle.sctp_courses.specs.Events.{opened}
 use Rattle.sctp_reset_fit.specs.Laws.{LeadsTo}
 use Rattle.sctp_reset_fit.specs.Stands.{IsLiveAs, LiveAs, TellsHeld, offsets_of}
 use Rattle.sctp_reset_fit.proofs.Delivered.{Comes, IsGrown, IsMade, StaysAway, all_made, all_next, all_there}
-use Rattle.sctp_reset_fit.proofs.Leading.{holds_them, leads_on, leads_to_given, leads_to_open, none_holds_them}
-use Rattle.sctp_reset_fit.proofs.Leading.{with_all_held}
+use Rattle.sctp_reset_fit.proofs.Leading.{holds_them, leads_nowhere, leads_on, leads_to_given, leads_to_open}
+use Rattle.sctp_reset_fit.proofs.Leading.{none_holds_them, with_all_held}
 
 -- Of two states of a course all is the same but what is live, what is being given, and which generations there were.
 pub record IsElseAs (c d : Course) : Type 0 where
@@ -120,7 +120,7 @@ module _ (initial id : ℕ) (P : ChunkPayloadData → Type 0) (IsHeld : Reassemb
       }
 
       stays : LeadsTo c c
-      stays = record { events = []; is = refl }
+      stays = leads_nowhere c
 
       fresh_opens : (generation : ℕ) (l : Live)
           → with_all_held (Some (record { generation = generation; is_open = true; held = [] })) c.hand ≡ Some l

@@ -16,11 +16,11 @@ use Rattle.sctp_reset_requests.specs.Peer.{boundary_for}
 use Rattle.sctp_reset_requests.specs.Request.{PeerRequestView}
 use Rattle.sctp_resets.proofs.ListsOver.{all_inserted}
 use Rattle.sctp_courses.specs.Course.{Course, Live, times}
-use Rattle.sctp_courses.specs.Events.{Event, is_behind, is_idle, is_new, kept, taken_in, with_held}
+use Rattle.sctp_courses.specs.Events.{Event, happens, is_behind, is_idle, is_new, kept, taken_in, with_held}
 use Rattle.sctp_courses.specs.Events as events
 use Rattle.sctp_courses.specs.Invariants.{Invariant}
 use Rattle.sctp_reset_fit.specs.Stands.{IsNear, LiveAs, StandsFor, TellsHeld, offset_of, offsets_of}
-use Rattle.sctp_reset_fit.proofs.Leading.{leads_by}
+use Rattle.sctp_reset_fit.proofs.Leading.{leads_same}
 use Rattle.sctp_reset_fit.proofs.Once.{set_once}
 use Rattle.sctp_reset_fit.proofs.Parted.{up_to_as}
 use Rattle.sctp_reset_fit.proofs.Passing.{LeadsToOne, small_boundary}
@@ -81,7 +81,8 @@ module _ (initial id : ℕ) (P : ChunkPayloadData → Type 0) (IsHeld : Reassemb
       → StandsFor initial id P IsHeld g m in_progress c → p.stream_identifier ≡ id → P p → IsNear initial p.tsn
       → stream_at m id ≡ Some t → refusal t.reassembly p limit ≡ None
       → is_new c (offset_of initial p.tsn) ≡ true → is_hidden g id p.tsn (boundary_for in_progress id) ≡ false
-      → LeadsToOne initial id P IsHeld g (pushed_in m id p).0 in_progress c
+      → LeadsToOne initial id P IsHeld g (pushed_in m id p).0 in_progress
+      (happens c (Event.Takes (offset_of initial p.tsn)))
   takes m p limit t h mine so near is accepted new shown =
       by c.live refl (subst (λ x. LiveAs IsHeld x c.live) is h.live)
     where
@@ -97,11 +98,11 @@ module _ (initial id : ℕ) (P : ChunkPayloadData → Type 0) (IsHeld : Reassemb
           ∙ cond-true _ (Some (stream_pushed t p).0) (stream_at m id) (eq-eqb id id refl)
 
       by : (live : Option Live) → c.live ≡ live → LiveAs IsHeld (Some t) live
-          → LeadsToOne initial id P IsHeld g (pushed_in m id p).0 in_progress c
+          → LeadsToOne initial id P IsHeld g (pushed_in m id p).0 in_progress (happens c (Event.Takes o))
       by None live a = absurd a
       by (Some l) live a = record {
         after = taken_in c o;
-        leads = leads_by c (taken_in c o) (Event.Takes o) (ap (λ b. cond b (taken_in c o) c) allowed);
+        leads = leads_same (happens c (Event.Takes o)) (taken_in c o) is_taken;
         stands = record {
           live = subst (λ x. LiveAs IsHeld x (with_held c.live o)) (sym here)
               (subst (λ x. LiveAs IsHeld (Some (stream_pushed t p).0) (with_held x o)) (sym live) (record {
@@ -122,7 +123,7 @@ module _ (initial id : ℕ) (P : ChunkPayloadData → Type 0) (IsHeld : Reassemb
           near = h.near;
           still = h.still;
         };
-        told = refl;
+        told = ap (λ (d : Course). d.told) (sym is_taken);
       }
         where
           allowed : (is_idle c && (is_new c o && (is_some c.live && not (events.is_hidden c o)))) ≡ true
@@ -130,6 +131,9 @@ module _ (initial id : ℕ) (P : ChunkPayloadData → Type 0) (IsHeld : Reassemb
               and_from (is_idle c) _ (idle_now m h)
               (and_from (is_new c o) _ new
               (and_from (is_some c.live) _ (ap is_some live) (ap not (sym (hidden_as m p.tsn h near) ∙ shown))))
+
+          is_taken : happens c (Event.Takes o) ≡ taken_in c o
+          is_taken = ap (λ b. cond b (taken_in c o) c) allowed
 
           opens : (c.marks ≡ [] → ⊥) → (k : Live) → with_held c.live o ≡ Some k → k.is_open ≡ true
           opens some k e =
@@ -141,10 +145,11 @@ module _ (initial id : ℕ) (P : ChunkPayloadData → Type 0) (IsHeld : Reassemb
   pub keeps : (m : StreamMap) (p : ChunkPayloadData) → StandsFor initial id P IsHeld g m in_progress c
       → p.stream_identifier ≡ id → P p → IsNear initial p.tsn → is_new c (offset_of initial p.tsn) ≡ true
       → is_hidden g id p.tsn (boundary_for in_progress id) ≡ true
-      → LeadsToOne initial id P IsHeld (with_deferred g p) m in_progress c
+      → LeadsToOne initial id P IsHeld (with_deferred g p) m in_progress
+      (happens c (Event.Keeps (offset_of initial p.tsn)))
   keeps m p h mine so near new hidden = record {
     after = kept c o;
-    leads = leads_by c (kept c o) (Event.Keeps o) (ap (λ b. cond b (kept c o) c) allowed);
+    leads = leads_same (happens c (Event.Keeps o)) (kept c o) is_kept;
     stands = record {
       live = h.live;
       next = h.next;
@@ -162,7 +167,7 @@ module _ (initial id : ℕ) (P : ChunkPayloadData → Type 0) (IsHeld : Reassemb
       near = h.near;
       still = h.still;
     };
-    told = refl;
+    told = ap (λ (d : Course). d.told) (sym is_kept);
   }
     where
       o : ℕ
@@ -180,3 +185,6 @@ module _ (initial id : ℕ) (P : ChunkPayloadData → Type 0) (IsHeld : Reassemb
       allowed =
           and_from (is_idle c) _ (idle_now m h)
           (and_from (is_new c o) _ new (sym (hidden_as m p.tsn h near) ∙ hidden))
+
+      is_kept : happens c (Event.Keeps o) ≡ kept c o
+      is_kept = ap (λ b. cond b (kept c o) c) allowed

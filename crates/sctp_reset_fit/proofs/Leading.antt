@@ -1,24 +1,30 @@
 -- A course leads on by events that its rules allow.
 use Rattle.std.proofs.Common.{◌≡◌, refl, sym, ap, ◌∙◌, subst, ℕ, ◌+◌, ◌≤◌, true, false}
 use Rattle.std.proofs.Common.{List, [], ◌∷◌, ◌++◌, Option, Some, None, nat_le, arith}
+use Rattle.sctp_model.proofs.Lists.{all_join}
 use Rattle.sctp_courses.specs.Course.{Course, Live, times}
 use Rattle.sctp_courses.specs.Events.{Event, given_next, happens, opened}
 use Rattle.sctp_courses.specs.Events.{run, with_held}
-use Rattle.sctp_reset_fit.specs.Laws.{LeadsTo}
+use Rattle.sctp_reset_fit.specs.Laws.{LeadsTo, is_quiet}
 
 pub run-join : (es fs : List Event) (c : Course) → run (es ++ fs) c ≡ run fs (run es c)
 run-join [] fs c = refl
 run-join (e ∷ es) fs c = run-join es fs (happens c e)
 
 pub leads_nowhere : (c : Course) → LeadsTo c c
-leads_nowhere c = record { events = []; is = refl }
+leads_nowhere c = record { events = []; quiet = tt; is = refl }
 
-pub leads_by : (c d : Course) (e : Event) → happens c e ≡ d → LeadsTo c d
-leads_by c d e is = record { events = e ∷ []; is = sym is }
+-- from a state to one that is the same
+pub leads_same : (c d : Course) → c ≡ d → LeadsTo c d
+leads_same c d is = record { events = []; quiet = tt; is = sym is }
+
+pub leads_by : (c d : Course) (e : Event) → is_quiet e ≡ true → happens c e ≡ d → LeadsTo c d
+leads_by c d e quiet is = record { events = e ∷ []; quiet = (quiet, tt); is = sym is }
 
 pub leads_on : (b c d : Course) → LeadsTo b c → LeadsTo c d → LeadsTo b d
 leads_on b c d first later = record {
   events = first.events ++ later.events;
+  quiet = all_join _ first.events later.events first.quiet later.quiet;
   is = later.is ∙ ap (run later.events) first.is ∙ sym (run-join first.events later.events b);
 }
 
@@ -26,7 +32,7 @@ leads_on b c d first later = record {
 pub leads_to_open : (c : Course) (generation : ℕ) → c.retires ≡ false → c.live ≡ None → c.next ≤ generation
     → LeadsTo c (opened c generation)
 leads_to_open c generation still gone later =
-    leads_by c (opened c generation) (Event.Opens generation) (by (is_there later))
+    leads_by c (opened c generation) (Event.Opens generation) refl (by (is_there later))
   where
     is_there : c.next ≤ generation → nat_le c.next generation ≡ true
     is_there l = grind arith
@@ -42,14 +48,14 @@ with_all_held live (o ∷ os) = with_all_held (with_held live o) os
 -- all that is being given comes to the stream
 pub leads_to_given : (hand : List ℕ) (c : Course) → c.hand ≡ hand
     → LeadsTo c (record c { live = with_all_held c.live hand; hand = [] })
-leads_to_given [] c is = record { events = []; is = same is }
+leads_to_given [] c is = record { events = []; quiet = tt; is = same is }
   where
     same : c.hand ≡ [] → record c { live = c.live; hand = [] } ≡ c
     same e = subst (λ (h : List ℕ). record c { live = c.live; hand = h } ≡ c) e refl
 leads_to_given (o ∷ os) c is =
     leads_on c (record c { live = with_held c.live o; hand = os })
     (record c { live = with_all_held (with_held c.live o) os; hand = [] })
-    (leads_by c (record c { live = with_held c.live o; hand = os }) Event.Gives (ap (λ h. given_next h c) is))
+    (leads_by c (record c { live = with_held c.live o; hand = os }) Event.Gives refl (ap (λ h. given_next h c) is))
     (leads_to_given os (record c { live = with_held c.live o; hand = os }) refl)
 
 -- What is live then holds them.

@@ -1,6 +1,10 @@
+pub mod Answering
+pub mod Arriving
 pub mod Comes
 pub mod Coming
 pub mod Delivered
+pub mod Elsewhere
+pub mod Keeping
 pub mod Leading
 pub mod Named
 pub mod Numbers
@@ -12,3 +16,7 @@ pub mod Piles
 pub mod Proved
 pub mod Reading
 pub mod Retiring
+pub mod Settling
+pub mod Skipping
+pub mod Stopping
+pub mod Streams

@@ -36,7 +36,7 @@ use Rattle.sctp_reset_fit.specs.Stands.{AreKept, IsLiveAs, IsNear, IsOnce, IsRea
 use Rattle.sctp_reset_fit.specs.Stands.{WaitsAs, last_below, offset_of, offsets_of}
 use Rattle.sctp_reset_fit.proofs.Comes.{AreGiven, all_come}
 use Rattle.sctp_reset_fit.proofs.Delivered.{all_once}
-use Rattle.sctp_reset_fit.proofs.Leading.{leads_by, leads_on}
+use Rattle.sctp_reset_fit.proofs.Leading.{leads_by, leads_nowhere, leads_on}
 use Rattle.sctp_reset_fit.proofs.Once.{removed_none, removed_once, set_once}
 use Rattle.sctp_reset_fit.proofs.Parted.{of_next_as, offsets_chosen, passed_marks, times_chosen}
 use Rattle.sctp_reset_fit.proofs.Parted as parted
@@ -59,7 +59,7 @@ pub record IsAlike (id : ℕ) (IsHeld : Reassembly → List ℕ → Type 0) (g :
   pub once : IsOnce id m.by_id → IsOnce id n.by_id
 
 module _ (id : ℕ) (IsHeld : Reassembly → List ℕ → Type 0) where
-  alike_itself : (g : GenerationsView) (m : StreamMap) → IsAlike id IsHeld g m g m
+  pub alike_itself : (g : GenerationsView) (m : StreamMap) → IsAlike id IsHeld g m g m
   alike_itself g m = record {
     retiring = refl;
     deferred = refl;
@@ -68,7 +68,7 @@ module _ (id : ℕ) (IsHeld : Reassembly → List ℕ → Type 0) where
     once = λ h. h;
   }
 
-  alike_on : {f g h : GenerationsView} {k m n : StreamMap} → IsAlike id IsHeld f k g m → IsAlike id IsHeld g m h n
+  pub alike_on : {f g h : GenerationsView} {k m n : StreamMap} → IsAlike id IsHeld f k g m → IsAlike id IsHeld g m h n
       → IsAlike id IsHeld f k h n
   alike_on a b = record {
     retiring = b.retiring ∙ a.retiring;
@@ -79,7 +79,8 @@ module _ (id : ℕ) (IsHeld : Reassembly → List ℕ → Type 0) where
   }
 
   -- some stream is changed in what the course does not have
-  changed_alike : (f : StreamView → StreamView) → ((t : StreamView) (l : Live) → IsLiveAs IsHeld t l → IsLiveAs IsHeld (f t) l)
+  pub changed_alike : (f : StreamView → StreamView)
+      → ((t : StreamView) (l : Live) → IsLiveAs IsHeld t l → IsLiveAs IsHeld (f t) l)
       → (g : GenerationsView) (m : StreamMap) (k : ℕ) → IsAlike id IsHeld g m g (changed_stream f m k)
   changed_alike f keeps g m k = by (stream_at m k) refl
     where
@@ -103,7 +104,8 @@ module _ (id : ℕ) (IsHeld : Reassembly → List ℕ → Type 0) where
 
   -- Skips of ordered messages that are applied, and a write half that is closed
   module _ (skips : (q : Reassembly) (os : List ℕ) (ssn : ℕ) → IsHeld q os → IsHeld (skipped q ssn) os) where
-    skipped_as : (ssn : ℕ) (t : StreamView) (l : Live) → IsLiveAs IsHeld t l → IsLiveAs IsHeld (stream_skipped ssn t) l
+    pub skipped_as : (ssn : ℕ) (t : StreamView) (l : Live) → IsLiveAs IsHeld t l
+        → IsLiveAs IsHeld (stream_skipped ssn t) l
     skipped_as ssn t l h = record {
       generation = h.generation;
       is_open = h.is_open;
@@ -269,7 +271,7 @@ module _ (initial id : ℕ) (P : ChunkPayloadData → Type 0) (IsHeld : Reassemb
 
       passes : LeadsTo c gone
       passes =
-          leads_by c gone Event.Passes
+          leads_by c gone Event.Passes refl
           (ap (λ b. cond b (passed_first c.marks c) c) idle ∙ ap (λ ms. passed_first ms c) is)
 
       passed_as : MarksAs initial (boundaries_at (passed g.retiring id) id) marks
@@ -383,7 +385,7 @@ module _ (initial id : ℕ) (P : ChunkPayloadData → Type 0) (IsHeld : Reassemb
       → (l : LeadsToOne initial id P IsHeld (passed_times n first limit id (boundary_for in_progress id) (g, x)).0
       (passed_times n first limit id (boundary_for in_progress id) (g, x)).1.streams in_progress c) × IsReadOn l.after
   passes_all zero first limit g x c inv h n = (
-    record { after = c; leads = record { events = []; is = refl }; stands = h; told = refl },
+    record { after = c; leads = leads_nowhere c; stands = h; told = refl },
     λ marked. absurd (marked (none_left c.marks n)),
   )
     where
@@ -407,7 +409,7 @@ module _ (initial id : ℕ) (P : ChunkPayloadData → Type 0) (IsHeld : Reassemb
       by b e [] is rest = absurd (let f : length c.marks ≡ 0 = ap length is in omega arith)
       by false e (mark ∷ marks) is rest =
           rw e (
-            record { after = c; leads = record { events = []; is = refl }; stands = h; told = refl },
+            record { after = c; leads = leads_nowhere c; stands = h; told = refl },
             λ marked. waits_live g x.streams c h (waits (retiring_is g.retiring c.marks h.marks marked)) marked,
           )
         where

@@ -25,20 +25,21 @@ use Rattle.sctp_resets.specs.Performing.{retired_next, retired_one, with_retired
 use Rattle.sctp_resets.specs.Resets.{ResetsView, performed}
 use Rattle.sctp_resets.proofs.StreamsBeside.{ended_apart, set_apart}
 use Rattle.sctp_courses.specs.Course.{Course, Live, boundary_at, is_readable, times}
-use Rattle.sctp_courses.specs.Events.{Event, is_idle, last_boundary, performed_next}
+use Rattle.sctp_courses.specs.Events.{Event, happens, is_idle, last_boundary, performed_next}
 use Rattle.sctp_courses.specs.Events as events
 use Rattle.sctp_courses.specs.Invariants.{Invariant, IsPerformed}
+use Rattle.sctp_courses.proofs.Proved.{each_event_keeps_the_invariant}
 use Rattle.sctp_reset_fit.specs.Laws.{LeadsTo}
 use Rattle.sctp_reset_fit.specs.Stands.{IsNear, IsOnce, IsReadOn, LiveAs, MarksAs, StandsFor, TellsHeld}
 use Rattle.sctp_reset_fit.specs.Stands.{last_below, offsets_of}
 use Rattle.sctp_reset_fit.proofs.Comes.{AreGiven, all_come}
 use Rattle.sctp_reset_fit.proofs.Delivered.{all_once}
-use Rattle.sctp_reset_fit.proofs.Leading.{leads_by, leads_on}
+use Rattle.sctp_reset_fit.proofs.Leading.{leads_by, leads_nowhere, leads_on, leads_same}
 use Rattle.sctp_reset_fit.proofs.Once.{apart_too, inserted_apart, inserted_once}
 use Rattle.sctp_reset_fit.proofs.Once.{removed_once, set_once}
 use Rattle.sctp_reset_fit.proofs.Named.{named_times}
 use Rattle.sctp_reset_fit.proofs.Parted.{offsets_chosen}
-use Rattle.sctp_reset_fit.proofs.Passing.{LeadsToOne, leads_keep}
+use Rattle.sctp_reset_fit.proofs.Passing.{LeadsToOne}
 use Rattle.sctp_reset_fit.proofs.Retiring.{RetiresOn, StandsWhile, retires_here}
 
 module _ (initial id : ℕ) (P : ChunkPayloadData → Type 0) (IsHeld : Reassembly → List ℕ → Type 0) where
@@ -291,12 +292,12 @@ module _ (initial id : ℕ) (P : ChunkPayloadData → Type 0) (IsHeld : Reassemb
           → (l : LeadsToOne initial id P IsHeld (after_given_to_all g) filled.streams None d) × IsReadOn l.after
       by true e =
           on true e (record d { hand = d.deferred; deferred = []; releases = false })
-          (leads_by d _ Event.Releases (let f : (d.releases && not d.retires) ≡ true = rw (h.releases, still) refl in
+          (leads_by d _ Event.Releases refl (let f : (d.releases && not d.retires) ≡ true = rw (h.releases, still) refl in
           ap (λ z. cond z (events.released d) d) f ∙ ap (λ z. cond z (record d { hand = d.deferred; deferred = []; releases = false })
           (record d { releases = false })) e)) still refl quiet refl refl refl refl refl h.deferred (λ o. omega arith)
       by false e =
           on false e (record d { releases = false })
-          (leads_by d _ Event.Releases (let f : (d.releases && not d.retires) ≡ true = rw (h.releases, still) refl in
+          (leads_by d _ Event.Releases refl (let f : (d.releases && not d.retires) ≡ true = rw (h.releases, still) refl in
           ap (λ z. cond z (events.released d) d) f ∙ ap (λ z. cond z (record d { hand = d.deferred; deferred = []; releases = false })
           (record d { releases = false })) e)) still refl quiet refl refl refl refl refl (λ o. omega arith) h.deferred
 
@@ -305,14 +306,15 @@ module _ (initial id : ℕ) (P : ChunkPayloadData → Type 0) (IsHeld : Reassemb
       → StandsFor initial id P IsHeld r.generations x.streams (Some q) c → IsReadOn c
       → boundary_at c.asked c.performed ≤ c.point
       → (l : LeadsToOne initial id P IsHeld (performed q first limit r x).0.0.generations
-      (performed q first limit r x).0.1.streams None c) × IsReadOn l.after
+      (performed q first limit r x).0.1.streams None (happens c Event.Performs)) × IsReadOn l.after
   unfolding performed
   performs q first limit r x c inv h read due = (
     record {
       after = last.0.after;
-      leads = leads_on c c1 last.0.after begins (leads_on c1 ended.0 last.0.after ended.1 last.0.leads);
+      leads = leads_on (happens c Event.Performs) c1 last.0.after (leads_same (happens c Event.Performs) c1 begins)
+          (leads_on c1 ended.0 last.0.after ended.1 last.0.leads);
       stands = last.0.stands;
-      told = last.0.told ∙ ended.4;
+      told = last.0.told ∙ ended.4 ∙ ap (λ (d : Course). d.told) (sym begins);
     },
     last.1,
   )
@@ -335,14 +337,14 @@ module _ (initial id : ℕ) (P : ChunkPayloadData → Type 0) (IsHeld : Reassemb
       is_due_now : b ≤ c.point → nat_le b c.point ≡ true
       is_due_now l = grind arith
 
-      begins : LeadsTo c c1
+      begins : happens c Event.Performs ≡ c1
       begins =
           let f : (is_idle c && events.is_due c) ≡ true =
           rw (h.still.1, h.still.2, h.waits.0, is_due_now due) refl in
-          leads_by c c1 Event.Performs (ap (λ z. cond z c1 c) f)
+          ap (λ z. cond z c1 c) f
 
       inv1 : Invariant c1
-      inv1 = leads_keep c c1 begins inv
+      inv1 = subst Invariant begins (each_event_keeps_the_invariant c Event.Performs inv)
 
       known : c.performed < length c.asked
       known = h.waits.3
@@ -419,7 +421,7 @@ module _ (initial id : ℕ) (P : ChunkPayloadData → Type 0) (IsHeld : Reassemb
               let f : (c1.retires && eqb (length c.marks) 0) ≡ true = rw (now, unmarked) refl in
               let d : Course = events.finished c1 in (
                 d,
-                leads_by c1 d Event.Finishes (ap (λ z. cond z d c1) f),
+                leads_by c1 d Event.Finishes refl (ap (λ z. cond z d c1) f),
                 retire_others initial id P IsHeld q.last_tsn ks (p, []) d none (record {
                   live = subst (LiveAs IsHeld (stream_at x.streams id)) gone h.live;
                   next = h.next;
@@ -441,7 +443,7 @@ module _ (initial id : ℕ) (P : ChunkPayloadData → Type 0) (IsHeld : Reassemb
               let none : times id ks ≡ 0 = counted ∙ ap (λ u. if u && is_some (stream_at x.streams id) then 1 else 0) n in
               let never : c1.retires ≡ false = sym h.waits.2 ∙ n in (
                 c1,
-                record { events = []; is = refl },
+                leads_nowhere c1,
                 retire_others initial id P IsHeld q.last_tsn ks (p, []) c1 none while,
                 never,
                 refl,

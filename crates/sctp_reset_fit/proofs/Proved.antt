@@ -10,23 +10,14 @@ use Rattle.sctp_reset_fit.specs.Held.{IsHeldOn, IsMadeOn}
 use Rattle.sctp_reset_fit.specs.Laws.{IsPiece, LaterDataWaits, LeadsOn, MessagesAreRead, NewDataIsTaken}
 use Rattle.sctp_reset_fit.specs.Laws.{NothingStandsForTheStart, RequestsArePerformed, StreamsAreReadOut}
 use Rattle.sctp_reset_fit.specs.Laws.{WhatIsHiddenIsHidden}
-use Rattle.sctp_reset_fit.specs.Stands.{TellsHeld, last_below}
+use Rattle.sctp_reset_fit.specs.Stands.{last_below}
 use Rattle.sctp_reset_fit.proofs.Coming.{hidden_as, keeps, takes}
+use Rattle.sctp_reset_fit.proofs.Keeping.{tells}
 use Rattle.sctp_reset_fit.proofs.Numbers.{lte_both}
 use Rattle.sctp_reset_fit.proofs.Passing.{LeadsToOne, reads_out}
 use Rattle.sctp_reset_fit.proofs.Performing.{performs}
-use Rattle.sctp_reset_fit.proofs.Piles.{empty_on, more_on, passed_on, pushed_on, skipped_on, taken_on}
+use Rattle.sctp_reset_fit.proofs.Piles.{more_on, taken_on}
 use Rattle.sctp_reset_fit.proofs.Reading.{reads_one}
-
--- what a stream holds is told from offsets
-tells : (initial id : ℕ) → TellsHeld initial id IsPiece (IsHeldOn initial)
-tells initial id = record {
-  empty = empty_on initial;
-  more = more_on initial;
-  pushes = λ q os p limit so same accepted h. pushed_on initial q os p h;
-  skips = skipped_on initial;
-  passes = passed_on initial;
-}
 
 abbrev leads_on : {initial id : ℕ} {g : GenerationsView} {m : StreamMap} {o : Option PeerRequestView} {c : Course}
     → LeadsToOne initial id IsPiece (IsHeldOn initial) g m o c → LeadsOn initial id g m o c

@@ -81,7 +81,7 @@ module _ (initial id : ℕ) (P : ChunkPayloadData → Type 0) (IsHeld : Reassemb
       by None live a = absurd a
       by (Some l) live a = record {
         after = after;
-        leads = leads_by c after (Event.Reads out.out)
+        leads = leads_by c after (Event.Reads out.out) refl
             (ap (λ o. read_from out.out o c) live ∙ ap (λ b. cond b after c) allowed);
         stands = record {
           live = subst (λ o. LiveAs IsHeld o (Some (without_held out.out l))) (sym here) (record {

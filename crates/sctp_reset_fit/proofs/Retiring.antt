@@ -25,9 +25,9 @@ use Rattle.sctp_generations.specs.Generations.{GenerationsView, retired, retired
 use Rattle.sctp_generations.specs.Retiring.{RetiringMap, boundaries_at, last_of, newest_boundary, retired_at}
 use Rattle.sctp_generations.specs.Retiring.{retired_with}
 use Rattle.sctp_resets.specs.Performing.{Performing, is_drained, is_drained_at, retired_as, retired_one}
-use Rattle.sctp_courses.specs.Course.{Course, Live, boundary_at, is_marked, is_named, is_readable, stands_for, times}
+use Rattle.sctp_courses.specs.Course.{Course, Live, is_marked, is_readable, stands_for, times}
 use Rattle.sctp_courses.specs.Course as course
-use Rattle.sctp_courses.specs.Events.{Event, happens, last_boundary}
+use Rattle.sctp_courses.specs.Events.{Event, last_boundary}
 use Rattle.sctp_courses.specs.Events as events
 use Rattle.sctp_courses.specs.Invariants.{Invariant}
 use Rattle.sctp_reset_fit.specs.Laws.{LeadsTo}
@@ -202,7 +202,7 @@ module _ (initial id : ℕ) (P : ChunkPayloadData → Type 0) (IsHeld : Reassemb
           → RetiresOn initial id P IsHeld (with_boundary g id b) p.streams c
       more can = record {
         after = events.retired c;
-        leads = leads_by c (events.retired c) Event.Retires (ap (λ z. cond z (events.retired c) c) now);
+        leads = leads_by c (events.retired c) Event.Retires refl (ap (λ z. cond z (events.retired c) c) now);
         stands = record {
           live = h.live;
           next = h.next;
@@ -231,7 +231,7 @@ module _ (initial id : ℕ) (P : ChunkPayloadData → Type 0) (IsHeld : Reassemb
           → RetiresOn initial id P IsHeld (retired_by retirements.Ended g id b) (without_stream p.streams id) c
       over gone drained = record {
         after = events.finished c;
-        leads = leads_by c (events.finished c) Event.Finishes
+        leads = leads_by c (events.finished c) Event.Finishes refl
             (let f : (c.retires && eqb (length c.marks) 0) ≡ true = rw (now, unmarked) refl in
             ap (λ z. cond z (events.finished c) c) f);
         stands = record {
@@ -302,8 +302,8 @@ module _ (initial id : ℕ) (P : ChunkPayloadData → Type 0) (IsHeld : Reassemb
               unmarked (Some bs) there e = (let l = e.1 in let f : length c.marks ≡ 0 = ap length is in omega arith)
           by_marks (first ∷ ms) is = record {
             after = after;
-            leads = leads_on c d after (leads_by c d (Event.Defers (λ o. mem o os)) refl)
-                (leads_by d after Event.Leaves
+            leads = leads_on c d after (leads_by c d (Event.Defers (λ o. mem o os)) refl refl)
+                (leads_by d after Event.Leaves refl
                 (let f : (c.retires && is_marked c.marks (filter (λ o. mem o os) c.deferred) (last_boundary c)) ≡ true =
                 rw (now, marked) refl in ap (λ z. cond z after d) f));
             stands = record {

@@ -1,5 +1,6 @@
 -- What an association does to the resets of a stream that it receives is what may happen in the stream's course.
-use Rattle.std.specs.Prelude.{◌≡◌, ◌<◌, ◌^◌, ℕ, true, false, ⊤, List, [], ◌∷◌, ◌++◌, Option, Some, None}
+use Rattle.std.specs.Prelude.{◌≡◌, ◌<◌, ◌^◌, ℕ, Bool, true, false, ⊤, List, [], ◌∷◌, ◌++◌, Option, Some, None}
+use Rattle.std.specs.List.{AllByRecursion}
 use Rattle.sctp_wire_types.specs.declared.chunk.ChunkPayloadData.{ChunkPayloadData}
 use Rattle.sctp_receive_queues.specs.Messages.{ReceivedMessage}
 use Rattle.sctp_receive_queues.specs.Reassembly.{refusal}
@@ -14,14 +15,39 @@ use Rattle.sctp_resets.specs.Draining.{drained_out}
 use Rattle.sctp_resets.specs.Resets.{ResetsView, performed}
 use Rattle.sctp_courses.specs.Course.{Course, fresh_course}
 use Rattle.sctp_courses.specs.Events as events
-use Rattle.sctp_courses.specs.Events.{Event, is_new, run}
+use Rattle.sctp_courses.specs.Events.{Event, happens, is_new, run}
 use Rattle.sctp_courses.specs.Invariants.{Invariant}
 use Rattle.sctp_reset_fit.specs.Held.{IsHeldOn, IsMadeOn}
 use Rattle.sctp_reset_fit.specs.Stands.{IsNear, IsReadOn, StandsFor, last_below, offset_of}
 
--- The course leads on to another state of it.
+-- Nothing comes by an event, no request is taken up or performed, and the sender does nothing.
+abbrev pub is_quiet : Event → Bool
+is_quiet Event.AssignsMine = false
+is_quiet Event.AssignsOther = false
+is_quiet (Event.Asks named) = false
+is_quiet (Event.Advances point) = false
+is_quiet (Event.Takes o) = false
+is_quiet (Event.Keeps o) = false
+is_quiet (Event.Opens generation) = true
+is_quiet Event.Comes = false
+is_quiet Event.Performs = false
+is_quiet Event.Retires = true
+is_quiet Event.Leaves = true
+is_quiet Event.Finishes = true
+is_quiet Event.Releases = true
+is_quiet Event.Gives = true
+is_quiet Event.Passes = true
+is_quiet (Event.Reads os) = true
+is_quiet (Event.Holds test) = true
+is_quiet (Event.Defers test) = true
+is_quiet Event.Closes = true
+is_quiet Event.Discards = true
+is_quiet Event.Vanishes = true
+
+-- The course leads on to another state of it by quiet events.
 pub record LeadsTo (c d : Course) : Type 0 where
   pub events : List Event
+  pub quiet : AllByRecursion (λ (e : Event). is_quiet e ≡ true) events
   pub is : d ≡ run events c
 
 -- any piece
@@ -59,7 +85,8 @@ NewDataIsTaken = (initial limit : ℕ) (piece : ChunkPayloadData) (t : StreamVie
     → stream_at m piece.stream_identifier ≡ Some t → refusal t.reassembly piece limit ≡ None
     → is_new c (offset_of initial piece.tsn) ≡ true
     → generations.is_hidden g piece.stream_identifier piece.tsn (boundary_for in_progress piece.stream_identifier) ≡ false
-    → LeadsOn initial piece.stream_identifier g (pushed_in m piece.stream_identifier piece).0 in_progress c
+    → LeadsOn initial piece.stream_identifier g (pushed_in m piece.stream_identifier piece).0 in_progress
+    (happens c (Event.Takes (offset_of initial piece.tsn)))
 
 -- New DATA of a later one waits there.
 abbrev pub LaterDataWaits : Type 0
@@ -68,7 +95,8 @@ LaterDataWaits = (initial : ℕ) (piece : ChunkPayloadData) (g : GenerationsView
     → Stands initial piece.stream_identifier g m in_progress c → IsNear initial piece.tsn
     → is_new c (offset_of initial piece.tsn) ≡ true
     → generations.is_hidden g piece.stream_identifier piece.tsn (boundary_for in_progress piece.stream_identifier) ≡ true
-    → LeadsOn initial piece.stream_identifier (with_deferred g piece) m in_progress c
+    → LeadsOn initial piece.stream_identifier (with_deferred g piece) m in_progress
+    (happens c (Event.Keeps (offset_of initial piece.tsn)))
 
 -- A message is read: the course leads on to a state that what is left stands for, in which it was read in the generation
 -- of its stream, with the offsets of the pieces that it was made of.
@@ -102,4 +130,4 @@ RequestsArePerformed = (initial id first limit : ℕ) (q : PeerRequestView) (r :
     → Invariant c → Stands initial id r.generations x.streams (Some q) c → IsReadOn c → c.point < 2 ^ 31
     → is_due q (last_below initial c.point) ≡ true
     → (l : LeadsOn initial id (performed q first limit r x).0.0.generations (performed q first limit r x).0.1.streams
-    None c) × IsReadOn l.after
+    None (happens c Event.Performs)) × IsReadOn l.after

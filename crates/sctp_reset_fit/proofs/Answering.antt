@@ -1,0 +1,152 @@
+-- The end of a request of this side keeps to the course of each stream.
+use Rattle.std.proofs.Common.{◌≡◌, refl, sym, ap, ◌∙◌, ℕ, Bool, true, false, not, cond, List, [], ◌∷◌, fold}
+use Rattle.std.proofs.Common.{Option, Some, None, Result, Ok, Err}
+use Rattle.sctp_wire_types.specs.declared.event.StreamResetError.{StreamResetError}
+use Rattle.sctp_wire_types.specs.declared.event.StreamResetError.TheVariants as reasons
+use Rattle.sctp_wire_types.specs.declared.param.ParamReconfigResponse.{ParamReconfigResponse}
+use Rattle.sctp_streams.specs.declared.event.Event.{Event}
+use Rattle.sctp_streams.specs.Stream.{StreamView, is_read_half_open, with_restarted_ssn}
+use Rattle.sctp_streams.specs.Streams.{StreamMap, changed_stream, stream_at, without_stream}
+use Rattle.sctp_reset_requests.specs.declared.outcome.Answered.{Answered}
+use Rattle.sctp_reset_requests.specs.declared.outcome.Answered.TheVariants as answers
+use Rattle.sctp_reset_requests.specs.declared.own_request.OwnRequest.{OwnRequest}
+use Rattle.sctp_reset_requests.specs.Debts.{DebtsView}
+use Rattle.sctp_reset_requests.specs.Debts as debts
+use Rattle.sctp_reset_requests.specs.Own.{OwnView}
+use Rattle.sctp_reset_requests.specs.Own as own
+use Rattle.sctp_resets.specs.Answers.{Answering, answering, completed_one, completed_with, is_read_half_closed}
+use Rattle.sctp_resets.specs.Answers.{read_half_closed_at}
+use Rattle.sctp_resets.specs.Channels.{final_told}
+use Rattle.sctp_resets.specs.Resets.{ResetsView, confirmed_by, confirmed_where, ended_as_answered, given_up}
+use Rattle.sctp_resets.specs.Resets.{given_up_where, request_over, responded}
+use Rattle.sctp_reset_fit.specs.Keeping.{KeepsCourse}
+use Rattle.sctp_reset_fit.proofs.Keeping.{keeps_same, keeps_then}
+use Rattle.sctp_reset_fit.proofs.Streams.{gone_keeps, restarted_keeps}
+
+-- what is not so is false
+false_of : (b : Bool) → not b ≡ true → b ≡ false
+false_of true e = sym e
+false_of false e = refl
+
+-- One stream whose reset succeeded
+
+-- a live stream of which the read half is closed cannot be read
+closed_at : (m : StreamMap) (k : ℕ) → is_read_half_closed m k ≡ true → (t : StreamView) → stream_at m k ≡ Some t
+    → is_read_half_open t.halves ≡ false
+closed_at m k closed t is = false_of (is_read_half_open t.halves) (sym (ap read_half_closed_at is) ∙ closed)
+
+-- one of two answerings keeps to the course where each does
+either_keeps : (initial id : ℕ) (r : ResetsView) (m : StreamMap) (b : Bool) (x y : Answering)
+    → (b ≡ true → KeepsCourse initial id r m r x.streams) → KeepsCourse initial id r m r y.streams
+    → KeepsCourse initial id r m r (cond b x y).streams
+either_keeps initial id r m true x y first second = first refl
+either_keeps initial id r m false x y first second = second
+
+-- it ends where its read half is closed and that was owed, and else its SSNs begin at 0 again
+one_keeps : (initial id : ℕ) (r : ResetsView) (owed : Bool) (d : DebtsView) (a : Answering) (k : ℕ)
+    → KeepsCourse initial id r a.streams r (completed_with (d, owed) a k).streams
+one_keeps initial id r false d a k = restarted_keeps initial id r a.streams k
+one_keeps initial id r true d a k =
+    either_keeps initial id r a.streams (is_read_half_closed a.streams k)
+    (record a { debts = d; streams = without_stream a.streams k; events = final_told a.streams k a.events })
+    (record a { debts = d; streams = changed_stream with_restarted_ssn a.streams k })
+    (λ closed. gone_keeps initial id r a.streams k (closed_at a.streams k closed))
+    (restarted_keeps initial id r a.streams k)
+
+-- All streams of a request
+
+all_keep : (initial id : ℕ) (r : ResetsView) (ids : List ℕ) (a : Answering)
+    → KeepsCourse initial id r a.streams r (fold completed_one a ids).streams
+all_keep initial id r [] a = keeps_same initial id r a.streams
+all_keep initial id r (k ∷ ids) a =
+    keeps_then initial id r r r a.streams (completed_one a k).streams
+    (fold completed_one (completed_one a k) ids).streams
+    (one_keeps initial id r (debts.settled a.debts k).1 (debts.settled a.debts k).0 a k)
+    (all_keep initial id r ids (completed_one a k))
+
+-- A request of this side ended: the course of each stream is kept to.
+pub over_keeps : (initial id : ℕ) (r : ResetsView) (m : StreamMap) (told : List Event)
+    (outcome : Result (Unit {0}) StreamResetError) (q : OwnRequest)
+    → KeepsCourse initial id r m (request_over outcome q r m told).0 (request_over outcome q r m told).1
+over_keeps initial id r m told (Ok done) q = all_keep initial id r q.ids (answering r.debts m told)
+over_keeps initial id r m told (Err reason) q = keeps_same initial id r m
+
+-- By what it ended
+
+confirmed_as : (initial id : ℕ) (r : ResetsView) (m : StreamMap) (told : List Event) (x : OwnView × Option OwnRequest)
+    → KeepsCourse initial id r m (confirmed_where x r m told).0.0 (confirmed_where x r m told).0.1
+confirmed_as initial id r m told (o, None) = keeps_same initial id r m
+confirmed_as initial id r m told (o, Some q) = over_keeps initial id (record r { own = o }) m told (Ok tt) q
+
+-- A request of the peer confirmed the active request.
+pub confirmed_keeps : (initial id : ℕ) (r : ResetsView) (m : StreamMap) (told : List Event) (number : ℕ)
+    → KeepsCourse initial id r m (confirmed_by number r m told).0.0 (confirmed_by number r m told).0.1
+confirmed_keeps initial id r m told number = confirmed_as initial id r m told (own.confirmed r.own number)
+
+responded_as : (initial id : ℕ) (r : ResetsView) (m : StreamMap) (told : List Event) (x : OwnView × Answered)
+    → KeepsCourse initial id r m (ended_as_answered x r m told).0.0 (ended_as_answered x r m told).0.1
+responded_as initial id r m told (o, answers.Ignored) = keeps_same initial id r m
+responded_as initial id r m told (o, answers.InProgress) = keeps_same initial id r m
+responded_as initial id r m told (o, answers.Ended q outcome) =
+    over_keeps initial id (record r { own = o }) m told outcome q
+
+-- A response of the peer came.
+pub responded_keeps : (initial id : ℕ) (r : ResetsView) (m : StreamMap) (told : List Event)
+    (response : ParamReconfigResponse)
+    → KeepsCourse initial id r m (responded response r m told).0.0 (responded response r m told).0.1
+responded_keeps initial id r m told response = responded_as initial id r m told (own.answered r.own response)
+
+given_up_as : (initial id : ℕ) (r : ResetsView) (m : StreamMap) (told : List Event) (x : OwnView × Option OwnRequest)
+    → KeepsCourse initial id r m (given_up_where x r m told).0 (given_up_where x r m told).1
+given_up_as initial id r m told (o, None) = keeps_same initial id r m
+given_up_as initial id r m told (o, Some q) =
+    over_keeps initial id (record r { own = o }) m told (Err reasons.Failed) q
+
+-- The active request was given up.
+pub given_up_keeps : (initial id : ℕ) (r : ResetsView) (m : StreamMap) (told : List Event)
+    → KeepsCourse initial id r m (given_up r m told).0 (given_up r m told).1
+given_up_keeps initial id r m told = given_up_as initial id r m told (own.ended r.own)
+
+-- The peer's requests, and what is kept of generations, stay as they are.
+
+abbrev Stays : ResetsView → ResetsView → Type 0
+Stays r s = (s.peer ≡ r.peer) × (s.generations ≡ r.generations)
+
+confirmed_stays : (r : ResetsView) (m : StreamMap) (told : List Event) (x : OwnView × Option OwnRequest)
+    → Stays r (confirmed_where x r m told).0.0
+confirmed_stays r m told (o, None) = (refl, refl)
+confirmed_stays r m told (o, Some q) = (refl, refl)
+
+responded_stays : (r : ResetsView) (m : StreamMap) (told : List Event) (x : OwnView × Answered)
+    → Stays r (ended_as_answered x r m told).0.0
+responded_stays r m told (o, answers.Ignored) = (refl, refl)
+responded_stays r m told (o, answers.InProgress) = (refl, refl)
+responded_stays r m told (o, answers.Ended q outcome) = (refl, refl)
+
+given_up_stays : (r : ResetsView) (m : StreamMap) (told : List Event) (x : OwnView × Option OwnRequest)
+    → Stays r (given_up_where x r m told).0
+given_up_stays r m told (o, None) = (refl, refl)
+given_up_stays r m told (o, Some q) = (refl, refl)
+
+pub confirmed_peer : (r : ResetsView) (m : StreamMap) (told : List Event) (number : ℕ)
+    → (confirmed_by number r m told).0.0.peer ≡ r.peer
+confirmed_peer r m told number = (confirmed_stays r m told (own.confirmed r.own number)).0
+
+pub confirmed_generations : (r : ResetsView) (m : StreamMap) (told : List Event) (number : ℕ)
+    → (confirmed_by number r m told).0.0.generations ≡ r.generations
+confirmed_generations r m told number = (confirmed_stays r m told (own.confirmed r.own number)).1
+
+pub responded_peer : (r : ResetsView) (m : StreamMap) (told : List Event) (response : ParamReconfigResponse)
+    → (responded response r m told).0.0.peer ≡ r.peer
+responded_peer r m told response = (responded_stays r m told (own.answered r.own response)).0
+
+pub responded_generations : (r : ResetsView) (m : StreamMap) (told : List Event) (response : ParamReconfigResponse)
+    → (responded response r m told).0.0.generations ≡ r.generations
+responded_generations r m told response = (responded_stays r m told (own.answered r.own response)).1
+
+pub given_up_peer : (r : ResetsView) (m : StreamMap) (told : List Event) → (given_up r m told).0.peer ≡ r.peer
+given_up_peer r m told = (given_up_stays r m told (own.ended r.own)).0
+
+pub given_up_generations : (r : ResetsView) (m : StreamMap) (told : List Event)
+    → (given_up r m told).0.generations ≡ r.generations
+given_up_generations r m told = (given_up_stays r m told (own.ended r.own)).1
