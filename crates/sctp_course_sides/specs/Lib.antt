@@ -1,0 +1,10 @@
+pub mod Follows
+pub mod Following
+pub mod Sends
+pub mod Answers
+pub mod Waiting
+pub mod Turns
+pub mod Laws
+pub mod Honest
+pub mod Spelled
+pub mod Over

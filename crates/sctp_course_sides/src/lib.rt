@@ -1,0 +1,17 @@
+//! One association and the courses of streams: as a receiver it follows the course of each stream that its peer sends,
+//! as a sender it leads the course of each of its own on, and what it says of its peer's requests is true. No code runs
+//! here; each function carries laws that are proved, and is empty.
+#![tactic(auto)]
+
+ghost use Rattle.sctp_course_sides.specs.Laws.{JoinedSidesKeepBoundaries, OneSideKeepsBoundaries};
+ghost use Rattle.sctp_course_sides.specs.Waiting.{WhatWaitsWaitsOnce};
+
+/// A side that follows the course of a stream of its peer keeps the boundaries of the stream's resets, whatever is
+/// called and whatever the peer sends by the course between the calls: each message that is read is read in the
+/// course, in the generation of its stream (RFC 6525 section 5.2.2). Two tokens join a side that begins so. What waits
+/// to be read came, and waits once.
+pub fn one_side_keeps_boundaries()
+    ensures along { OneSideKeepsBoundaries }
+    ensures joined { JoinedSidesKeepBoundaries }
+    ensures waits { WhatWaitsWaitsOnce }
+{}
