@@ -1,0 +1,13 @@
+pub mod Calling
+pub mod CallsLead
+pub mod EachCall
+pub mod Gone
+pub mod Joined
+pub mod Kept
+pub mod Led
+pub mod PacketsLead
+pub mod PollsLead
+pub mod RunsLead
+pub mod SentNumbers
+pub mod Staying
+pub mod StepsLead

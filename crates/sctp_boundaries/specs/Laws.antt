@@ -1,0 +1,81 @@
+-- What is promised of a stream between two associations across its resets.
+use Rattle.std.specs.Prelude.{◌≡◌, ◌<◌, ◌^◌, ⊤, ℕ, List, [], ◌∷◌, Option}
+use Rattle.std.specs.List.{AllByRecursion}
+use Rattle.std.specs.declared.net.ip_addr.IpAddr.{IpAddr}
+use Rattle.std.specs.declared.net.socket_addr.SocketAddr.{SocketAddr}
+use Rattle.sctp_wire_types.specs.declared.chunk.ChunkInit.{ChunkInit}
+use Rattle.sctp_wire_types.specs.Config.{Settings}
+use Rattle.sctp_courses.specs.Course.{Course, fresh_course}
+use Rattle.sctp_courses.specs.Events.{Event, run}
+use Rattle.sctp_courses.specs.Laws.{KeepsBoundaries}
+use Rattle.sctp_assoc.specs.Created.{joined}
+use Rattle.sctp_assoc.specs.declared.call.Reply.{Reply}
+use Rattle.sctp_course_sides.specs.Turns.{Grows}
+use Rattle.sctp_pair.specs.declared.step.Side2.TheVariants as sides
+use Rattle.sctp_pair.specs.declared.step.Step.{Step}
+use Rattle.sctp_pair.specs.declared.step.Step.TheVariants as steps
+use Rattle.sctp_pair.specs.Ends.{Ends}
+use Rattle.sctp_pair.specs.Steps.{Runs, Steps}
+use Rattle.sctp_pair.specs.World.{message_read}
+use Rattle.sctp_boundaries.specs.Between.{AreFew, Courses, StandBetween}
+
+-- a stream that a step stops or closes is named by an identifier, of 16 bits (RFC 4960 section 3.3.1)
+abbrev pub NamesIdentifiers : Step → Type 0
+NamesIdentifiers (steps.Stop side stopped) = stopped < 2 ^ 16
+NamesIdentifiers (steps.CloseStream side closed) = closed < 2 ^ 16
+NamesIdentifiers step = ⊤
+
+-- something happened to the stream
+abbrev pub GoesTo : Course → Course → Type 0
+GoesTo c d = (events : List Event) × (d ≡ run events c)
+
+-- A step leads both courses on. What was read of each grows by the message that the step reads on the stream, in the
+-- generation that the stream is in and on the offsets that it was sent on, or by nothing. The boundaries are kept, and
+-- both sides stand between the courses while few requests and offsets were sent.
+pub record LeadsBoth (own_a own_b id : ℕ) (step : Step) (p : Ends) (reply : Reply) (q : Ends) (w : Courses)
+    : Type 0 where
+  pub after : Courses
+  pub ab_goes : GoesTo w.ab after.ab
+  pub ba_goes : GoesTo w.ba after.ba
+  pub ab_read : Grows own_a id (message_read step reply sides.B id) p.b w.ab.told after.ab.told
+  pub ba_read : Grows own_b id (message_read step reply sides.A id) p.a w.ba.told after.ba.told
+  pub ab_keeps : KeepsBoundaries after.ab
+  pub ba_keeps : KeepsBoundaries after.ba
+  pub stand : AreFew after → StandBetween own_a own_b id q after
+
+-- Each step does, whatever it is and whether its side is open, lost or failed.
+abbrev pub StepsKeepBoundaries : Type 0
+StepsKeepBoundaries = (own_a own_b id : ℕ) (step : Step) (p : Ends) (reply : Reply) (q : Ends) (w : Courses)
+    → NamesIdentifiers step → StandBetween own_a own_b id p w → Steps step p reply q
+    → LeadsBoth own_a own_b id step p reply q w
+
+-- And so do all, one after another, as long as few requests and offsets were sent in either direction.
+abbrev pub KeepAlong : ℕ → ℕ → ℕ → List Step → List Reply → Ends → Courses → Ends → Type 0
+KeepAlong own_a own_b id [] [] p w q = (q ≡ p) × StandBetween own_a own_b id q w
+KeepAlong own_a own_b id (s ∷ ss) (r ∷ rs) p w q =
+    (u : Ends) × Steps s p r u × (l : LeadsBoth own_a own_b id s p r u w)
+    × (AreFew l.after → KeepAlong own_a own_b id ss rs u l.after q)
+KeepAlong own_a own_b id [] (r ∷ rs) p w q = ⊥
+KeepAlong own_a own_b id (s ∷ ss) [] p w q = ⊥
+
+abbrev pub RunsKeepBoundaries : Type 0
+RunsKeepBoundaries = (own_a own_b id : ℕ) (ss : List Step) (rs : List Reply) (p q : Ends) (w : Courses)
+    → AllByRecursion NamesIdentifiers ss → StandBetween own_a own_b id p w → Runs ss rs p q
+    → KeepAlong own_a own_b id ss rs p w q
+
+-- Nothing was sent on the stream.
+abbrev pub fresh_courses : Courses
+fresh_courses = record { ab = fresh_course; ba = fresh_course }
+
+-- A pair of sides that two tokens joined stands between fresh courses, whichever the stream.
+abbrev pub JoinedPairsBegin : Type 0
+JoinedPairsBegin = (id : ℕ) (config_a config_b : Settings) (size_a size_b : ℕ) (address_a address_b : SocketAddr)
+    (ip_a ip_b : Option IpAddr) (token_a token_b : ChunkInit) → token_a.initial_tsn < 2 ^ 32
+    → token_b.initial_tsn < 2 ^ 32
+    → StandBetween token_a.initial_tsn token_b.initial_tsn id
+    (record {
+      a = joined config_a size_a address_a ip_a token_a token_b;
+      b = joined config_b size_b address_b ip_b token_b token_a;
+      packets_a = [];
+      packets_b = [];
+    }) fresh_courses
