@@ -76,9 +76,9 @@
 //! check refuses, an INIT past the handshake, an INIT ACK without a cookie, a SACK of what is not in flight, DATA that
 //! contradicts what came or is too long, DATA or FORWARD TSN that exhausts the buffer, and a RE-CONFIG that asks for
 //! anything but a reset of outgoing streams. docs/PROOFS.md names every cause. The rest of the packet is not looked at.
-//! If the association is open (in any state but Closed), it closes: all timers stop, no packet waits any more, each live stream ends with its last counters
-//! ([`Event::DataChannelStatsFinal`]), and [`Event::AssociationLost`] is told. Only a failed handshake that was not
-//! told yet comes after that event. From then on no datagram changes anything.
+//! If the association is open (in any state but Closed), it closes: all timers stop, no packet waits any more, each
+//! live stream ends with its last counters ([`Event::DataChannelStatsFinal`]), and [`Event::AssociationLost`] is told.
+//! Only a failed handshake that was not told yet comes after that event. From then on no datagram changes anything.
 //!
 //! # What is left to the driver
 //!
