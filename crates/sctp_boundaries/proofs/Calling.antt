@@ -1,5 +1,5 @@
 -- What a call of one side brings, reads and gives out, and that it leads the courses of a stream on.
-use Rattle.std.proofs.Common.{◌≡◌, ℕ, ◌<◌, ◌^◌, ◌==◌, if◌then◌else◌, List, ◌++◌, Option, None}
+use Rattle.std.proofs.Common.{◌≡◌, ℕ, ◌<◌, ◌^◌, ◌==◌, if◌then◌else◌, Bool, true, false, List, ◌++◌, Option, None}
 use Rattle.std.specs.Bool.{⊤}
 use Rattle.sctp_receive_queues.specs.Messages.{ReceivedMessage}
 use Rattle.sctp_courses.specs.Course.{Course}
@@ -20,6 +20,11 @@ message_given (calls.Read k) (replies.Read message) id = if k == id then message
 message_given (calls.ReadSctp k) (replies.Read message) id = if k == id then message else None
 message_given call reply id = None
 
+-- a call asks for packets to send
+abbrev pub is_poll : Call → Bool
+is_poll (calls.PollTransmit now) = true
+is_poll call = false
+
 -- A datagram that a call brings was given out by the other side; a stream that it stops is named by an identifier.
 abbrev pub IsBrought : ℕ → ℕ → ℕ → Course → Course → Call → Type 0
 IsBrought own peer id out coming (calls.HandleDatagram bytes remote now) = IsSaid peer own id coming out bytes
@@ -32,7 +37,7 @@ pub record CallLeads (own peer id : ℕ) (call : Call) (r : Reply) (x y : Shown)
     (out coming : Course) : Type 0 where
   pub given : List (List ℕ)
   pub extends : more ≡ packets ++ given
-  pub leads : SideLeads own peer id x (message_given call r id) y given out coming
+  pub leads : SideLeads own peer id (is_poll call) x (message_given call r id) y given out coming
 
 -- Each call of a present side does.
 abbrev pub CallsLead : Type 0

@@ -27,7 +27,7 @@ use Rattle.sctp_course_sides.proofs.SenderCalls.{timeouts_sends, written_sends}
 use Rattle.sctp_course_sides.proofs.SentOn.{sends_nothing}
 use Rattle.sctp_course_sides.proofs.TruthInCalls.{BringsNoPacket, call_answers}
 use Rattle.sctp_boundaries.specs.Between.{StandsAt}
-use Rattle.sctp_boundaries.proofs.Led.{SideLeads}
+use Rattle.sctp_boundaries.proofs.Led.{SideLeads, grows_none}
 use Rattle.sctp_boundaries.proofs.Staying.{answers_still}
 
 -- no packet comes and none is asked for by a call, and a stream that it stops is named by an identifier
@@ -67,11 +67,12 @@ call_sends initial id (Call.CloseStream k) a h c quiet accepted lost s =
 -- A call that is refused, or fails for want of memory
 module _ (own peer id : ℕ) (x y : Shown) (out coming : Course) (s : StandsAt own peer id x out coming) where
   -- nothing changed
-  pub same_leads : y ≡ x → SideLeads own peer id x None y [] out coming
-  same_leads e = record {
+  pub same_leads : (polls : Bool) → y ≡ x → SideLeads own peer id polls x None y [] out coming
+  same_leads polls e = record {
     out_after = out;
     coming_after = coming;
     sends = sends_nothing out;
+    seen = grows_none polls x y out out refl refl;
     goes = goes_nowhere coming;
     grows = refl;
     stands = λ few less present. subst (λ (z : Shown). StandsAt own peer id z out coming) (sym e) s;
@@ -79,11 +80,12 @@ module _ (own peer id : ℕ) (x y : Shown) (out coming : Course) (s : StandsAt o
   }
 
   -- it failed
-  pub failed_leads : y.failed ≡ true → SideLeads own peer id x None y [] out coming
-  failed_leads e = record {
+  pub failed_leads : (polls : Bool) → y.failed ≡ true → SideLeads own peer id polls x None y [] out coming
+  failed_leads polls e = record {
     out_after = out;
     coming_after = coming;
     sends = sends_nothing out;
+    seen = grows_none polls x y out out refl refl;
     goes = goes_nowhere coming;
     grows = refl;
     stands = λ few less present. absurd (true≢false (sym e ∙ present.working));
@@ -102,11 +104,12 @@ module _ (own peer id : ℕ) (call : Call) (x : Shown) (out coming : Course) (pl
         → Grows peer id message x coming.told after.told
         → (left.lost ≡ false → Binds left s.sent)
         → (left.lost ≡ false → (h : History) × Follows peer id left h after)
-        → SideLeads own peer id x message left [] out coming
+        → SideLeads own peer id false x message left [] out coming
     led_by message after goes grows binds follows = record {
       out_after = out;
       coming_after = after;
       sends = sends_nothing out;
+      seen = grows_none false x left out out refl refl;
       goes = goes;
       grows = grows;
       stands = λ few less present. (let f = follows present.not_lost in record {
@@ -124,10 +127,10 @@ module _ (own peer id : ℕ) (call : Call) (x : Shown) (out coming : Course) (pl
     }
 
     -- where nothing is read
-    pub quiet_leads : BringsAndReadsNothing call → SideLeads own peer id x None left [] out coming
+    pub quiet_leads : BringsAndReadsNothing call → SideLeads own peer id false x None left [] out coming
     quiet_leads quiet = by left.lost refl
       where
-        by : (lost : Bool) → left.lost ≡ lost → SideLeads own peer id x None left [] out coming
+        by : (lost : Bool) → left.lost ≡ lost → SideLeads own peer id false x None left [] out coming
         by true e =
             led_by None coming (goes_nowhere coming) refl (λ f. absurd (true≢false (sym e ∙ f)))
             (λ f. absurd (true≢false (sym e ∙ f)))

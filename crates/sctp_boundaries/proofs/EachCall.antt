@@ -36,7 +36,7 @@ use Rattle.sctp_course_sides.proofs.ReceiverCalls.{BringsAndReadsNothing}
 use Rattle.sctp_course_sides.proofs.ReceiverReads.{read_follows, read_keeps, silent_read_follows}
 use Rattle.sctp_course_sides.proofs.TruthInCalls.{BringsNoPacket}
 use Rattle.sctp_boundaries.specs.Between.{IsSaid, StandsAt}
-use Rattle.sctp_boundaries.proofs.Calling.{CallLeads, CallsLead, IsBrought, message_given}
+use Rattle.sctp_boundaries.proofs.Calling.{CallLeads, CallsLead, IsBrought, is_poll, message_given}
 use Rattle.sctp_boundaries.proofs.CallsLead.{IsOfApplication, failed_leads, led_by, quiet_leads, same_leads}
 use Rattle.sctp_boundaries.proofs.Led.{SideLeads}
 
@@ -44,14 +44,14 @@ use Rattle.sctp_boundaries.proofs.Led.{SideLeads}
 abbrev pub PacketsLead : Type 0
 PacketsLead = (own peer id : ℕ) (x : Shown) (packet : Option Packet) (now : ℕ) (out coming : Course) → Invariant out
     → Invariant coming → IsPresent x → StandsAt own peer id x out coming → PacketComes peer id coming packet
-    → BringsHonest own out packet → SideLeads own peer id x None (after_packet x packet now) [] out coming
+    → BringsHonest own out packet → SideLeads own peer id false x None (after_packet x packet now) [] out coming
 
 -- So does a poll for packets, and what it gives out is said then.
 abbrev pub PollsLead : Type 0
 PollsLead = (own peer id : ℕ) (x : Shown) (now : ℕ) (out coming : Course) → Invariant out → Invariant coming
     → IsPresent x → StandsAt own peer id x out coming
     → PollsOn (acts_of_poll x now) (forwards_of_poll x now) x (polled x now).0 (polled x now).1
-    → SideLeads own peer id x None (polled x now).0 (polled x now).1 out coming
+    → SideLeads own peer id true x None (polled x now).0 (polled x now).1 out coming
 
 -- Reads
 
@@ -76,7 +76,7 @@ module _ (own peer id : ℕ) (x : Shown) (out coming : Course) (s : StandsAt own
 
   -- nothing of this stream is read
   silent_leads : (k : ℕ) → read_refusal x k ≡ None → (k ≡ id → ⊥) ⊎ ((read_from_stream x k).1 ≡ None)
-      → SideLeads own peer id x None (read_from_stream x k).0 [] out coming
+      → SideLeads own peer id false x None (read_from_stream x k).0 [] out coming
   silent_leads k accepted none =
       let on = silent_read_follows peer id x k s.came coming none s.follows in
       led_by own peer id (side.Call.Read k) x out coming tt tt accepted s None on.0 on.1 on.2 (past_of_read k) on.3
@@ -84,7 +84,7 @@ module _ (own peer id : ℕ) (x : Shown) (out coming : Course) (s : StandsAt own
   -- a message is
   reading_leads : (message : ReceivedMessage) → read_refusal x id ≡ None
       → (read_from_stream x id).1 ≡ Some message
-      → SideLeads own peer id x (Some message) (read_from_stream x id).0 [] out coming
+      → SideLeads own peer id false x (Some message) (read_from_stream x id).0 [] out coming
   reading_leads message accepted e =
       let live = live_of x.failed (stream_at x.streams id) accepted in
       let on = read_follows peer id x s.came coming message accepted e s.follows in
@@ -99,16 +99,17 @@ module _ (own peer id : ℕ) (x : Shown) (out coming : Course) (s : StandsAt own
       (past_of_read id) on.7
 
   own_read_leads : (m : Option ReceivedMessage) → (read_from_stream x id).1 ≡ m → read_refusal x id ≡ None
-      → SideLeads own peer id x m (read_from_stream x id).0 [] out coming
+      → SideLeads own peer id false x m (read_from_stream x id).0 [] out coming
   own_read_leads None e accepted = silent_leads id accepted (inr e)
   own_read_leads (Some message) e accepted = reading_leads message accepted e
 
   read_leads : (same : Bool) (k : ℕ) → eqb k id ≡ same → read_refusal x k ≡ None
-      → SideLeads own peer id x (if same then (read_from_stream x k).1 else None) (read_from_stream x k).0 [] out coming
+      → SideLeads own peer id false x (if same then (read_from_stream x k).1 else None) (read_from_stream x k).0 [] out
+      coming
   read_leads true k e accepted =
       subst
       (λ (i : ℕ). read_refusal x i ≡ None
-      → SideLeads own peer id x (read_from_stream x i).1 (read_from_stream x i).0 [] out coming)
+      → SideLeads own peer id false x (read_from_stream x i).1 (read_from_stream x i).0 [] out coming)
       (sym (eqb-true k id e)) (λ own_one. own_read_leads (read_from_stream x id).1 refl own_one) accepted
   read_leads false k e accepted = silent_leads k accepted (inl (eqb-false k id e))
 
@@ -121,52 +122,53 @@ module _ (packets_lead : PacketsLead) (polls_lead : PollsLead) (own peer id : �
 
     -- nothing was given out
     silent : (call : Call) (r : Reply) → more ≡ packets
-        → SideLeads own peer id x (message_given call r id) y [] out coming → Leads call r
+        → SideLeads own peer id (is_poll call) x (message_given call r id) y [] out coming → Leads call r
     silent call r e l = record { given = []; extends = e ∙ sym (append-nil packets); leads = l }
 
     -- a call of which nothing is read, if it is carried out
     called_leads : (c : side.Call) (z : Shown) (told : List Event) → IsOfApplication c → BringsNoPacket c
-        → BringsAndReadsNothing c → Calls c told x z → SideLeads own peer id x None z [] out coming
+        → BringsAndReadsNothing c → Calls c told x z → SideLeads own peer id false x None z [] out coming
     called_leads c z told plain apart quiet (inl carried) =
-        subst (λ (v : Shown × List Event). SideLeads own peer id x None v.0 [] out coming) carried.there
+        subst (λ (v : Shown × List Event). SideLeads own peer id false x None v.0 [] out coming) carried.there
         (quiet_leads own peer id c x out coming plain apart carried.accepted s quiet)
-    called_leads c z told plain apart quiet (inr (inl same)) = same_leads own peer id x z out coming s same.same
+    called_leads c z told plain apart quiet (inr (inl same)) = same_leads own peer id x z out coming s false same.same
     called_leads c z told plain apart quiet (inr (inr fails)) =
-        failed_leads own peer id x z out coming s fails.failed.marked
+        failed_leads own peer id x z out coming s false fails.failed.marked
 
     one_leads : (c : side.Call) → IsOfApplication c → BringsNoPacket c → BringsAndReadsNothing c
-        → (told : List Event) → side.IsRun (c ∷ []) told x y → SideLeads own peer id x None y [] out coming
+        → (told : List Event) → side.IsRun (c ∷ []) told x y → SideLeads own peer id false x None y [] out coming
     one_leads c plain apart quiet told run =
-        subst (λ (z : Shown). SideLeads own peer id x None z [] out coming) (sym run.others.same)
+        subst (λ (z : Shown). SideLeads own peer id false x None z [] out coming) (sym run.others.same)
         (called_leads c run.middle run.first plain apart quiet run.called)
 
     -- a question
-    none_leads : (told : List Event) → side.IsRun [] told x y → SideLeads own peer id x None y [] out coming
-    none_leads told run = same_leads own peer id x y out coming s run.same
+    none_leads : (told : List Event) → side.IsRun [] told x y → SideLeads own peer id false x None y [] out coming
+    none_leads told run = same_leads own peer id x y out coming s false run.same
 
     -- a read
     reads_lead : (k : ℕ) (r : Reply) → Reads x k r y → (m : Option ReceivedMessage)
         → ((message : Option ReceivedMessage) → r ≡ replies.Read message
         → m ≡ (if eqb k id then message else None))
         → (((n : ℕ) → r ≡ replies.Refused n → m ≡ None))
-        → SideLeads own peer id x m y [] out coming
+        → SideLeads own peer id false x m y [] out coming
     reads_lead k (replies.Read message) h m read none =
         let l = read_leads own peer id x out coming s (eqb k id) k refl (own_unrefused _ _ h.0) in
-        subst (λ (z : Option ReceivedMessage). SideLeads own peer id x z y [] out coming) (sym (read message refl))
+        subst (λ (z : Option ReceivedMessage). SideLeads own peer id false x z y [] out coming)
+        (sym (read message refl))
         (subst
         (λ (v : Shown × Option ReceivedMessage).
-        SideLeads own peer id x (if eqb k id then v.1 else None) v.0 [] out coming)
+        SideLeads own peer id false x (if eqb k id then v.1 else None) v.0 [] out coming)
         h.1 l)
     reads_lead k (replies.Refused n) (inl h) m read none =
-        subst (λ (z : Option ReceivedMessage). SideLeads own peer id x z y [] out coming) (sym (none n refl))
-        (same_leads own peer id x y out coming s h.1)
+        subst (λ (z : Option ReceivedMessage). SideLeads own peer id false x z y [] out coming) (sym (none n refl))
+        (same_leads own peer id x y out coming s false h.1)
     reads_lead k (replies.Refused n) (inr h) m read none =
-        subst (λ (z : Option ReceivedMessage). SideLeads own peer id x z y [] out coming) (sym (none n refl))
-        (failed_leads own peer id x y out coming s h.1.2.marked)
+        subst (λ (z : Option ReceivedMessage). SideLeads own peer id false x z y [] out coming) (sym (none n refl))
+        (failed_leads own peer id x y out coming s false h.1.2.marked)
     reads_lead k r h m read none = absurd h
 
     read_given : (k : ℕ) (r : Reply) → Reads x k r y
-        → SideLeads own peer id x (message_given (calls.Read k) r id) y [] out coming
+        → SideLeads own peer id false x (message_given (calls.Read k) r id) y [] out coming
     read_given k (replies.Read message) h =
         reads_lead k (replies.Read message) h (if eqb k id then message else None)
         (λ (n : Option ReceivedMessage) (e : replies.Read message ≡ replies.Read n).
@@ -177,7 +179,7 @@ module _ (packets_lead : PacketsLead) (polls_lead : PollsLead) (own peer id : �
     read_given k r h = absurd h
 
     sctp_read_given : (k : ℕ) (r : Reply) → Reads x k r y
-        → SideLeads own peer id x (message_given (calls.ReadSctp k) r id) y [] out coming
+        → SideLeads own peer id false x (message_given (calls.ReadSctp k) r id) y [] out coming
     sctp_read_given k (replies.Read message) h = read_given k (replies.Read message) h
     sctp_read_given k (replies.Refused n) h = read_given k (replies.Refused n) h
     sctp_read_given k r h = absurd h
@@ -185,34 +187,36 @@ module _ (packets_lead : PacketsLead) (polls_lead : PollsLead) (own peer id : �
     -- a datagram
     takes_lead : (packet : Option Packet) (now : ℕ) (r : Reply) → TakesPacket x packet now r y
         → PacketComes peer id coming packet → BringsHonest own out packet
-        → SideLeads own peer id x None y [] out coming
+        → SideLeads own peer id false x None y [] out coming
     takes_lead packet now replies.Done h comes honest =
-        subst (λ (z : Shown). SideLeads own peer id x None z [] out coming) (sym h.1)
+        subst (λ (z : Shown). SideLeads own peer id false x None z [] out coming) (sym h.1)
         (packets_lead own peer id x packet now out coming out_kept coming_kept present s comes honest)
-    takes_lead packet now (replies.Refused n) (inl had) comes honest = same_leads own peer id x y out coming s had.2
+    takes_lead packet now (replies.Refused n) (inl had) comes honest =
+        same_leads own peer id x y out coming s false had.2
     takes_lead packet now (replies.Refused n) (inr (inl h)) comes honest =
-        failed_leads own peer id x y out coming s h.1.2.marked
+        failed_leads own peer id x y out coming s false h.1.2.marked
     takes_lead packet now (replies.Refused n) (inr (inr lacks)) comes honest =
-        same_leads own peer id x y out coming s lacks.2
+        same_leads own peer id x y out coming s false lacks.2
     takes_lead packet now r h comes honest = absurd h
 
     -- a poll for packets
     poll_leads : (now : ℕ) → (polled x now).0 ≡ y
         → PollsOn (acts_of_poll x now) (forwards_of_poll x now) x y (polled x now).1
-        → SideLeads own peer id x None y (polled x now).1 out coming
+        → SideLeads own peer id true x None y (polled x now).1 out coming
     poll_leads now e on =
         subst
         (λ (z : Shown). PollsOn (acts_of_poll x now) (forwards_of_poll x now) x z (polled x now).1
-        → SideLeads own peer id x None z (polled x now).1 out coming)
+        → SideLeads own peer id true x None z (polled x now).1 out coming)
         e (polls_lead own peer id x now out coming out_kept coming_kept present s) on
 
     -- of what it gave out a front
-    front_leads : (kept : ℕ) (given : List (List ℕ)) → SideLeads own peer id x None y given out coming
-        → SideLeads own peer id x None y (take kept given) out coming
+    front_leads : (kept : ℕ) (given : List (List ℕ)) → SideLeads own peer id true x None y given out coming
+        → SideLeads own peer id true x None y (take kept given) out coming
     front_leads kept given l = record {
       out_after = l.out_after;
       coming_after = l.coming_after;
       sends = l.sends;
+      seen = l.seen;
       goes = l.goes;
       grows = l.grows;
       stands = l.stands;
@@ -225,7 +229,7 @@ module _ (packets_lead : PacketsLead) (polls_lead : PollsLead) (own peer id : �
     gives_lead : (now : ℕ) (r : Reply) → GivesOut x packets now r y more → Leads (calls.PollTransmit now) r
     gives_lead now replies.NothingSent h =
         silent (calls.PollTransmit now) replies.NothingSent h.3
-        (subst (λ (g : List (List ℕ)). SideLeads own peer id x None y g out coming)
+        (subst (λ (g : List (List ℕ)). SideLeads own peer id true x None y g out coming)
         (ap (λ (v : Shown × List (List ℕ)). v.1) h.1)
         (poll_leads now (ap (λ (v : Shown × List (List ℕ)). v.0) h.1)
         (subst (λ (g : List (List ℕ)). PollsOn (acts_of_poll x now) (forwards_of_poll x now) x y g)
@@ -236,7 +240,7 @@ module _ (packets_lead : PacketsLead) (polls_lead : PollsLead) (own peer id : �
         absurd (true≢false (sym had.0.0 ∙ present.working))
     gives_lead now (replies.Refused n) (inr (inl h)) =
         silent (calls.PollTransmit now) (replies.Refused n) h.2
-        (failed_leads own peer id x y out coming s h.1.2.marked)
+        (failed_leads own peer id x y out coming s true h.1.2.marked)
     gives_lead now (replies.Refused n) (inr (inr loses)) = record {
       given = take loses.4.0 (polled x now).1;
       extends = loses.4.2;

@@ -40,8 +40,8 @@ use Rattle.sctp_course_sides.proofs.OverSides.{nothing_comes, nothing_is_honest,
 use Rattle.sctp_course_sides.proofs.OverSides.{over_stays}
 use Rattle.sctp_course_sides.proofs.SentOn.{sends_nothing}
 use Rattle.sctp_boundaries.specs.Between.{IsOpen, IsOpenOrGone, IsSaid}
-use Rattle.sctp_boundaries.proofs.Calling.{CallLeads, message_given}
-use Rattle.sctp_boundaries.proofs.Led.{SideLeads}
+use Rattle.sctp_boundaries.proofs.Calling.{CallLeads, is_poll, message_given}
+use Rattle.sctp_boundaries.proofs.Led.{SideLeads, grows_none}
 
 abbrev pub IsGone : Shown → Type 0
 IsGone x = (x.failed ≡ true) ⊎ IsOver x
@@ -119,12 +119,13 @@ module _ (own peer id : ℕ) (x y : Shown) (packets more : List (List ℕ)) (out
     abbrev Said : List ℕ → Type 0
     Said bytes = IsSaid own peer id out coming bytes
 
-    stays : (message : Option ReceivedMessage) (given : List (List ℕ)) → message ≡ None → AllByRecursion Said given
-        → SideLeads own peer id x message y given out coming
-    stays message given none said = record {
+    stays : (polls : Bool) (message : Option ReceivedMessage) (given : List (List ℕ)) → message ≡ None
+        → AllByRecursion Said given → SideLeads own peer id polls x message y given out coming
+    stays polls message given none said = record {
       out_after = out;
       coming_after = coming;
       sends = sends_nothing out;
+      seen = grows_none polls x y out out refl refl;
       goes = goes_nowhere coming;
       grows = subst (λ (m : Option ReceivedMessage). Grows peer id m x coming.told coming.told) (sym none) refl;
       stands = λ few less present. absurd (gone_absent y gone_still present);
@@ -177,7 +178,7 @@ module _ (own peer id : ℕ) (x y : Shown) (packets more : List (List ℕ)) (out
     silent call r e none = record {
       given = [];
       extends = e ∙ sym (append-nil packets);
-      leads = stays (message_given call r id) [] none tt;
+      leads = stays (is_poll call) (message_given call r id) [] none tt;
     }
 
     polls_lead : (now : ℕ) (r : Reply) → GivesOut x packets now r y more → Leads (calls.PollTransmit now) r
@@ -185,7 +186,7 @@ module _ (own peer id : ℕ) (x y : Shown) (packets more : List (List ℕ)) (out
     polls_lead now (replies.Sent first count) h = record {
       given = (polled x now).1;
       extends = h.6;
-      leads = stays None (polled x now).1 refl (poll_says now gone h.0 h.5);
+      leads = stays true None (polled x now).1 refl (poll_says now gone h.0 h.5);
     }
     polls_lead now (replies.Refused n) (inl had) = silent (calls.PollTransmit now) (replies.Refused n) had.1 refl
     polls_lead now (replies.Refused n) (inr (inl h)) = silent (calls.PollTransmit now) (replies.Refused n) h.2 refl
@@ -196,7 +197,7 @@ module _ (own peer id : ℕ) (x y : Shown) (packets more : List (List ℕ)) (out
           given = take kept all;
           extends = loses.4.2;
           leads =
-              stays None (take kept all) refl
+              stays true None (take kept all) refl
               (all_front Said (take kept all) (drop kept all)
               (subst (AllByRecursion Said) (sym (take-append-drop kept all)) (poll_says now gone loses.0 loses.3)));
         }

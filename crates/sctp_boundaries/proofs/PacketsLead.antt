@@ -1,4 +1,5 @@
 -- A packet that the other side gave out leads the courses of a stream on.
+use Rattle.std.proofs.Common.{refl, false}
 use Rattle.sctp_assoc.specs.Chunks.{after_packet}
 use Rattle.sctp_assoc.specs.Shown.{Shown}
 use Rattle.sctp_assoc.proofs.CallsLeadOn.{packet_leads}
@@ -8,6 +9,7 @@ use Rattle.sctp_course_sides.proofs.SenderPackets.{packet_keeps_sending}
 use Rattle.sctp_course_sides.proofs.SentOn.{sends_nothing}
 use Rattle.sctp_course_sides.proofs.TruthInPackets.{packet_answers}
 use Rattle.sctp_boundaries.proofs.EachCall.{PacketsLead}
+use Rattle.sctp_boundaries.proofs.Led.{grows_none}
 
 -- Its own course stays as it is.
 pub packets_lead : PacketsLead
@@ -19,6 +21,7 @@ packets_lead own peer id x packet now out coming kept kept_coming present s come
       out_after = out;
       coming_after = l.after;
       sends = sends_nothing out;
+      seen = grows_none false x y out out refl refl;
       goes = l.goes;
       grows = l.told;
       stands = λ few less there.

@@ -1,5 +1,6 @@
 -- A poll for packets of a present side leads both courses of a stream on, and what it gives out is said then.
-use Rattle.std.proofs.Common.{◌≡◌, refl, sym, ◌∙◌, ℕ, Bool, true, false, List, None}
+use Rattle.std.proofs.Common.{◌≡◌, refl, sym, ◌∙◌, ℕ, ◌+◌, ◌-◌, ◌≤◌, arith, Bool, true, false, List, length}
+use Rattle.std.proofs.Common.{None}
 use Rattle.std.proofs.lemmas.Bool.{true≢false}
 use Rattle.sctp_model.proofs.Lists.{all_both, all_weaker}
 use Rattle.sctp_reset_requests.specs.Laws.{DataHoldsBack, NamesAreThoseListed}
@@ -35,6 +36,10 @@ record Receives (peer id : ℕ) (b : Shown) (sent : History) (c : Course) : Type
   binds : b.lost ≡ false → Binds b sent
   follows : b.lost ≡ false → (h : History) × Follows peer id b h after
 
+-- What is assigned was assigned before the first piece in flight, or is in flight.
+assigned_at_most : (base before after n m : ℕ) → n ≡ base + before → m ≡ base + after → m ≤ n + (after - before)
+assigned_at_most base before after n m e f = omega arith
+
 module _ (held : DataHoldsBack) (those_listed : NamesAreThoseListed) where
   pub polls_lead : PollsLead
   polls_lead own peer id x now out coming out_kept coming_kept present s on =
@@ -47,6 +52,12 @@ module _ (held : DataHoldsBack) (those_listed : NamesAreThoseListed) where
         out_after = p.after;
         coming_after = r.after;
         sends = p.on;
+        seen = record {
+          assigns =
+              assigned_at_most s.sent.base (length x.sender.queue.in_flight) (length b.sender.queue.in_flight)
+              out.assigned p.after.assigned s.sends.assigned p.assigned;
+          asks = p.asks;
+        };
         goes = r.goes;
         grows = r.told;
         stands = λ few less there. (let f = r.follows there.not_lost in record {

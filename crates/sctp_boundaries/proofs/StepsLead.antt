@@ -1,6 +1,6 @@
 -- Each step of a pair is a call of one side, and so keeps the boundaries of a stream where each call of a side does.
 use Rattle.std.proofs.Common.{◌≡◌, refl, sym, ap, ◌∙◌, subst, ℕ, List, []}
-use Rattle.std.proofs.Common.{Option, Some, None, ◌⊎◌, ⊎_elim, inl, inr}
+use Rattle.std.proofs.Common.{Bool, Option, Some, None, ◌⊎◌, ⊎_elim, inl, inr}
 use Rattle.std.specs.Prelude.{slice_get}
 use Rattle.std.specs.declared.net.socket_addr.SocketAddr.{SocketAddr}
 use Rattle.std.proofs.lemmas.List.{append-nil}
@@ -25,10 +25,10 @@ use Rattle.sctp_pair.specs.Ends.{Ends}
 use Rattle.sctp_pair.specs.Steps.{AtSide, ComesTo, Delivers, SendsAt, Steps}
 use Rattle.sctp_pair.specs.World.{message_read, other_side}
 use Rattle.sctp_boundaries.specs.Between.{Courses, IsOpenOrGone, IsSaid, StandBetween, StandsAt}
-use Rattle.sctp_boundaries.specs.Laws.{LeadsBoth, NamesIdentifiers, StepsKeepBoundaries}
-use Rattle.sctp_boundaries.proofs.Calling.{CallLeads, CallsLead, IsBrought, message_given}
+use Rattle.sctp_boundaries.specs.Laws.{LeadsBoth, NamesIdentifiers, StepsKeepBoundaries, polls_side}
+use Rattle.sctp_boundaries.proofs.Calling.{CallLeads, CallsLead, IsBrought, is_poll, message_given}
 use Rattle.sctp_boundaries.proofs.Gone.{gone_leads, reply_gone, reply_on}
-use Rattle.sctp_boundaries.proofs.Led.{FollowsBesideSending, SideLeads, a_leads, b_leads}
+use Rattle.sctp_boundaries.proofs.Led.{FollowsBesideSending, SideLeads, a_leads, b_leads, grows_none}
 
 -- each call of a side leads the courses on, where those of a present one do
 call_leads_on : CallsLead → (own peer id : ℕ) (call : Call) (r : Reply) (x y : Shown) (packets more : List (List ℕ))
@@ -42,34 +42,37 @@ call_leads_on calls_lead own peer id call r x y packets more out coming kept kep
     gone_leads own peer id x y packets more out coming gone (reply_gone call r x y packets more h gone) call r h
 
 -- a side that stays as it is, and nothing is given out
-pub rests : (own peer id : ℕ) (x : Shown) (out coming : Course)
-    → (IsPresent x → StandsAt own peer id x out coming) → SideLeads own peer id x None x [] out coming
-rests own peer id x out coming at = record {
+pub rests : (own peer id : ℕ) (polls : Bool) (x : Shown) (out coming : Course)
+    → (IsPresent x → StandsAt own peer id x out coming) → SideLeads own peer id polls x None x [] out coming
+rests own peer id polls x out coming at = record {
   out_after = out;
   coming_after = coming;
   sends = sends_nothing out;
+  seen = grows_none polls x x out out refl refl;
   goes = goes_nowhere coming;
   grows = refl;
   stands = λ few less present. at present;
   said = tt;
 }
 
--- a step reads what its call reads
+-- a step reads what its call reads, and asks for packets where that does
 message_is_read : (id : ℕ) (side : Side2) (k : ℕ) (r : Reply)
     → (message_read (steps.Read side k) r side id ≡ message_given (calls.Read k) r id)
     × (message_read (steps.Read side k) r (other_side side) id ≡ None)
-message_is_read id sides.A k (replies.Read message) = (refl, refl)
-message_is_read id sides.B k (replies.Read message) = (refl, refl)
-message_is_read id sides.A k r = (refl, refl)
-message_is_read id sides.B k r = (refl, refl)
+    × (polls_side side (steps.Read side k) ≡ is_poll (calls.Read k))
+message_is_read id sides.A k (replies.Read message) = (refl, refl, refl)
+message_is_read id sides.B k (replies.Read message) = (refl, refl, refl)
+message_is_read id sides.A k r = (refl, refl, refl)
+message_is_read id sides.B k r = (refl, refl, refl)
 
 sctp_message_is_read : (id : ℕ) (side : Side2) (k : ℕ) (r : Reply)
     → (message_read (steps.ReadSctp side k) r side id ≡ message_given (calls.ReadSctp k) r id)
     × (message_read (steps.ReadSctp side k) r (other_side side) id ≡ None)
-sctp_message_is_read id sides.A k (replies.Read message) = (refl, refl)
-sctp_message_is_read id sides.B k (replies.Read message) = (refl, refl)
-sctp_message_is_read id sides.A k r = (refl, refl)
-sctp_message_is_read id sides.B k r = (refl, refl)
+    × (polls_side side (steps.ReadSctp side k) ≡ is_poll (calls.ReadSctp k))
+sctp_message_is_read id sides.A k (replies.Read message) = (refl, refl, refl)
+sctp_message_is_read id sides.B k (replies.Read message) = (refl, refl, refl)
+sctp_message_is_read id sides.A k r = (refl, refl, refl)
+sctp_message_is_read id sides.B k r = (refl, refl, refl)
 
 module _ (sent_beside : FollowsBesideSending) (calls_lead : CallsLead) (own_a own_b id : ℕ) (r : Reply)
     (p q : Ends) (w : Courses) (s : StandBetween own_a own_b id p w)
@@ -78,6 +81,7 @@ module _ (sent_beside : FollowsBesideSending) (calls_lead : CallsLead) (own_a ow
     abbrev ReadsAs : Step → Side2 → Call → Type 0
     ReadsAs step side call =
         (message_read step r side id ≡ message_given call r id) × (message_read step r (other_side side) id ≡ None)
+        × (polls_side side step ≡ is_poll call)
 
     acts_at_a : (step : Step) (call : Call) → IsBrought own_a own_b id w.ab w.ba call
         → ReadsAs step sides.A call → Replies call p.a p.packets_a r q.a q.packets_a → q.b ≡ p.b
@@ -86,8 +90,12 @@ module _ (sent_beside : FollowsBesideSending) (calls_lead : CallsLead) (own_a ow
         let l = call_leads_on calls_lead own_a own_b id call r p.a q.a p.packets_a q.packets_a w.ab w.ba s.kept_ab
         s.kept_ba s.side_a s.at_a brought h in
         a_leads sent_beside own_a own_b id step p r q w l.given s
-        (subst (λ (m : Option ReceivedMessage). SideLeads own_a own_b id p.a m q.a l.given w.ab w.ba) (sym reads.0)
-        l.leads)
+        (subst
+        (λ (m : Option ReceivedMessage). SideLeads own_a own_b id (polls_side sides.A step) p.a m q.a l.given w.ab w.ba)
+        (sym reads.0)
+        (subst
+        (λ (polls : Bool). SideLeads own_a own_b id polls p.a (message_given call r id) q.a l.given w.ab w.ba)
+        (sym reads.2) l.leads))
         reads.1 (reply_on call r p.a q.a p.packets_a q.packets_a h s.side_a) same l.extends silent
 
     acts_at_b : (step : Step) (call : Call) → IsBrought own_b own_a id w.ba w.ab call
@@ -97,8 +105,12 @@ module _ (sent_beside : FollowsBesideSending) (calls_lead : CallsLead) (own_a ow
         let l = call_leads_on calls_lead own_b own_a id call r p.b q.b p.packets_b q.packets_b w.ba w.ab s.kept_ba
         s.kept_ab s.side_b s.at_b brought h in
         b_leads sent_beside own_a own_b id step p r q w l.given s
-        (subst (λ (m : Option ReceivedMessage). SideLeads own_b own_a id p.b m q.b l.given w.ba w.ab) (sym reads.0)
-        l.leads)
+        (subst
+        (λ (m : Option ReceivedMessage). SideLeads own_b own_a id (polls_side sides.B step) p.b m q.b l.given w.ba w.ab)
+        (sym reads.0)
+        (subst
+        (λ (polls : Bool). SideLeads own_b own_a id polls p.b (message_given call r id) q.b l.given w.ba w.ab)
+        (sym reads.2) l.leads))
         reads.1 (reply_on call r p.b q.b p.packets_b q.packets_b h s.side_b) same l.extends silent
 
     -- a step that calls a side, and gives out nothing
@@ -122,10 +134,10 @@ module _ (sent_beside : FollowsBesideSending) (calls_lead : CallsLead) (own_a ow
     polls_at : (side : Side2) (now : ℕ) → SendsAt side p now r q
         → LeadsBoth own_a own_b id (steps.PollTransmit side now) p r q w
     polls_at sides.A now h =
-        acts_at_a (steps.PollTransmit sides.A now) (calls.PollTransmit now) tt (refl, refl) h.0
+        acts_at_a (steps.PollTransmit sides.A now) (calls.PollTransmit now) tt (refl, refl, refl) h.0
         (ap (λ (z : Ends). z.b) h.1) (ap (λ (z : Ends). z.packets_b) h.1)
     polls_at sides.B now h =
-        acts_at_b (steps.PollTransmit sides.B now) (calls.PollTransmit now) tt (refl, refl) h.0
+        acts_at_b (steps.PollTransmit sides.B now) (calls.PollTransmit now) tt (refl, refl, refl) h.0
         (ap (λ (z : Ends). z.a) h.1) (ap (λ (z : Ends). z.packets_a) h.1)
 
     -- an address, of which a delivery takes no note
@@ -135,7 +147,7 @@ module _ (sent_beside : FollowsBesideSending) (calls_lead : CallsLead) (own_a ow
           → LeadsBoth own_a own_b id (steps.Deliver sides.A number now) p r q w
       takes_a number now bytes e h same =
           acts_at_a (steps.Deliver sides.A number now) (calls.HandleDatagram bytes remote now)
-          (all_get (IsSaid own_b own_a id w.ba w.ab) p.packets_b number bytes e s.said_b) (refl, refl)
+          (all_get (IsSaid own_b own_a id w.ba w.ab) p.packets_b number bytes e s.said_b) (refl, refl, refl)
           (h, ap (λ (z : Ends). z.packets_a) same) (ap (λ (z : Ends). z.b) same) (ap (λ (z : Ends). z.packets_b) same)
 
       takes_b : (number now : ℕ) (bytes : List ℕ) → slice_get p.packets_a number ≡ Some bytes
@@ -143,7 +155,7 @@ module _ (sent_beside : FollowsBesideSending) (calls_lead : CallsLead) (own_a ow
           → LeadsBoth own_a own_b id (steps.Deliver sides.B number now) p r q w
       takes_b number now bytes e h same =
           acts_at_b (steps.Deliver sides.B number now) (calls.HandleDatagram bytes remote now)
-          (all_get (IsSaid own_a own_b id w.ab w.ba) p.packets_a number bytes e s.said_a) (refl, refl)
+          (all_get (IsSaid own_a own_b id w.ab w.ba) p.packets_a number bytes e s.said_a) (refl, refl, refl)
           (h, ap (λ (z : Ends). z.packets_b) same) (ap (λ (z : Ends). z.a) same) (ap (λ (z : Ends). z.packets_a) same)
 
     -- there is no such packet
@@ -151,9 +163,11 @@ module _ (sent_beside : FollowsBesideSending) (calls_lead : CallsLead) (own_a ow
         → message_read step r sides.B id ≡ None → LeadsBoth own_a own_b id step p r q w
     rests_a step same only none others =
         a_leads sent_beside own_a own_b id step p r q w [] s
-        (subst (λ (m : Option ReceivedMessage). SideLeads own_a own_b id p.a m q.a [] w.ab w.ba) (sym none)
-        (subst (λ (z : Shown). SideLeads own_a own_b id p.a None z [] w.ab w.ba) (sym same)
-        (rests own_a own_b id p.a w.ab w.ba s.at_a)))
+        (subst
+        (λ (m : Option ReceivedMessage). SideLeads own_a own_b id (polls_side sides.A step) p.a m q.a [] w.ab w.ba)
+        (sym none)
+        (subst (λ (z : Shown). SideLeads own_a own_b id (polls_side sides.A step) p.a None z [] w.ab w.ba) (sym same)
+        (rests own_a own_b id (polls_side sides.A step) p.a w.ab w.ba s.at_a)))
         others (subst IsOpenOrGone (sym same) s.side_a) (ap (λ (z : Ends). z.b) only)
         (ap (λ (z : Ends). z.packets_a) only ∙ sym (append-nil p.packets_a))
         (ap (λ (z : Ends). z.packets_b) only)
@@ -162,9 +176,11 @@ module _ (sent_beside : FollowsBesideSending) (calls_lead : CallsLead) (own_a ow
         → message_read step r sides.A id ≡ None → LeadsBoth own_a own_b id step p r q w
     rests_b step same only none others =
         b_leads sent_beside own_a own_b id step p r q w [] s
-        (subst (λ (m : Option ReceivedMessage). SideLeads own_b own_a id p.b m q.b [] w.ba w.ab) (sym none)
-        (subst (λ (z : Shown). SideLeads own_b own_a id p.b None z [] w.ba w.ab) (sym same)
-        (rests own_b own_a id p.b w.ba w.ab s.at_b)))
+        (subst
+        (λ (m : Option ReceivedMessage). SideLeads own_b own_a id (polls_side sides.B step) p.b m q.b [] w.ba w.ab)
+        (sym none)
+        (subst (λ (z : Shown). SideLeads own_b own_a id (polls_side sides.B step) p.b None z [] w.ba w.ab) (sym same)
+        (rests own_b own_a id (polls_side sides.B step) p.b w.ba w.ab s.at_b)))
         others (subst IsOpenOrGone (sym same) s.side_b) (ap (λ (z : Ends). z.a) only)
         (ap (λ (z : Ends). z.packets_b) only ∙ sym (append-nil p.packets_b))
         (ap (λ (z : Ends). z.packets_a) only)
@@ -195,86 +211,88 @@ module _ (sent_beside : FollowsBesideSending) (calls_lead : CallsLead) (own_a ow
 
     step_acts : (step : Step) → NamesIdentifiers step → Steps step p r q → LeadsBoth own_a own_b id step p r q w
     step_acts (steps.OpenStream side k kind) named h =
-        called side (calls.OpenStream k kind) (λ a b n c. (c, refl)) tt tt (refl, refl) h
+        called side (calls.OpenStream k kind) (λ a b n c. (c, refl)) tt tt (refl, refl, refl) h
     step_acts (steps.Stream side k) named h =
-        called side (calls.Stream k) (λ a b n c. (c, refl)) tt tt (refl, refl) h
+        called side (calls.Stream k) (λ a b n c. (c, refl)) tt tt (refl, refl, refl) h
     step_acts (steps.AcceptStream side) named h =
-        called side calls.AcceptStream (λ a b n c. (c, refl)) tt tt (refl, refl) h
+        called side calls.AcceptStream (λ a b n c. (c, refl)) tt tt (refl, refl, refl) h
     step_acts (steps.StreamIds side) named h =
-        called side calls.StreamIds (λ a b n c. (c, refl)) tt tt (refl, refl) h
+        called side calls.StreamIds (λ a b n c. (c, refl)) tt tt (refl, refl, refl) h
     step_acts (steps.SetMaxSendMessageSize side size) named h =
-        called side (calls.SetMaxSendMessageSize size) (λ a b n c. (c, refl)) tt tt (refl, refl) h
+        called side (calls.SetMaxSendMessageSize size) (λ a b n c. (c, refl)) tt tt (refl, refl, refl) h
     step_acts (steps.Write side k bytes) named h =
-        called side (calls.Write k bytes) (λ a b n c. (c, refl)) tt tt (refl, refl) h
+        called side (calls.Write k bytes) (λ a b n c. (c, refl)) tt tt (refl, refl, refl) h
     step_acts (steps.WriteWithPpi side k bytes kind) named h =
-        called side (calls.WriteWithPpi k bytes kind) (λ a b n c. (c, refl)) tt tt (refl, refl) h
+        called side (calls.WriteWithPpi k bytes kind) (λ a b n c. (c, refl)) tt tt (refl, refl, refl) h
     step_acts (steps.WriteSctp side k bytes kind) named h =
-        called side (calls.WriteSctp k bytes kind) (λ a b n c. (c, refl)) tt tt (refl, refl) h
+        called side (calls.WriteSctp k bytes kind) (λ a b n c. (c, refl)) tt tt (refl, refl, refl) h
     step_acts (steps.WriteChunk side k bytes) named h =
-        called side (calls.WriteChunk k bytes) (λ a b n c. (c, refl)) tt tt (refl, refl) h
+        called side (calls.WriteChunk k bytes) (λ a b n c. (c, refl)) tt tt (refl, refl, refl) h
     step_acts (steps.WriteChunks side k chunks) named h =
-        called side (calls.WriteChunks k chunks) (λ a b n c. (c, refl)) tt tt (refl, refl) h
+        called side (calls.WriteChunks k chunks) (λ a b n c. (c, refl)) tt tt (refl, refl, refl) h
     step_acts (steps.Read side k) named h =
         called side (calls.Read k) (λ a b n c. (c, refl)) tt tt (message_is_read id side k r) h
     step_acts (steps.ReadSctp side k) named h =
         called side (calls.ReadSctp k) (λ a b n c. (c, refl)) tt tt (sctp_message_is_read id side k r) h
     step_acts (steps.Finish side k) named h =
-        called side (calls.Finish k) (λ a b n c. (c, refl)) tt tt (refl, refl) h
-    step_acts (steps.Stop side k) named h = called side (calls.Stop k) (λ a b n c. (c, refl)) named named (refl, refl) h
+        called side (calls.Finish k) (λ a b n c. (c, refl)) tt tt (refl, refl, refl) h
+    step_acts (steps.Stop side k) named h =
+        called side (calls.Stop k) (λ a b n c. (c, refl)) named named (refl, refl, refl) h
     step_acts (steps.CloseStream side k) named h =
-        called side (calls.CloseStream k) (λ a b n c. (c, refl)) named named (refl, refl) h
+        called side (calls.CloseStream k) (λ a b n c. (c, refl)) named named (refl, refl, refl) h
     step_acts (steps.SetReliabilityParams side k unordered kind value) named h =
-        called side (calls.SetReliabilityParams k unordered kind value) (λ a b n c. (c, refl)) tt tt (refl, refl) h
+        called side (calls.SetReliabilityParams k unordered kind value) (λ a b n c. (c, refl)) tt tt (refl, refl, refl)
+        h
     step_acts (steps.SetDefaultPayloadType side k kind) named h =
-        called side (calls.SetDefaultPayloadType k kind) (λ a b n c. (c, refl)) tt tt (refl, refl) h
+        called side (calls.SetDefaultPayloadType k kind) (λ a b n c. (c, refl)) tt tt (refl, refl, refl) h
     step_acts (steps.SetBufferedAmountLowThreshold side k bytes) named h =
-        called side (calls.SetBufferedAmountLowThreshold k bytes) (λ a b n c. (c, refl)) tt tt (refl, refl) h
+        called side (calls.SetBufferedAmountLowThreshold k bytes) (λ a b n c. (c, refl)) tt tt (refl, refl, refl) h
     step_acts (steps.SetBufferedAmountHighThreshold side k bytes) named h =
-        called side (calls.SetBufferedAmountHighThreshold k bytes) (λ a b n c. (c, refl)) tt tt (refl, refl) h
+        called side (calls.SetBufferedAmountHighThreshold k bytes) (λ a b n c. (c, refl)) tt tt (refl, refl, refl) h
     step_acts (steps.StreamStats side k) named h =
-        called side (calls.StreamStats k) (λ a b n c. (c, refl)) tt tt (refl, refl) h
+        called side (calls.StreamStats k) (λ a b n c. (c, refl)) tt tt (refl, refl, refl) h
     step_acts (steps.IsReadable side k) named h =
-        called side (calls.IsReadable k) (λ a b n c. (c, refl)) tt tt (refl, refl) h
+        called side (calls.IsReadable k) (λ a b n c. (c, refl)) tt tt (refl, refl, refl) h
     step_acts (steps.IsWritable side k) named h =
-        called side (calls.IsWritable k) (λ a b n c. (c, refl)) tt tt (refl, refl) h
+        called side (calls.IsWritable k) (λ a b n c. (c, refl)) tt tt (refl, refl, refl) h
     step_acts (steps.StreamIdentifier side k) named h =
-        called side (calls.StreamIdentifier k) (λ a b n c. (c, refl)) tt tt (refl, refl) h
+        called side (calls.StreamIdentifier k) (λ a b n c. (c, refl)) tt tt (refl, refl, refl) h
     step_acts (steps.GetDefaultPayloadType side k) named h =
-        called side (calls.GetDefaultPayloadType k) (λ a b n c. (c, refl)) tt tt (refl, refl) h
+        called side (calls.GetDefaultPayloadType k) (λ a b n c. (c, refl)) tt tt (refl, refl, refl) h
     step_acts (steps.BufferedAmountLowThreshold side k) named h =
-        called side (calls.BufferedAmountLowThreshold k) (λ a b n c. (c, refl)) tt tt (refl, refl) h
+        called side (calls.BufferedAmountLowThreshold k) (λ a b n c. (c, refl)) tt tt (refl, refl, refl) h
     step_acts (steps.BufferedAmountHighThreshold side k) named h =
-        called side (calls.BufferedAmountHighThreshold k) (λ a b n c. (c, refl)) tt tt (refl, refl) h
+        called side (calls.BufferedAmountHighThreshold k) (λ a b n c. (c, refl)) tt tt (refl, refl, refl) h
     step_acts (steps.Shutdown side) named h =
-        called side calls.Shutdown (λ a b n c. (c, refl)) tt tt (refl, refl) h
-    step_acts (steps.Close side) named h = called side calls.Close (λ a b n c. (c, refl)) tt tt (refl, refl) h
+        called side calls.Shutdown (λ a b n c. (c, refl)) tt tt (refl, refl, refl) h
+    step_acts (steps.Close side) named h = called side calls.Close (λ a b n c. (c, refl)) tt tt (refl, refl, refl) h
     step_acts (steps.BufferedAmount side k) named h =
-        called side (calls.BufferedAmount k) (λ a b n c. (c, refl)) tt tt (refl, refl) h
-    step_acts (steps.Poll side) named h = called side calls.Poll (λ a b n c. (c, refl)) tt tt (refl, refl) h
+        called side (calls.BufferedAmount k) (λ a b n c. (c, refl)) tt tt (refl, refl, refl) h
+    step_acts (steps.Poll side) named h = called side calls.Poll (λ a b n c. (c, refl)) tt tt (refl, refl, refl) h
     step_acts (steps.PollEndpointEvent side) named h =
-        called side calls.PollEndpointEvent (λ a b n c. (c, refl)) tt tt (refl, refl) h
+        called side calls.PollEndpointEvent (λ a b n c. (c, refl)) tt tt (refl, refl, refl) h
     step_acts (steps.PollTimeout side) named h =
-        called side calls.PollTimeout (λ a b n c. (c, refl)) tt tt (refl, refl) h
+        called side calls.PollTimeout (λ a b n c. (c, refl)) tt tt (refl, refl, refl) h
     step_acts (steps.PollTransmit side now) named h = polls_at side now h
     step_acts (steps.HandleTimeout side now) named h =
-        called side (calls.HandleTimeout now) (λ a b n c. (c, refl)) tt tt (refl, refl) h
+        called side (calls.HandleTimeout now) (λ a b n c. (c, refl)) tt tt (refl, refl, refl) h
     step_acts (steps.Deliver side number now) named h = comes_at p.a.remote_addr side number now h
     step_acts (steps.IsHandshaking side) named h =
-        called side calls.IsHandshaking (λ a b n c. (c, refl)) tt tt (refl, refl) h
+        called side calls.IsHandshaking (λ a b n c. (c, refl)) tt tt (refl, refl, refl) h
     step_acts (steps.IsClosed side) named h =
-        called side calls.IsClosed (λ a b n c. (c, refl)) tt tt (refl, refl) h
+        called side calls.IsClosed (λ a b n c. (c, refl)) tt tt (refl, refl, refl) h
     step_acts (steps.IsClosing side) named h =
-        called side calls.IsClosing (λ a b n c. (c, refl)) tt tt (refl, refl) h
+        called side calls.IsClosing (λ a b n c. (c, refl)) tt tt (refl, refl, refl) h
     step_acts (steps.IsDrained side) named h =
-        called side calls.IsDrained (λ a b n c. (c, refl)) tt tt (refl, refl) h
+        called side calls.IsDrained (λ a b n c. (c, refl)) tt tt (refl, refl, refl) h
     step_acts (steps.IsFailed side) named h =
-        called side calls.IsFailed (λ a b n c. (c, refl)) tt tt (refl, refl) h
-    step_acts (steps.Rtt side) named h = called side calls.Rtt (λ a b n c. (c, refl)) tt tt (refl, refl) h
-    step_acts (steps.Stats side) named h = called side calls.Stats (λ a b n c. (c, refl)) tt tt (refl, refl) h
-    step_acts (steps.Side side) named h = called side calls.Side (λ a b n c. (c, refl)) tt tt (refl, refl) h
+        called side calls.IsFailed (λ a b n c. (c, refl)) tt tt (refl, refl, refl) h
+    step_acts (steps.Rtt side) named h = called side calls.Rtt (λ a b n c. (c, refl)) tt tt (refl, refl, refl) h
+    step_acts (steps.Stats side) named h = called side calls.Stats (λ a b n c. (c, refl)) tt tt (refl, refl, refl) h
+    step_acts (steps.Side side) named h = called side calls.Side (λ a b n c. (c, refl)) tt tt (refl, refl, refl) h
     step_acts (steps.RemoteAddr side) named h =
-        called side calls.RemoteAddr (λ a b n c. (c, refl)) tt tt (refl, refl) h
-    step_acts (steps.LocalIp side) named h = called side calls.LocalIp (λ a b n c. (c, refl)) tt tt (refl, refl) h
+        called side calls.RemoteAddr (λ a b n c. (c, refl)) tt tt (refl, refl, refl) h
+    step_acts (steps.LocalIp side) named h = called side calls.LocalIp (λ a b n c. (c, refl)) tt tt (refl, refl, refl) h
 
 pub steps_lead_by : FollowsBesideSending → CallsLead → StepsKeepBoundaries
 steps_lead_by sent_beside calls_lead own_a own_b id step p r q w named s h =

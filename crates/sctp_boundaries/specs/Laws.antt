@@ -1,22 +1,25 @@
 -- What is promised of a stream between two associations across its resets.
-use Rattle.std.specs.Prelude.{◌≡◌, ◌<◌, ◌^◌, ⊤, ℕ, List, [], ◌∷◌, Option}
+use Rattle.std.specs.Prelude.{◌≡◌, ◌<◌, ◌≤◌, ◌+◌, ◌-◌, ◌^◌, ⊤, ℕ, suc, Bool, false, if◌then◌else◌}
+use Rattle.std.specs.Prelude.{List, [], ◌∷◌, length, Option}
 use Rattle.std.specs.List.{AllByRecursion}
 use Rattle.std.specs.declared.net.ip_addr.IpAddr.{IpAddr}
 use Rattle.std.specs.declared.net.socket_addr.SocketAddr.{SocketAddr}
 use Rattle.sctp_wire_types.specs.declared.chunk.ChunkInit.{ChunkInit}
 use Rattle.sctp_wire_types.specs.Config.{Settings}
 use Rattle.sctp_courses.specs.Course.{Course, fresh_course}
-use Rattle.sctp_courses.specs.Events.{Event, run}
+use Rattle.sctp_courses.specs.Events.{Event, is_to_be_reset, run}
 use Rattle.sctp_courses.specs.Laws.{KeepsBoundaries}
 use Rattle.sctp_assoc.specs.Created.{joined}
 use Rattle.sctp_assoc.specs.declared.call.Reply.{Reply}
+use Rattle.sctp_assoc.specs.Shown.{Shown}
 use Rattle.sctp_course_sides.specs.Turns.{Grows}
+use Rattle.sctp_pair.specs.declared.step.Side2.{Side2}
 use Rattle.sctp_pair.specs.declared.step.Side2.TheVariants as sides
 use Rattle.sctp_pair.specs.declared.step.Step.{Step}
 use Rattle.sctp_pair.specs.declared.step.Step.TheVariants as steps
 use Rattle.sctp_pair.specs.Ends.{Ends}
 use Rattle.sctp_pair.specs.Steps.{Runs, Steps}
-use Rattle.sctp_pair.specs.World.{message_read}
+use Rattle.sctp_pair.specs.World.{EndsReset, is_side, message_read}
 use Rattle.sctp_boundaries.specs.Between.{AreFew, Courses, StandBetween}
 
 -- a stream that a step stops or closes is named by an identifier, of 16 bits (RFC 4960 section 3.3.1)
@@ -29,19 +32,41 @@ NamesIdentifiers step = ⊤
 abbrev pub GoesTo : Course → Course → Type 0
 GoesTo c d = (events : List Event) × (d ≡ run events c)
 
--- A step leads both courses on. What was read of each grows by the message that the step reads on the stream, in the
--- generation that the stream is in and on the offsets that it was sent on, or by nothing. The boundaries are kept, and
--- both sides stand between the courses while few requests and offsets were sent.
+-- the step asks this side for packets to send
+abbrev pub polls_side : Side2 → Step → Bool
+polls_side x (steps.PollTransmit side now) = is_side side x
+polls_side x step = false
+
+-- so many pieces more are in flight
+abbrev pub more_in_flight : Shown → Shown → ℕ
+more_in_flight before after = length after.sender.queue.in_flight - length before.sender.queue.in_flight
+
+-- What a course grows by can be seen of its sender, as it is before and after. Where that is asked for packets, no more
+-- offsets are assigned than it has pieces more in flight, and no more requests are sent for the first time than it had
+-- queued, and one that it makes. Else there are none.
+pub record GrowsAsSeen (polls : Bool) (before after : Shown) (c d : Course) : Type 0 where
+  pub assigns : d.assigned ≤ c.assigned + (if polls then more_in_flight before after else 0)
+  pub asks : length d.asked ≤ length c.asked + (if polls then suc (length before.resets.own.queued) else 0)
+
+-- A step leads both courses on, and each of them grows no more than can be seen of its sender. What was read of each
+-- grows by the message that the step reads on the stream, in the generation that the stream is in and on offsets of
+-- pieces that would make it, or by nothing. The boundaries are kept, and both sides stand between the courses while few
+-- requests and offsets were sent. Where a request of a side that names the stream ends then, and not in failure, the
+-- other side performed each request that names it.
 pub record LeadsBoth (own_a own_b id : ℕ) (step : Step) (p : Ends) (reply : Reply) (q : Ends) (w : Courses)
     : Type 0 where
   pub after : Courses
   pub ab_goes : GoesTo w.ab after.ab
   pub ba_goes : GoesTo w.ba after.ba
+  pub ab_grows : GrowsAsSeen (polls_side sides.A step) p.a q.a w.ab after.ab
+  pub ba_grows : GrowsAsSeen (polls_side sides.B step) p.b q.b w.ba after.ba
   pub ab_read : Grows own_a id (message_read step reply sides.B id) p.b w.ab.told after.ab.told
   pub ba_read : Grows own_b id (message_read step reply sides.A id) p.a w.ba.told after.ba.told
   pub ab_keeps : KeepsBoundaries after.ab
   pub ba_keeps : KeepsBoundaries after.ba
   pub stand : AreFew after → StandBetween own_a own_b id q after
+  pub ab_performed : AreFew after → EndsReset p.a q.a id → is_to_be_reset after.ab ≡ false
+  pub ba_performed : AreFew after → EndsReset p.b q.b id → is_to_be_reset after.ba ≡ false
 
 -- Each step does, whatever it is and whether its side is open, lost or failed.
 abbrev pub StepsKeepBoundaries : Type 0
