@@ -32,7 +32,7 @@ pub record IsHeldBack (id : ℕ) (a : Shown) : Type 0 where
   pub quiet : has_stream a.sender.queue id ≡ false
   pub barred : (is_being_reset a id ≡ true) ⊎ (has_id id a.resets.debts.failed ≡ true)
 
--- identifiers of streams have 16 bits (RFC 9260 section 3.3.1)
+-- identifiers of streams have 16 bits (RFC 4960 section 3.3.1)
 abbrev pub AreIdentifiers : List ℕ → Type 0
 AreIdentifiers ids = AllByRecursion IsU16 ids
 

@@ -42,7 +42,8 @@ abbrev pub message_read : ℕ → Call → Shown → Option ReceivedMessage
 message_read id (Read read) a = if read == id then (read_from_stream a read).1 else None
 message_read id call a = None
 
--- What was read grows by this message, in the generation of its stream and on the offsets of its pieces, or by nothing.
+-- What was read grows by this message, in the generation of its stream and on offsets of pieces that would make it, or
+-- by nothing.
 pub record GrowsBy (initial id : ℕ) (message : ReceivedMessage) (a : Shown) (before after : List Told) : Type 0 where
   pub stream : StreamView
   pub live : stream_at a.streams id ≡ Some stream

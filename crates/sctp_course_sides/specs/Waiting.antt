@@ -12,7 +12,7 @@ use Rattle.sctp_assoc.specs.Shown.{Shown}
 use Rattle.sctp_sides.specs.Intake.{held_by}
 use Rattle.sctp_course_sides.specs.Follows.{Follows}
 
--- The pieces that a stream holds, those that its complete messages were made of, and those that are kept for a later
+-- The pieces that a stream holds, pieces that would make its complete messages, and those that are kept for a later
 -- generation of it stand on offsets that were taken in; each offset is waited on once at most, and not after it was
 -- read.
 pub record WaitsOnce (initial id : ℕ) (a : Shown) (c : Course) : Type 0 where

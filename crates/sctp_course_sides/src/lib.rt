@@ -1,6 +1,6 @@
 //! One association and the courses of streams: as a receiver it follows the course of each stream that its peer sends,
-//! as a sender it leads the course of each of its own on, and what it says of its peer's requests is true. No code runs
-//! here; each function carries laws that are proved, and is empty.
+//! which the laws here say. How it leads the courses of its own streams on, and that it answers truly, are lemmas for
+//! `sctp_boundaries`. No code runs here; each function carries laws that are proved, and is empty.
 #![tactic(auto)]
 
 ghost use Rattle.sctp_course_sides.specs.Laws.{JoinedSidesKeepBoundaries, OneSideKeepsBoundaries};

@@ -27,7 +27,8 @@ pub record IsHeldOn (initial : ℕ) (q : Reassembly) (os : List ℕ) : Type 0 wh
       → times o (offsets_in_all initial (pieces_of_groups q.ordered)) + times o (offsets_in_all initial q.unordered)
       + times o (offsets_in_all initial made) ≤ times o os
 
--- a message was made of pieces that stand on these offsets
+-- A message could have been made of pieces that stand on these offsets. That it was made of DATA that came on them is
+-- not said.
 pub record IsMadeOn (initial : ℕ) (m : ReceivedMessage) (os : List ℕ) : Type 0 where
   pub pieces : List ChunkPayloadData
   pub same : m ≡ message_of pieces

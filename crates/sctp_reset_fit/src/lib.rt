@@ -15,8 +15,8 @@ pub fn what_comes_follows_the_course()
     ensures kept { LaterDataWaits }
 {}
 
-/// A message that is read is read in the stream's course, in the generation of the stream, on the offsets of its pieces;
-/// generations that were read to their end are passed as there.
+/// A message that is read is read in the stream's course, in the generation of the stream, on offsets of pieces that
+/// would make it; generations that were read to their end are passed as there.
 pub fn reads_follow_the_course()
     ensures message { MessagesAreRead }
     ensures out { StreamsAreReadOut }
