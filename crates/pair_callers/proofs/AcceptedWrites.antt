@@ -15,12 +15,13 @@ use Rattle.sctp_directions.specs.Acts.{type_on}
 use Rattle.sctp_fit.specs.Writes.{message_on}
 use Rattle.sctp_assoc.specs.declared.call.Reply.{Reply}
 use Rattle.sctp_assoc.specs.declared.call.Reply.TheVariants as replies
-use Rattle.sctp_pair.specs.declared.step.Side2.{Side2}
-use Rattle.sctp_pair.specs.declared.step.Step.TheVariants as steps
-use Rattle.sctp_pair.specs.Ends.{Ends, end_of}
+use Rattle.sctp_steps.specs.declared.step.Side2.{Side2}
+use Rattle.sctp_steps.specs.declared.step.Step.TheVariants as steps
+use Rattle.sctp_steps.specs.Ends.{Ends, end_of}
 use Rattle.sctp_assoc.specs.Replies.{Writes}
-use Rattle.sctp_pair.specs.Steps.{Steps}
-use Rattle.sctp_pair.specs.World.{IsWorldStep, World, accepted_at, is_side}
+use Rattle.sctp_steps.specs.Steps.{Steps}
+use Rattle.sctp_steps.specs.Seen.{is_side}
+use Rattle.sctp_pair.specs.World.{IsWorldStep, World, accepted_at}
 use Rattle.sctp_pair.specs.World.{messages_on}
 use Rattle.sctp_pair.proofs.ReadCall.{found_none}
 use Rattle.pair_callers.specs.BetweenWorlds.{GoesOn, from_side}

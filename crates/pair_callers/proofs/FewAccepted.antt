@@ -3,14 +3,14 @@ use Rattle.std.proofs.Common.{refl, ℕ, List, [], ◌∷◌, ◌++◌}
 use Rattle.std.specs.Prelude.{IfOk, Result, Ok, Err}
 use Rattle.sctp_model.specs.Machine.{fresh}
 use Rattle.sctp_assoc.specs.declared.call.Reply.{Reply}
-use Rattle.sctp_pair.specs.declared.step.Step.{Step}
-use Rattle.sctp_pair.specs.Ends.{Ends}
+use Rattle.sctp_steps.specs.declared.step.Step.{Step}
+use Rattle.sctp_steps.specs.Ends.{Ends}
 use Rattle.sctp_pair.specs.World.{IsSafeWorld, World, empty_world}
 use Rattle.sctp_pair.specs.Fits.{Fits, RunsSafely}
 use Rattle.sctp_pair.specs.Callers.{AcceptFew, CameBy, ComesOn, HoldsOn, Made, NothingIsReadBeforeADelivery}
 use Rattle.sctp_pair.specs.Callers.{ReadsAreFronts, ReadsWereWritten}
 use Rattle.sctp_pair.specs.Counted.{FitsCounted, LeadsCounted, RunsCounted, Tally}
-use Rattle.sctp_pair.specs.Steps.{Runs, Steps}
+use Rattle.sctp_steps.specs.Steps.{Runs, Steps}
 use Rattle.sctp_pair.proofs.FewInAll.{few_in_front, few_stay_few}
 use Rattle.pair_callers.specs.BetweenWorlds.{to_side}
 use Rattle.pair_callers.specs.Running.{BeginsWithNothing, HasNothing, RunsCounting, RunsTelling, StepsTelling}

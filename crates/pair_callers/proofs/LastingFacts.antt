@@ -5,11 +5,12 @@ use Rattle.sctp_model.specs.Messages.{is_reliable, message_at}
 use Rattle.sctp_model.specs.Machine.{Direction}
 use Rattle.sctp_assoc.specs.Shown.{Shown}
 use Rattle.sctp_assoc.specs.declared.call.Reply.{Reply}
-use Rattle.sctp_pair.specs.declared.step.Side2.{Side2}
-use Rattle.sctp_pair.specs.declared.step.Step.{Step}
-use Rattle.sctp_pair.specs.declared.step.Step.TheVariants as steps
-use Rattle.sctp_pair.specs.Ends.{Ends, end_of}
-use Rattle.sctp_pair.specs.World.{EndsSpan, IsOpen}
+use Rattle.sctp_steps.specs.declared.step.Side2.{Side2}
+use Rattle.sctp_steps.specs.declared.step.Step.{Step}
+use Rattle.sctp_steps.specs.declared.step.Step.TheVariants as steps
+use Rattle.sctp_steps.specs.Ends.{Ends, end_of}
+use Rattle.sctp_steps.specs.Seen.{IsOpen}
+use Rattle.sctp_pair.specs.World.{EndsSpan}
 use Rattle.pair_callers.specs.BetweenWorlds.{GoesOn, from_side, to_side}
 use Rattle.pair_callers.specs.Lasting.{KeepsReliable, PassesNothing, ReceivesOn, StaysClosed, StaysInSpan, StaysOver}
 use Rattle.pair_callers.proofs.StepsByDirection.{Leads, goes_on, step_from, step_to}

@@ -2,6 +2,7 @@ mod AcceptedWrites
 mod FewAccepted
 mod LastingFacts
 mod QuestionSteps
+mod ReadAcrossResets
 mod ReadMessages
 mod ReadyOrBuffered
 mod SentIsHeld

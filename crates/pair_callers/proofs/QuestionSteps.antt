@@ -3,13 +3,13 @@ use Rattle.std.proofs.Common.{◌≡◌, refl, ap, ◌∙◌, List, [], ◌∷�
 use Rattle.sctp_assoc.specs.Shown.{Shown}
 use Rattle.sctp_assoc.specs.declared.call.Reply.{Reply}
 use Rattle.sctp_assoc.specs.declared.call.Reply.TheVariants as replies
-use Rattle.sctp_pair.specs.declared.step.Side2.{Side2}
-use Rattle.sctp_pair.specs.declared.step.Side2.TheVariants as sides
-use Rattle.sctp_pair.specs.declared.step.Step.{Step}
-use Rattle.sctp_pair.specs.declared.step.Step.TheVariants as steps
-use Rattle.sctp_pair.specs.Ends.{Ends, end_of}
+use Rattle.sctp_steps.specs.declared.step.Side2.{Side2}
+use Rattle.sctp_steps.specs.declared.step.Side2.TheVariants as sides
+use Rattle.sctp_steps.specs.declared.step.Step.{Step}
+use Rattle.sctp_steps.specs.declared.step.Step.TheVariants as steps
+use Rattle.sctp_steps.specs.Ends.{Ends, end_of}
 use Rattle.sctp_assoc.specs.Replies.{OnlyAnswers}
-use Rattle.sctp_pair.specs.Steps.{Runs, Steps}
+use Rattle.sctp_steps.specs.Steps.{Runs, Steps}
 use Rattle.pair_callers.specs.Running.{answer_in}
 use Rattle.pair_callers.proofs.StepsByDirection.{at_its_side}
 

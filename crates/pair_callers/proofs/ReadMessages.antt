@@ -13,11 +13,12 @@ use Rattle.sctp_model.specs.Safe.{IsSafe, Letter, Names, Tells, letter_read}
 use Rattle.sctp_reassembly.specs.Stands.{IsReadAs, letter_received}
 use Rattle.sctp_assoc.specs.declared.call.Reply.{Reply}
 use Rattle.sctp_assoc.specs.declared.call.Reply.TheVariants as replies
-use Rattle.sctp_pair.specs.declared.step.Side2.{Side2}
-use Rattle.sctp_pair.specs.declared.step.Step.{Step}
-use Rattle.sctp_pair.specs.declared.step.Step.TheVariants as steps
-use Rattle.sctp_pair.specs.Ends.{Ends}
-use Rattle.sctp_pair.specs.World.{IsWorldStep, World, is_side, message_read}
+use Rattle.sctp_steps.specs.declared.step.Side2.{Side2}
+use Rattle.sctp_steps.specs.declared.step.Step.{Step}
+use Rattle.sctp_steps.specs.declared.step.Step.TheVariants as steps
+use Rattle.sctp_steps.specs.Ends.{Ends}
+use Rattle.sctp_steps.specs.Seen.{is_side, message_read}
+use Rattle.sctp_pair.specs.World.{IsWorldStep, World}
 use Rattle.pair_callers.specs.BetweenWorlds.{GoesOn, GoesOnWithin, to_side}
 use Rattle.pair_callers.specs.Reading.{AreNumbered, IsOfAccepted, ReadsNext, letter_at, letters_of, message_in}
 use Rattle.pair_callers.proofs.StepsByDirection.{Leads, goes_on, goes_on_within, is_own, promised_to, step_to}

@@ -15,14 +15,15 @@ use Rattle.sctp_assoc.specs.Shown.{Shown}
 use Rattle.sctp_assoc.specs.declared.call.Reply.{Reply}
 use Rattle.sctp_assoc.specs.declared.call.Reply.TheVariants as replies
 use Rattle.sctp_assoc.proofs.Replied.{buffers_same}
-use Rattle.sctp_pair.specs.declared.step.Side2.{Side2}
-use Rattle.sctp_pair.specs.declared.step.Side2.TheVariants as sides
-use Rattle.sctp_pair.specs.declared.step.Step.{Step}
-use Rattle.sctp_pair.specs.declared.step.Step.TheVariants as steps
-use Rattle.sctp_pair.specs.Ends.{Ends, end_of}
+use Rattle.sctp_steps.specs.declared.step.Side2.{Side2}
+use Rattle.sctp_steps.specs.declared.step.Side2.TheVariants as sides
+use Rattle.sctp_steps.specs.declared.step.Step.{Step}
+use Rattle.sctp_steps.specs.declared.step.Step.TheVariants as steps
+use Rattle.sctp_steps.specs.Ends.{Ends, end_of}
 use Rattle.sctp_assoc.specs.Replies.{Buffers}
-use Rattle.sctp_pair.specs.Steps.{Steps}
-use Rattle.sctp_pair.specs.World.{IsOpen, IsPromised}
+use Rattle.sctp_steps.specs.Steps.{Steps}
+use Rattle.sctp_steps.specs.Seen.{IsOpen}
+use Rattle.sctp_pair.specs.World.{IsPromised}
 use Rattle.pair_callers.specs.BetweenWorlds.{GoesOnWithin, from_side, to_side}
 use Rattle.pair_callers.specs.Reading.{letters_read}
 use Rattle.pair_callers.specs.Buffering.{IsAllThatCame, IsAllToBeHad, IsFrontOfWhatCame, IsKept, IsReliable}

@@ -1,12 +1,13 @@
 -- A step of a pair, as what it does to the direction from a side or to it.
 use Rattle.std.proofs.Common.{◌≡◌, refl, sym, true}
 use Rattle.sctp_assoc.specs.declared.call.Reply.{Reply}
-use Rattle.sctp_pair.specs.declared.step.Side2.{Side2}
-use Rattle.sctp_pair.specs.declared.step.Side2.TheVariants as sides
-use Rattle.sctp_pair.specs.declared.step.Step.{Step}
-use Rattle.sctp_pair.specs.Ends.{Ends, end_of}
-use Rattle.sctp_pair.specs.Steps.{AtSide}
-use Rattle.sctp_pair.specs.World.{IsDirectionStep, IsPromised, IsSafeWorld, IsWorldStep, World, is_side, other_side}
+use Rattle.sctp_steps.specs.declared.step.Side2.{Side2}
+use Rattle.sctp_steps.specs.declared.step.Side2.TheVariants as sides
+use Rattle.sctp_steps.specs.declared.step.Step.{Step}
+use Rattle.sctp_steps.specs.Ends.{Ends, end_of}
+use Rattle.sctp_steps.specs.Steps.{AtSide}
+use Rattle.sctp_steps.specs.Seen.{is_side, other_side}
+use Rattle.sctp_pair.specs.World.{IsDirectionStep, IsPromised, IsSafeWorld, IsWorldStep, World}
 use Rattle.sctp_pair.specs.Fits.{Fits, LeadsSafely}
 use Rattle.sctp_assoc.specs.Shown.{Shown}
 use Rattle.pair_callers.specs.BetweenWorlds.{GoesOn, GoesOnWithin, from_side, initial_of, to_side}

@@ -7,12 +7,13 @@ use Rattle.sctp_model.specs.Machine.{Direction}
 use Rattle.sctp_fit.specs.Incoming.{tsn_before}
 use Rattle.sctp_assoc.specs.declared.call.Reply.{Reply}
 use Rattle.sctp_assoc.specs.declared.call.Reply.TheVariants as replies
-use Rattle.sctp_pair.specs.declared.step.Side2.{Side2}
-use Rattle.sctp_pair.specs.declared.step.Side2.TheVariants as sides
-use Rattle.sctp_pair.specs.declared.step.Step.{Step}
-use Rattle.sctp_pair.specs.declared.step.Step.TheVariants as steps
-use Rattle.sctp_pair.specs.Ends.{Ends}
-use Rattle.sctp_pair.specs.World.{HasData, HasForward, IsWorldStep, World, other_side, packet_brought}
+use Rattle.sctp_steps.specs.declared.step.Side2.{Side2}
+use Rattle.sctp_steps.specs.declared.step.Side2.TheVariants as sides
+use Rattle.sctp_steps.specs.declared.step.Step.{Step}
+use Rattle.sctp_steps.specs.declared.step.Step.TheVariants as steps
+use Rattle.sctp_steps.specs.Ends.{Ends}
+use Rattle.sctp_steps.specs.Seen.{other_side}
+use Rattle.sctp_pair.specs.World.{HasData, HasForward, IsWorldStep, World, packet_brought}
 use Rattle.pair_callers.specs.BetweenWorlds.{AssignsWhileOpen, GoesOn, IsAcknowledgedOn, from_side, initial_of, to_side}
 use Rattle.pair_callers.specs.Delivering.{HasNoData, PassesBy, TakesNothing, TakesOf, packet_for}
 use Rattle.pair_callers.proofs.StepsByDirection.{Leads, goes_on, step_from, step_to}

@@ -1,10 +1,11 @@
 -- What a caller of a pair knows from one world to the next.
 use Rattle.std.specs.Prelude.{◌≡◌, ◌⊎◌, ◌≤◌, ℕ}
 use Rattle.sctp_model.specs.Machine.{Direction}
-use Rattle.sctp_pair.specs.declared.step.Side2.{Side2}
-use Rattle.sctp_pair.specs.declared.step.Side2.TheVariants as sides
-use Rattle.sctp_pair.specs.Ends.{Ends, end_of}
-use Rattle.sctp_pair.specs.World.{IsOpen, IsWithinLimits, World}
+use Rattle.sctp_steps.specs.declared.step.Side2.{Side2}
+use Rattle.sctp_steps.specs.declared.step.Side2.TheVariants as sides
+use Rattle.sctp_steps.specs.Ends.{Ends, end_of}
+use Rattle.sctp_steps.specs.Seen.{IsOpen}
+use Rattle.sctp_pair.specs.World.{IsWithinLimits, World}
 use Rattle.sctp_pair.specs.Fits.{Fits, StandsIn}
 
 -- the direction of what this side writes

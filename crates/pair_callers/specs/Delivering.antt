@@ -5,9 +5,10 @@ use Rattle.sctp_model.specs.Packets.{mem}
 use Rattle.sctp_serial.specs.Serial.{tsn}
 use Rattle.sctp_model.specs.Machine.{Direction}
 use Rattle.sctp_fit.specs.Incoming.{tsn_before}
-use Rattle.sctp_pair.specs.declared.step.Side2.{Side2}
-use Rattle.sctp_pair.specs.Ends.{Ends, packets_of}
-use Rattle.sctp_pair.specs.World.{HasData, HasForward, World, other_side, packet_of_bytes}
+use Rattle.sctp_steps.specs.declared.step.Side2.{Side2}
+use Rattle.sctp_steps.specs.Ends.{Ends, packets_of}
+use Rattle.sctp_steps.specs.Seen.{other_side}
+use Rattle.sctp_pair.specs.World.{HasData, HasForward, World, packet_of_bytes}
 use Rattle.pair_callers.specs.BetweenWorlds.{initial_of, to_side}
 
 -- the packet of this number that comes to a side, as what it spells

@@ -3,7 +3,7 @@ use Rattle.std.specs.Prelude.{◌≡◌, ℕ, true, false}
 use Rattle.sctp_model.specs.Messages.{is_reliable, message_at}
 use Rattle.sctp_model.specs.Machine.{Direction}
 use Rattle.sctp_assoc.specs.Shown.{Shown}
-use Rattle.sctp_pair.specs.World.{IsOpen}
+use Rattle.sctp_steps.specs.Seen.{IsOpen}
 
 -- a stream whose span is over stays so, and one within its span stays within it
 abbrev pub StaysOver : Direction → Direction → Type 0

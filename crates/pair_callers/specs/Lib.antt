@@ -7,3 +7,4 @@ pub mod Running
 pub mod Lasting
 pub mod Telling
 pub mod Exchanging
+pub mod Resetting

@@ -1,11 +1,11 @@
 -- What the replies of all steps of a pair tell, run by run.
 use Rattle.std.specs.Prelude.{◌≡◌, ℕ, List, ◌++◌, length}
 use Rattle.sctp_assoc.specs.declared.call.Reply.{Reply}
-use Rattle.sctp_pair.specs.declared.step.Step.{Step}
+use Rattle.sctp_steps.specs.declared.step.Step.{Step}
 use Rattle.sctp_pair.specs.Callers.{AcceptFew, CameBy, Made, NothingIsReadBeforeADelivery, ReadsAreFronts}
 use Rattle.sctp_pair.specs.Callers.{ReadsWereWritten, StaysFew, tally_of}
-use Rattle.sctp_pair.specs.Ends.{Ends}
-use Rattle.sctp_pair.specs.Steps.{Runs}
+use Rattle.sctp_steps.specs.Ends.{Ends}
+use Rattle.sctp_steps.specs.Steps.{Runs}
 
 -- The laws of all steps of a pair.
 pub record AllHold (ss : List Step) (rs : List Reply) : Type 0 where

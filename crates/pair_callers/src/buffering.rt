@@ -1,8 +1,8 @@
 // Buffering: what waits to be read at an open side, and what an open side still has buffered.
 ghost use Rattle.std.specs.Prelude.{◌≡◌, ℕ, IfSome, Ok};
 ghost use Rattle.sctp_assoc.specs.Calls.{buffered_of};
-ghost use Rattle.sctp_pair.specs.Ends.{end_of};
-ghost use Rattle.sctp_pair.specs.World.{IsOpen};
+ghost use Rattle.sctp_steps.specs.Ends.{end_of};
+ghost use Rattle.sctp_steps.specs.Seen.{IsOpen};
 ghost use Rattle.pair_callers.specs.BetweenWorlds.{GoesOnWithin, from_side, to_side};
 ghost use Rattle.pair_callers.specs.Buffering.{IsAllThatCame, IsAllToBeHad, IsFrontOfWhatCame, IsKept, IsReliable};
 ghost use Rattle.pair_callers.specs.Buffering.{KeepsWhatDidNotCome, amount_in};

@@ -1,6 +1,6 @@
 // Delivering: a side takes in the DATA of the packet that it is handed, and nothing by any other step.
 ghost use Rattle.std.specs.Prelude.{◌≡◌, ℕ};
-ghost use Rattle.sctp_pair.specs.World.{other_side};
+ghost use Rattle.sctp_steps.specs.Seen.{other_side};
 ghost use Rattle.pair_callers.specs.BetweenWorlds.{AssignsWhileOpen, GoesOn, IsAcknowledgedOn, from_side, to_side};
 ghost use Rattle.pair_callers.specs.Delivering.{HasNoData, PassesBy, TakesNothing, TakesOf, packet_for};
 

@@ -1,5 +1,5 @@
 // Lasting: what a step does not end.
-ghost use Rattle.sctp_pair.specs.Ends.{end_of};
+ghost use Rattle.sctp_steps.specs.Ends.{end_of};
 ghost use Rattle.pair_callers.specs.BetweenWorlds.{GoesOn, from_side, to_side};
 ghost use Rattle.pair_callers.specs.Lasting.{KeepsReliable, PassesNothing, ReceivesOn, StaysClosed, StaysInSpan};
 ghost use Rattle.pair_callers.specs.Lasting.{StaysOver};

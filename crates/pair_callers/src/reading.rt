@@ -1,6 +1,6 @@
 // Reading: what a read answers is read next, and what was read within a span is some of what was accepted.
 ghost use Rattle.std.specs.Prelude.{◌≡◌, ℕ, false, IfSome};
-ghost use Rattle.sctp_pair.specs.Steps.{Steps};
+ghost use Rattle.sctp_steps.specs.Steps.{Steps};
 ghost use Rattle.pair_callers.specs.BetweenWorlds.{GoesOn, GoesOnWithin, to_side};
 ghost use Rattle.pair_callers.specs.Reading.{AreNumbered, IsOfAccepted, ReadsNext, message_in};
 ghost use Rattle.sctp_reassembly.specs.Stands.{letter_received};

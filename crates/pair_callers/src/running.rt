@@ -2,7 +2,7 @@
 ghost use Rattle.std.specs.Prelude.{◌≡◌, [], IfOk, OnErr, length, slice_get};
 ghost use Rattle.std.specs.Option.{option_copied};
 ghost use Rattle.sctp_pair.specs.Callers.{CameBy};
-ghost use Rattle.sctp_pair.specs.Ends.{end_of, packets_of};
+ghost use Rattle.sctp_steps.specs.Ends.{end_of, packets_of};
 ghost use Rattle.sctp_pair.specs.World.{World};
 ghost use Rattle.sctp_pair.specs.Counted.{FitsCounted, Tally};
 ghost use Rattle.sctp_pair.specs.Fits.{Fits};

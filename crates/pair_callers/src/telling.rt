@@ -102,8 +102,8 @@ pub fn run_and_step(
     Ok((replies, reply))
 }
 
-/// Runs steps of a pair, and then others: on streams that no step stopped since the pair was made, what one side read is
-/// a front of what the other one wrote, and each message of it was written. The second run counts from what was
+/// Runs steps of a pair, and then others: on streams that no step stopped since the pair was made, what one side read
+/// is a front of what the other one wrote, and each message of it was written. The second run counts from what was
 /// acknowledged when it began.
 pub fn run_twice(
     pair: &mut Pair,

@@ -4,16 +4,12 @@ use Rattle.std.proofs.Common.{if◌then◌else◌, List, [], ◌∷◌, drop, ta
 use Rattle.std.specs.List.{AllByRecursion}
 use Rattle.std.proofs.lemmas.Bool.{true≢false}
 use Rattle.std.proofs.lemmas.List.{append-nil, take-append-drop}
-use Rattle.sctp_wire_types.specs.declared.chunk.Chunk.{Chunk}
 use Rattle.sctp_wire_types.specs.declared.error.Error.{Error}
 use Rattle.sctp_wire_types.specs.declared.error.Error.TheVariants as errors
-use Rattle.sctp_wire.specs.declared.packet.Packet.{Packet}
 use Rattle.sctp_receive_queues.specs.Messages.{ReceivedMessage}
 use Rattle.sctp_streams.specs.declared.event.Event.{Event}
 use Rattle.sctp_streams.specs.Streams.{stream_at}
-use Rattle.sctp_model.proofs.Lists.{all_front, all_weaker}
-use Rattle.sctp_courses.specs.Course.{Course}
-use Rattle.sctp_reset_fit.proofs.Keeping.{goes_nowhere}
+use Rattle.sctp_model.proofs.Lists.{all_front}
 use Rattle.sctp_assoc.specs.declared.call.Call.{Call}
 use Rattle.sctp_assoc.specs.declared.call.Call.TheVariants as calls
 use Rattle.sctp_assoc.specs.declared.call.Reply.{Reply}
@@ -24,30 +20,21 @@ use Rattle.sctp_assoc.specs.Happened.{PollsOn, acts_of_poll, forwards_of_poll}
 use Rattle.sctp_assoc.specs.Replies.{GivesOut, Reads, Replies, packet_in}
 use Rattle.sctp_assoc.specs.Shown.{Shown}
 use Rattle.sctp_sides.specs.OneSide as side
-use Rattle.sctp_sides.specs.OneSide.{Calls, IsCarriedOut, IsRun}
+use Rattle.sctp_sides.specs.OneSide.{Calls, IsCarriedOut, IsRun, carried_out}
 use Rattle.sctp_sides.specs.Runs.{side_calls_of, told_in}
 use Rattle.sctp_sides.specs.SideLaws.{OfEachChunk}
 use Rattle.sctp_sides.proofs.FirstBegunRuns.{carried_out_fails}
 use Rattle.sctp_sides.proofs.RunsListed.{listed, own_unrefused}
 use Rattle.sctp_sides.proofs.TimersOverRuns.{accepted_works}
-use Rattle.sctp_course_sides.specs.Following.{IsNoGreeting, PacketComes}
-use Rattle.sctp_course_sides.specs.Follows.{ChunkComes}
-use Rattle.sctp_course_sides.specs.Honest.{BringsHonest, IsHonest}
 use Rattle.sctp_course_sides.specs.Over.{IsOver, SaysNothing}
-use Rattle.sctp_course_sides.specs.Turns.{Grows, IsPresent}
-use Rattle.sctp_course_sides.proofs.BecomesOver.{becomes_over, stays_open}
-use Rattle.sctp_course_sides.proofs.OverSides.{nothing_comes, nothing_is_honest, over_reads_nothing, over_says}
-use Rattle.sctp_course_sides.proofs.OverSides.{over_stays}
-use Rattle.sctp_course_sides.proofs.SentOn.{sends_nothing}
-use Rattle.sctp_boundaries.specs.Between.{IsOpen, IsOpenOrGone, IsSaid}
-use Rattle.sctp_boundaries.proofs.Calling.{CallLeads, is_poll, message_given}
-use Rattle.sctp_boundaries.proofs.Led.{SideLeads, grows_none}
-
-abbrev pub IsGone : Shown → Type 0
-IsGone x = (x.failed ≡ true) ⊎ IsOver x
+use Rattle.sctp_course_sides.specs.Turns.{IsPresent}
+use Rattle.sctp_course_sides.proofs.OverSides.{over_reads_nothing, over_says, over_stays}
+use Rattle.sctp_course_sides.proofs.StageCalls.{lost_is_over}
+use Rattle.sctp_boundaries.specs.Between.{IsGone, IsPresentOrGone, OfEachDatagram}
+use Rattle.sctp_boundaries.proofs.Calling.{CallGoes, is_poll, message_given}
 
 -- One that is gone is not present.
-gone_absent : (x : Shown) → IsGone x → IsPresent x → ⊥
+pub gone_absent : (x : Shown) → IsGone x → IsPresent x → ⊥
 gone_absent x (inl failed) present = true≢false (sym failed ∙ present.working)
 gone_absent x (inr over) present = true≢false (sym over.lost ∙ present.not_lost)
 
@@ -65,28 +52,26 @@ run_gone [] told a b run gone = subst IsGone (sym run.same) gone
 run_gone (c ∷ cs) told a b run gone =
     run_gone cs run.later run.middle b run.others (stays_gone c run.first a run.middle run.called gone)
 
--- where an open side has these marks behind a call that was carried out
-open_as : (call : side.Call) (told : List Event) (a b : Shown) (failed lost : Bool) → b.failed ≡ failed
-    → b.lost ≡ lost → IsOpen a → IsCarriedOut call told a b → IsOpenOrGone b
-open_as call told a b true lost e f before done = inr (inl e)
-open_as call told a b false true e f before done =
-    inr (inr (becomes_over call told a b before.present.not_lost before.not_closed done f))
-open_as call told a b false false e f before done =
-    inl (record {
-      present = record { working = e; not_lost = f };
-      not_closed = stays_open call told a b before.present.not_lost before.not_closed done f;
-    })
+-- where a present side has these marks behind a call that was carried out
+here_as : (call : side.Call) (told : List Event) (a b : Shown) (failed lost : Bool) → b.failed ≡ failed
+    → b.lost ≡ lost → IsPresent a → IsCarriedOut call told a b → IsPresentOrGone b
+here_as call told a b true lost e f before done = inr (inl e)
+here_as call told a b false true e f before done =
+    let is : (carried_out call a).0 ≡ b = ap (λ (x : Shown × List Event). x.0) done.there in
+    inr (inr (subst IsOver is
+    (lost_is_over call a done.accepted before.not_lost (ap (λ (z : Shown). z.lost) is ∙ f))))
+here_as call told a b false false e f before done = inl (record { working = e; not_lost = f })
 
-called_on : (call : side.Call) (told : List Event) (a b : Shown) → Calls call told a b → IsOpenOrGone a
-    → IsOpenOrGone b
+called_on : (call : side.Call) (told : List Event) (a b : Shown) → Calls call told a b → IsPresentOrGone a
+    → IsPresentOrGone b
 called_on call told a b called (inr gone) = inr (stays_gone call told a b called gone)
-called_on call told a b (inl done) (inl before) = open_as call told a b b.failed b.lost refl refl before done
-called_on call told a b (inr (inl same)) (inl before) = subst IsOpenOrGone (sym same.same) (inl before)
+called_on call told a b (inl done) (inl before) = here_as call told a b b.failed b.lost refl refl before done
+called_on call told a b (inr (inl same)) (inl before) = subst IsPresentOrGone (sym same.same) (inl before)
 called_on call told a b (inr (inr fails)) (inl before) = inr (inl fails.failed.marked)
 
-run_on : (made : List side.Call) (told : List Event) (a b : Shown) → IsRun made told a b → IsOpenOrGone a
-    → IsOpenOrGone b
-run_on [] told a b run h = subst IsOpenOrGone (sym run.same) h
+run_on : (made : List side.Call) (told : List Event) (a b : Shown) → IsRun made told a b → IsPresentOrGone a
+    → IsPresentOrGone b
+run_on [] told a b run h = subst IsPresentOrGone (sym run.same) h
 run_on (c ∷ cs) told a b run h =
     run_on cs run.later run.middle b run.others (called_on c run.first a run.middle run.called h)
 
@@ -98,7 +83,7 @@ reply_gone call r x y packets more h =
     run_gone (side_calls_of call) (told_in r) x y (listed x y call packets more r h)
 
 pub reply_on : (call : Call) (r : Reply) (x y : Shown) (packets more : List (List ℕ))
-    → Replies call x packets r y more → IsOpenOrGone x → IsOpenOrGone y
+    → Replies call x packets r y more → IsPresentOrGone x → IsPresentOrGone y
 reply_on call r x y packets more h =
     run_on (side_calls_of call) (told_in r) x y (listed x y call packets more r h)
 
@@ -113,25 +98,12 @@ none_of : (same : Bool) (message : Option ReceivedMessage) → message ≡ None 
 none_of true message e = e
 none_of false message e = refl
 
-module _ (own peer id : ℕ) (x y : Shown) (packets more : List (List ℕ)) (out coming : Course) (gone : IsGone x)
-    (gone_still : IsGone y)
+module _ (id : ℕ) (x y : Shown) (packets more : List (List ℕ))
+    (On : Bool → Option ReceivedMessage → Shown → List (List ℕ) → Type 0)
+    (stays : (polls : Bool) (message : Option ReceivedMessage) (given : List (List ℕ)) → message ≡ None
+    → OfEachDatagram SaysNothing given → On polls message y given)
+    (gone : IsGone x)
   where
-    abbrev Said : List ℕ → Type 0
-    Said bytes = IsSaid own peer id out coming bytes
-
-    stays : (polls : Bool) (message : Option ReceivedMessage) (given : List (List ℕ)) → message ≡ None
-        → AllByRecursion Said given → SideLeads own peer id polls x message y given out coming
-    stays polls message given none said = record {
-      out_after = out;
-      coming_after = coming;
-      sends = sends_nothing out;
-      seen = grows_none polls x y out out refl refl;
-      goes = goes_nowhere coming;
-      grows = subst (λ (m : Option ReceivedMessage). Grows peer id m x coming.told coming.told) (sym none) refl;
-      stands = λ few less present. absurd (gone_absent y gone_still present);
-      said = said;
-    }
-
     -- What is read
 
     nothing_read : (k : ℕ) (message : Option ReceivedMessage) → IsGone x → Reads x k (replies.Read message) y
@@ -154,31 +126,20 @@ module _ (own peer id : ℕ) (x y : Shown) (packets more : List (List ℕ)) (out
 
     -- What is given out
 
-    of_packet : (packet : Option Packet) → OfEachChunk SaysNothing packet
-        → PacketComes own id out packet × BringsHonest peer coming packet
-    of_packet None says = (tt, tt)
-    of_packet (Some packet) says = (
-      all_weaker SaysNothing (λ (chunk : Chunk). ChunkComes own id out chunk × IsNoGreeting chunk) packet.chunks
-          (nothing_comes own id out) says,
-      all_weaker SaysNothing (IsHonest peer coming) packet.chunks (nothing_is_honest peer coming) says,
-    )
-
     poll_says : (now : ℕ) → IsGone x → x.failed ≡ false
         → PollsOn (acts_of_poll x now) (forwards_of_poll x now) x y (polled x now).1
-        → AllByRecursion Said (polled x now).1
+        → OfEachDatagram SaysNothing (polled x now).1
     poll_says now (inl failed) works on = absurd (true≢false (sym failed ∙ works))
-    poll_says now (inr over) works on =
-        all_weaker (λ (bytes : List ℕ). OfEachChunk SaysNothing (packet_in bytes)) Said (polled x now).1
-        (λ bytes says. of_packet (packet_in bytes) says) (over_says x y now over on)
+    poll_says now (inr over) works on = over_says x y now over on
 
     abbrev Leads : Call → Reply → Type 0
-    Leads call r = CallLeads own peer id call r x y packets more out coming
+    Leads call r = CallGoes On id call r y packets more
 
     silent : (call : Call) (r : Reply) → more ≡ packets → message_given call r id ≡ None → Leads call r
     silent call r e none = record {
       given = [];
       extends = e ∙ sym (append-nil packets);
-      leads = stays (is_poll call) (message_given call r id) [] none tt;
+      goes = stays (is_poll call) (message_given call r id) [] none tt;
     }
 
     polls_lead : (now : ℕ) (r : Reply) → GivesOut x packets now r y more → Leads (calls.PollTransmit now) r
@@ -186,24 +147,25 @@ module _ (own peer id : ℕ) (x y : Shown) (packets more : List (List ℕ)) (out
     polls_lead now (replies.Sent first count) h = record {
       given = (polled x now).1;
       extends = h.6;
-      leads = stays true None (polled x now).1 refl (poll_says now gone h.0 h.5);
+      goes = stays true None (polled x now).1 refl (poll_says now gone h.0 h.5);
     }
     polls_lead now (replies.Refused n) (inl had) = silent (calls.PollTransmit now) (replies.Refused n) had.1 refl
     polls_lead now (replies.Refused n) (inr (inl h)) = silent (calls.PollTransmit now) (replies.Refused n) h.2 refl
     polls_lead now (replies.Refused n) (inr (inr loses)) =
         let kept : ℕ = loses.4.0 in
         let all : List (List ℕ) = (polled x now).1 in
+        let Says : List ℕ → Type 0 = λ (bytes : List ℕ). OfEachChunk SaysNothing (packet_in bytes) in
         record {
           given = take kept all;
           extends = loses.4.2;
-          leads =
+          goes =
               stays true None (take kept all) refl
-              (all_front Said (take kept all) (drop kept all)
-              (subst (AllByRecursion Said) (sym (take-append-drop kept all)) (poll_says now gone loses.0 loses.3)));
+              (all_front Says (take kept all) (drop kept all)
+              (subst (AllByRecursion Says) (sym (take-append-drop kept all)) (poll_says now gone loses.0 loses.3)));
         }
     polls_lead now r h = absurd h
 
-    -- Each call leads on.
+    -- Each call goes on.
     pub gone_leads : (call : Call) (r : Reply) → Replies call x packets r y more → Leads call r
     gone_leads (calls.Read k) r h = silent (calls.Read k) r h.1 (read_of k r h.0)
     gone_leads (calls.ReadSctp k) r h = silent (calls.ReadSctp k) r h.1 (sctp_read_of k r h.0)

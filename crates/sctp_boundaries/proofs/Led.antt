@@ -1,43 +1,41 @@
 -- What one side of a pair does leads both courses of a stream on, and both sides stand between them then.
-use Rattle.std.proofs.Common.{◌≡◌, sym, ap, ◌∙◌, subst, ◌⊎◌, ⊎_elim, inl, inr, ℕ, ◌+◌, ◌≤◌, arith, Bool}
-use Rattle.std.proofs.Common.{true, false, List, length, ◌++◌, Option, None}
-use Rattle.std.specs.List.{AllByRecursion}
-use Rattle.std.proofs.lemmas.Bool.{cases_Bool, true≢false}
+use Rattle.std.proofs.Common.{◌≡◌, refl, sym, ap, ◌∙◌, subst, ◌⊎◌, ⊎_elim, inl, inr, ℕ, ◌+◌, ◌≤◌, arith, Bool}
+use Rattle.std.proofs.Common.{true, false, zero, suc, List, [], ◌∷◌, length, drop, slice_get, ◌++◌, Option, Some, None}
+use Rattle.std.specs.List.{list_any}
+use Rattle.std.proofs.lemmas.Bool.{cases_Bool, false≢true, true≢false}
+use Rattle.sctp_wire_types.specs.declared.chunk.ChunkPayloadData.{ChunkPayloadData}
 use Rattle.sctp_receive_queues.specs.Messages.{ReceivedMessage}
-use Rattle.sctp_model.proofs.Lists.{all_join, all_weaker}
-use Rattle.sctp_courses.specs.Course.{Course}
-use Rattle.sctp_courses.specs.Events.{Event, is_to_be_reset, run}
+use Rattle.sctp_courses.specs.Course.{Course, Request}
+use Rattle.sctp_courses.specs.Events.{is_to_be_reset}
 use Rattle.sctp_courses.proofs.Proved.{the_invariant_is_enough}
 use Rattle.sctp_reset_fit.specs.Keeping.{GoesOn}
-use Rattle.sctp_reset_fit.proofs.Keeping.{goes_kept, goes_leaves}
+use Rattle.sctp_reset_fit.proofs.Keeping.{goes_kept, goes_leaves, goes_nowhere}
 use Rattle.sctp_reset_requests.specs.Ids.{has_id}
-use Rattle.sctp_directions.specs.Acts.{History}
 use Rattle.sctp_assoc.specs.declared.call.Reply.{Reply}
 use Rattle.sctp_assoc.specs.Shown.{Shown}
 use Rattle.sctp_sides.specs.Restarts.{is_being_reset}
-use Rattle.sctp_course_sides.specs.Follows.{Follows}
+use Rattle.sctp_sides.proofs.SentCounts.{nothing_there}
 use Rattle.sctp_course_sides.specs.Sends.{SendsOn}
-use Rattle.sctp_course_sides.specs.Turns.{AreSent, Grows, IsFew, IsPresent}
-use Rattle.sctp_pair.specs.declared.step.Side2.TheVariants as sides
-use Rattle.sctp_pair.specs.declared.step.Step.{Step}
-use Rattle.sctp_pair.specs.Ends.{Ends}
-use Rattle.sctp_pair.specs.World.{EndsReset, message_read}
-use Rattle.sctp_boundaries.specs.Between.{AreFew, Courses, IsOpenOrGone, IsSaid, StandBetween, StandsAt}
+use Rattle.sctp_course_sides.specs.Turns.{Grows, IsFew, IsPresent}
+use Rattle.sctp_course_sides.proofs.SentOn.{sends_nothing}
+use Rattle.sctp_steps.specs.declared.step.Side2.TheVariants as sides
+use Rattle.sctp_steps.specs.declared.step.Step.{Step}
+use Rattle.sctp_steps.specs.Ends.{Ends}
+use Rattle.sctp_steps.specs.Seen.{EndsReset, message_read}
+use Rattle.sctp_boundaries.specs.Between.{AreFew, AreMeeting, AreTalking, Courses, IsGivenOut, IsPresentOrGone, Stand}
+use Rattle.sctp_boundaries.specs.Between.{StandBetween}
 use Rattle.sctp_boundaries.specs.Laws.{GrowsAsSeen, LeadsBoth, polls_side}
-use Rattle.sctp_boundaries.proofs.Staying.{answers_sent, said_beside, said_still, sends_kept, sends_leave, sends_still}
+use Rattle.sctp_boundaries.proofs.Staying.{any_of_dropped, sends_kept, sends_leave}
 
--- What a side does leads its own course on as a sender and the other one as a receiver, and what it gives out is said
--- then.
-pub record SideLeads (own peer id : ℕ) (polls : Bool) (x : Shown) (message : Option ReceivedMessage) (y : Shown)
-    (given : List (List ℕ)) (out coming : Course) : Type 0 where
+-- What a side does leads its own course on as a sender and the other one as a receiver.
+pub record Moves (P : ChunkPayloadData → Type 0) (own peer id : ℕ) (polls : Bool) (x : Shown)
+    (message : Option ReceivedMessage) (z : Shown) (out coming : Course) : Type 0 where
   pub out_after : Course
   pub coming_after : Course
   pub sends : SendsOn out out_after
-  pub seen : GrowsAsSeen polls x y out out_after
+  pub seen : GrowsAsSeen polls x z out out_after
   pub goes : GoesOn coming coming_after
-  pub grows : Grows peer id message x coming.told coming_after.told
-  pub stands : IsFew out_after → IsFew coming_after → IsPresent y → StandsAt own peer id y out_after coming_after
-  pub said : AllByRecursion (IsSaid own peer id out_after coming_after) given
+  pub grows : Grows P peer id message x coming.told coming_after.told
 
 -- A course that its sender leaves as it is grows by nothing.
 
@@ -51,6 +49,68 @@ grows_none polls x y c d asked assigned = record {
   asks = none_more (length c.asked) (length d.asked) _ (ap length asked);
 }
 
+-- a side of which nothing is read and that sends nothing
+abbrev pub moves_nothing : (P : ChunkPayloadData → Type 0) (own peer id : ℕ) (polls : Bool) (x : Shown)
+    (message : Option ReceivedMessage) (z : Shown) (out coming : Course) → message ≡ None
+    → Moves P own peer id polls x message z out coming
+moves_nothing P own peer id polls x message z out coming none = record {
+  out_after = out;
+  coming_after = coming;
+  sends = sends_nothing out;
+  seen = grows_none polls x z out out refl refl;
+  goes = goes_nowhere coming;
+  grows = subst (λ (m : Option ReceivedMessage). Grows P peer id m x coming.told coming.told) (sym none) refl;
+}
+
+-- What one side x does leads to z and all datagrams that it gave out then; it moves the courses so, and the two sides
+-- stand between them still.
+pub record SideActs (own peer id : ℕ) (polls : Bool) (x y : Shown) (message : Option ReceivedMessage) (z : Shown)
+    (of_y of_z : List (List ℕ)) (out coming : Course) : Type 0 where
+  pub moves : Moves (IsGivenOut of_y) own peer id polls x message z out coming
+  pub stand : IsFew moves.out_after → IsFew moves.coming_after
+      → Stand own peer id z y of_z of_y moves.out_after moves.coming_after
+
+-- the two sides the other way round
+flipped : (own peer id : ℕ) (x y : Shown) (of_x of_y : List (List ℕ)) (out coming : Course)
+    → (s : Stand own peer id x y of_x of_y out coming)
+    → AreMeeting own peer id s.stage_x s.stage_y x y of_x of_y out coming
+    ⊎ AreTalking own peer id s.stage_x s.stage_y x y of_x of_y out coming
+    → AreMeeting peer own id s.stage_y s.stage_x y x of_y of_x coming out
+    ⊎ AreTalking peer own id s.stage_y s.stage_x y x of_y of_x coming out
+flipped own peer id x y of_x of_y out coming s (inl m) = inl record {
+  never_x = m.never_y;
+  never_y = m.never_x;
+  no_clients = λ one other. m.no_clients other one;
+  unsent_out = m.unsent_coming;
+  unsent_coming = m.unsent_out;
+  at_x = m.at_y;
+  at_y = m.at_x;
+  greets_x = m.greets_y;
+  greets_y = m.greets_x;
+}
+flipped own peer id x y of_x of_y out coming s (inr t) = inr record {
+  hears_x = t.hears_y;
+  hears_y = t.hears_x;
+  one_x = t.one_y;
+  one_y = t.one_x;
+  at_x = t.at_y;
+  at_y = t.at_x;
+  said_x = t.said_y;
+  said_y = t.said_x;
+}
+
+pub flip : (own peer id : ℕ) (x y : Shown) (of_x of_y : List (List ℕ)) (out coming : Course)
+    → Stand own peer id x y of_x of_y out coming → Stand peer own id y x of_y of_x coming out
+flip own peer id x y of_x of_y out coming s = record {
+  kept_out = s.kept_coming;
+  kept_coming = s.kept_out;
+  here_x = s.here_y;
+  here_y = s.here_x;
+  stage_x = s.stage_y;
+  stage_y = s.stage_x;
+  between = flipped own peer id x y of_x of_y out coming s s.between;
+}
+
 -- Where a reset of the stream ended and did not fail, each request that names it was performed.
 
 none_barred : (id : ℕ) (x y : Shown) → EndsReset x y id
@@ -58,140 +118,114 @@ none_barred : (id : ℕ) (x y : Shown) → EndsReset x y id
 none_barred id x y ends (inl reset) = true≢false (sym reset ∙ ends.ended)
 none_barred id x y ends (inr failed) = true≢false (sym failed ∙ ends.unfailed)
 
-present_of : (id : ℕ) (x y : Shown) → EndsReset x y id → IsOpenOrGone y → IsPresent y
-present_of id x y ends (inl is_open) = is_open.present
+present_of : (id : ℕ) (x y : Shown) → EndsReset x y id → IsPresentOrGone y → IsPresent y
+present_of id x y ends (inl present) = present
 present_of id x y ends (inr (inl failed)) = absurd (true≢false (sym failed ∙ ends.stays_open.0))
 present_of id x y ends (inr (inr over)) = absurd (true≢false (sym over.closed ∙ ends.stays_open.1))
 
-all_performed : (own peer id : ℕ) (x y : Shown) (out coming : Course) → IsOpenOrGone y
-    → (IsPresent y → StandsAt own peer id y out coming) → EndsReset x y id → is_to_be_reset out ≡ false
-all_performed own peer id x y out coming is at ends =
-    let s : StandsAt own peer id y out coming = at (present_of id x y ends is) in
-    ⊎_elim
-    (λ (e : is_to_be_reset out ≡ true). absurd (none_barred id x y ends (s.sends.held_back e).barred))
+none_named : (asked : List Request) (n : ℕ) → asked ≡ []
+    → list_any (λ (q : Request). q.named) (drop n asked) ≡ true → ⊥
+none_named [] n e some = false≢true (any_of_dropped (λ (q : Request). q.named) n [] some)
+none_named (q ∷ qs) n e some = absurd (cc)
+
+all_performed : (own peer id : ℕ) (before x y : Shown) (of_x of_y : List (List ℕ)) (out coming : Course)
+    → Stand own peer id x y of_x of_y out coming → EndsReset before x id → is_to_be_reset out ≡ false
+all_performed own peer id before x y of_x of_y out coming s ends =
+    ⊎_elim (λ (e : is_to_be_reset out ≡ true). absurd (barred e s.between))
     (λ (e : is_to_be_reset out ≡ false). e) (cases_Bool (is_to_be_reset out))
+  where
+    barred : is_to_be_reset out ≡ true → AreMeeting own peer id s.stage_x s.stage_y x y of_x of_y out coming
+        ⊎ AreTalking own peer id s.stage_x s.stage_y x y of_x of_y out coming → ⊥
+    barred e (inl m) = none_named out.asked out.performed m.unsent_out.0 e
+    barred e (inr t) =
+        none_barred id before x ends ((t.at_x (present_of id before x ends s.here_x)).sends.held_back e).barred
 
--- A receiver follows the course still where its sender leads it on.
-abbrev pub FollowsBesideSending : Type 0
-FollowsBesideSending = (initial id : ℕ) (a : Shown) (h : History) (c : Course) (events : List Event) → AreSent events
-    → IsFew (run events c) → Follows initial id a h c → Follows initial id a h (run events c)
+-- a packet stays one of those that were given out
+front_given : (packets more : List (List ℕ)) (number : ℕ) (bytes : List ℕ) → slice_get packets number ≡ Some bytes
+    → slice_get (packets ++ more) number ≡ Some bytes
+front_given [] more number bytes e = absurd (nothing_there bytes e)
+front_given (x ∷ xs) more zero bytes e = e
+front_given (x ∷ xs) more (suc number) bytes e = front_given xs more number bytes e
 
-module _ (sent_beside : FollowsBesideSending) where
-  -- the other side stands there still
-  stands_still : (own peer id : ℕ) (y : Shown) (out further coming later : Course) → GoesOn out further
-      → SendsOn coming later → IsFew later → StandsAt own peer id y out coming → StandsAt own peer id y further later
-  stands_still own peer id y out further coming later goes sends few s = record {
-    sent = s.sent;
-    sent_binds = s.sent_binds;
-    sends = sends_still own id y s.sent out further goes s.sends;
-    came = s.came;
-    follows =
-        subst (λ (c : Course). Follows peer id y s.came c) (sym sends.is)
-        (sent_beside peer id y s.came coming sends.events sends.sent (subst IsFew sends.is few) s.follows);
-    answers = answers_sent peer y coming later sends s.answers;
-    beside = s.beside;
-  }
+pub given_still : (packets more all : List (List ℕ)) → all ≡ packets ++ more → (piece : ChunkPayloadData)
+    → IsGivenOut packets piece → IsGivenOut all piece
+given_still packets more all e piece (number, bytes, is, has) = (
+  number,
+  bytes,
+  subst (λ (ps : List (List ℕ)). slice_get ps number ≡ Some bytes) (sym e) (front_given packets more number bytes is),
+  has,
+)
 
-  -- what A does
-  pub a_leads : (own_a own_b id : ℕ) (step : Step) (p : Ends) (r : Reply) (q : Ends) (w : Courses)
-      (given : List (List ℕ)) → StandBetween own_a own_b id p w
-      → SideLeads own_a own_b id (polls_side sides.A step) p.a (message_read step r sides.A id) q.a given w.ab w.ba
-      → message_read step r sides.B id ≡ None → IsOpenOrGone q.a → q.b ≡ p.b → q.packets_a ≡ p.packets_a ++ given
-      → q.packets_b ≡ p.packets_b → LeadsBoth own_a own_b id step p r q w
-  a_leads own_a own_b id step p r q w given s l none is same more silent =
-      let ab : Course = l.out_after in
-      let ba : Course = l.coming_after in
-      let left = goes_leaves w.ba ba l.goes in
-      let standing : AreFew (record { ab = ab; ba = ba })
-      → StandBetween own_a own_b id q (record { ab = ab; ba = ba }) =
-      λ (few : AreFew (record { ab = ab; ba = ba })). record {
-        kept_ab = sends_kept w.ab ab l.sends s.kept_ab;
-        kept_ba = goes_kept w.ba ba l.goes s.kept_ba;
-        side_a = is;
-        side_b = subst IsOpenOrGone (sym same) s.side_b;
-        at_a = λ present. l.stands few.0 few.1 present;
-        at_b = λ present.
-            subst (λ (z : Shown). StandsAt own_b own_a id z ba ab) (sym same)
-            (stands_still own_b own_a id p.b w.ba ba w.ab ab l.goes l.sends few.0
-            (s.at_b (subst IsPresent same present)));
-        said_a =
-            subst (AllByRecursion (IsSaid own_a own_b id ab ba)) (sym more)
-            (all_join (IsSaid own_a own_b id ab ba) p.packets_a given
-            (all_weaker (IsSaid own_a own_b id w.ab w.ba) (IsSaid own_a own_b id ab ba) p.packets_a
-            (said_still own_a own_b id w.ab ab w.ba ba l.sends l.goes) s.said_a)
-            l.said);
-        said_b =
-            subst (AllByRecursion (IsSaid own_b own_a id ba ab)) (sym silent)
-            (all_weaker (IsSaid own_b own_a id w.ba w.ab) (IsSaid own_b own_a id ba ab) p.packets_b
-            (said_beside own_b own_a id w.ba ba w.ab ab l.goes l.sends) s.said_b);
-      } in
-      record {
-        after = record { ab = ab; ba = ba };
-        ab_goes = (l.sends.events, l.sends.is);
-        ba_goes = (l.goes.events, l.goes.is);
-        ab_grows = l.seen;
-        ba_grows = grows_none (polls_side sides.B step) p.b q.b w.ba ba left.0 left.1;
-        ab_read =
-            subst (λ (m : Option ReceivedMessage). Grows own_a id m p.b w.ab.told ab.told) (sym none)
-            (sends_leave w.ab ab l.sends).1;
-        ba_read = l.grows;
-        ab_keeps = the_invariant_is_enough ab (sends_kept w.ab ab l.sends s.kept_ab);
-        ba_keeps = the_invariant_is_enough ba (goes_kept w.ba ba l.goes s.kept_ba);
-        stand = standing;
-        ab_performed = λ few ends.
-            all_performed own_a own_b id p.a q.a ab ba (standing few).side_a (standing few).at_a ends;
-        ba_performed = λ few ends.
-            all_performed own_b own_a id p.b q.b ba ab (standing few).side_b (standing few).at_b ends;
-      }
+-- what A does
+pub a_leads : (own_a own_b id : ℕ) (step : Step) (p : Ends) (r : Reply) (q : Ends) (w : Courses)
+    → StandBetween own_a own_b id p w
+    → SideActs own_a own_b id (polls_side sides.A step) p.a p.b (message_read step r sides.A id) q.a p.packets_b
+    q.packets_a w.ab w.ba
+    → message_read step r sides.B id ≡ None → q.b ≡ p.b → q.packets_b ≡ p.packets_b
+    → LeadsBoth own_a own_b id step p r q w
+a_leads own_a own_b id step p r q w s l none same silent =
+    let m = l.moves in
+    let ab : Course = m.out_after in
+    let ba : Course = m.coming_after in
+    let left = goes_leaves w.ba ba m.goes in
+    let standing : AreFew (record { ab = ab; ba = ba }) → StandBetween own_a own_b id q (record { ab = ab; ba = ba }) =
+    λ (few : AreFew (record { ab = ab; ba = ba })).
+    subst (λ (ps : List (List ℕ)). Stand own_a own_b id q.a q.b q.packets_a ps ab ba) (sym silent)
+    (subst (λ (z : Shown). Stand own_a own_b id q.a z q.packets_a p.packets_b ab ba) (sym same)
+    (l.stand few.0 few.1)) in
+    record {
+      after = record { ab = ab; ba = ba };
+      ab_goes = (m.sends.events, m.sends.is);
+      ba_goes = (m.goes.events, m.goes.is);
+      ab_grows = m.seen;
+      ba_grows = grows_none (polls_side sides.B step) p.b q.b w.ba ba left.0 left.1;
+      ab_read =
+          subst (λ (n : Option ReceivedMessage). Grows (IsGivenOut p.packets_a) own_a id n p.b w.ab.told ab.told)
+          (sym none) (sends_leave w.ab ab m.sends).1;
+      ba_read = m.grows;
+      ab_keeps = the_invariant_is_enough ab (sends_kept w.ab ab m.sends s.kept_out);
+      ba_keeps = the_invariant_is_enough ba (goes_kept w.ba ba m.goes s.kept_coming);
+      stand = standing;
+      ab_performed = λ few ends.
+          all_performed own_a own_b id p.a q.a q.b q.packets_a q.packets_b ab ba (standing few) ends;
+      ba_performed = λ few ends.
+          all_performed own_b own_a id p.b q.b q.a q.packets_b q.packets_a ba ab
+          (flip own_a own_b id q.a q.b q.packets_a q.packets_b ab ba (standing few)) ends;
+    }
 
-  -- and what B does
-  pub b_leads : (own_a own_b id : ℕ) (step : Step) (p : Ends) (r : Reply) (q : Ends) (w : Courses)
-      (given : List (List ℕ)) → StandBetween own_a own_b id p w
-      → SideLeads own_b own_a id (polls_side sides.B step) p.b (message_read step r sides.B id) q.b given w.ba w.ab
-      → message_read step r sides.A id ≡ None → IsOpenOrGone q.b → q.a ≡ p.a → q.packets_b ≡ p.packets_b ++ given
-      → q.packets_a ≡ p.packets_a → LeadsBoth own_a own_b id step p r q w
-  b_leads own_a own_b id step p r q w given s l none is same more silent =
-      let ba : Course = l.out_after in
-      let ab : Course = l.coming_after in
-      let left = goes_leaves w.ab ab l.goes in
-      let standing : AreFew (record { ab = ab; ba = ba })
-      → StandBetween own_a own_b id q (record { ab = ab; ba = ba }) =
-      λ (few : AreFew (record { ab = ab; ba = ba })). record {
-        kept_ab = goes_kept w.ab ab l.goes s.kept_ab;
-        kept_ba = sends_kept w.ba ba l.sends s.kept_ba;
-        side_a = subst IsOpenOrGone (sym same) s.side_a;
-        side_b = is;
-        at_a = λ present.
-            subst (λ (z : Shown). StandsAt own_a own_b id z ab ba) (sym same)
-            (stands_still own_a own_b id p.a w.ab ab w.ba ba l.goes l.sends few.1
-            (s.at_a (subst IsPresent same present)));
-        at_b = λ present. l.stands few.1 few.0 present;
-        said_a =
-            subst (AllByRecursion (IsSaid own_a own_b id ab ba)) (sym silent)
-            (all_weaker (IsSaid own_a own_b id w.ab w.ba) (IsSaid own_a own_b id ab ba) p.packets_a
-            (said_beside own_a own_b id w.ab ab w.ba ba l.goes l.sends) s.said_a);
-        said_b =
-            subst (AllByRecursion (IsSaid own_b own_a id ba ab)) (sym more)
-            (all_join (IsSaid own_b own_a id ba ab) p.packets_b given
-            (all_weaker (IsSaid own_b own_a id w.ba w.ab) (IsSaid own_b own_a id ba ab) p.packets_b
-            (said_still own_b own_a id w.ba ba w.ab ab l.sends l.goes) s.said_b)
-            l.said);
-      } in
-      record {
-        after = record { ab = ab; ba = ba };
-        ab_goes = (l.goes.events, l.goes.is);
-        ba_goes = (l.sends.events, l.sends.is);
-        ab_grows = grows_none (polls_side sides.A step) p.a q.a w.ab ab left.0 left.1;
-        ba_grows = l.seen;
-        ab_read = l.grows;
-        ba_read =
-            subst (λ (m : Option ReceivedMessage). Grows own_b id m p.a w.ba.told ba.told) (sym none)
-            (sends_leave w.ba ba l.sends).1;
-        ab_keeps = the_invariant_is_enough ab (goes_kept w.ab ab l.goes s.kept_ab);
-        ba_keeps = the_invariant_is_enough ba (sends_kept w.ba ba l.sends s.kept_ba);
-        stand = standing;
-        ab_performed = λ few ends.
-            all_performed own_a own_b id p.a q.a ab ba (standing few).side_a (standing few).at_a ends;
-        ba_performed = λ few ends.
-            all_performed own_b own_a id p.b q.b ba ab (standing few).side_b (standing few).at_b ends;
-      }
+-- and what B does
+pub b_leads : (own_a own_b id : ℕ) (step : Step) (p : Ends) (r : Reply) (q : Ends) (w : Courses)
+    → StandBetween own_a own_b id p w
+    → SideActs own_b own_a id (polls_side sides.B step) p.b p.a (message_read step r sides.B id) q.b p.packets_a
+    q.packets_b w.ba w.ab
+    → message_read step r sides.A id ≡ None → q.a ≡ p.a → q.packets_a ≡ p.packets_a
+    → LeadsBoth own_a own_b id step p r q w
+b_leads own_a own_b id step p r q w s l none same silent =
+    let m = l.moves in
+    let ba : Course = m.out_after in
+    let ab : Course = m.coming_after in
+    let left = goes_leaves w.ab ab m.goes in
+    let standing : AreFew (record { ab = ab; ba = ba }) → StandBetween own_a own_b id q (record { ab = ab; ba = ba }) =
+    λ (few : AreFew (record { ab = ab; ba = ba })).
+    subst (λ (ps : List (List ℕ)). Stand own_a own_b id q.a q.b ps q.packets_b ab ba) (sym silent)
+    (subst (λ (z : Shown). Stand own_a own_b id z q.b p.packets_a q.packets_b ab ba) (sym same)
+    (flip own_b own_a id q.b p.a q.packets_b p.packets_a ba ab (l.stand few.1 few.0))) in
+    record {
+      after = record { ab = ab; ba = ba };
+      ab_goes = (m.goes.events, m.goes.is);
+      ba_goes = (m.sends.events, m.sends.is);
+      ab_grows = grows_none (polls_side sides.A step) p.a q.a w.ab ab left.0 left.1;
+      ba_grows = m.seen;
+      ab_read = m.grows;
+      ba_read =
+          subst (λ (n : Option ReceivedMessage). Grows (IsGivenOut p.packets_b) own_b id n p.a w.ba.told ba.told)
+          (sym none) (sends_leave w.ba ba m.sends).1;
+      ab_keeps = the_invariant_is_enough ab (goes_kept w.ab ab m.goes s.kept_out);
+      ba_keeps = the_invariant_is_enough ba (sends_kept w.ba ba m.sends s.kept_coming);
+      stand = standing;
+      ab_performed = λ few ends.
+          all_performed own_a own_b id p.a q.a q.b q.packets_a q.packets_b ab ba (standing few) ends;
+      ba_performed = λ few ends.
+          all_performed own_b own_a id p.b q.b q.a q.packets_b q.packets_a ba ab
+          (flip own_a own_b id q.a q.b q.packets_a q.packets_b ab ba (standing few)) ends;
+    }

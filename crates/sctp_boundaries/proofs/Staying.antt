@@ -1,11 +1,11 @@
 -- What one side of a pair has stays by what the other side does to the courses.
 use Rattle.std.proofs.Common.{◌≡◌, refl, sym, ap, ◌∙◌, subst, ℕ, zero, suc, ◌≤◌, ◌+◌, Bool, true, false, arith}
-use Rattle.std.proofs.Common.{List, [], ◌∷◌, length, drop, Option, Some, None, if◌then◌else◌}
+use Rattle.std.proofs.Common.{List, [], ◌∷◌, ◌++◌, length, drop, Option, Some, None, if◌then◌else◌}
 use Rattle.std.specs.List.{AllByRecursion, list_any}
 use Rattle.std.proofs.lemmas.Bool.{false≢true, or_right}
 use Rattle.sctp_serial.specs.Serial.{tsn}
 use Rattle.sctp_model.specs.Packets.{mem}
-use Rattle.sctp_model.proofs.Lists.{all_weaker}
+use Rattle.sctp_model.proofs.Lists.{all_join, all_weaker}
 use Rattle.sctp_wire_types.specs.declared.chunk.Chunk.{Chunk}
 use Rattle.sctp_wire_types.specs.declared.chunk.Chunk.TheVariants as chunks
 use Rattle.sctp_wire_types.specs.declared.param.Param.{Param}
@@ -20,21 +20,23 @@ use Rattle.sctp_reset_fit.proofs.Keeping.{goes_leaves}
 use Rattle.sctp_directions.specs.Acts.{History}
 use Rattle.sctp_assoc.specs.Replies.{packet_in}
 use Rattle.sctp_assoc.specs.Shown.{Shown}
+use Rattle.sctp_sides.specs.Meeting.{IsNoEarlier, Stage}
+use Rattle.sctp_sides.specs.SideLaws.{OfEachChunk}
+use Rattle.sctp_sides.proofs.Proved.{greetings_stay_true}
 use Rattle.sctp_course_sides.specs.Answers.{AnswersTruly, ChunkIsTrue, ParamIsTrue, ParamIsTrueIf}
-use Rattle.sctp_course_sides.specs.Following.{IsNoGreeting, PacketComes}
 use Rattle.sctp_course_sides.specs.Follows.{ChunkComes, ParamComes, ParamComesIf}
-use Rattle.sctp_course_sides.specs.Honest.{BringsHonest, IsHonest}
+use Rattle.sctp_course_sides.specs.Meets.{SpeaksOfStage}
 use Rattle.sctp_course_sides.specs.Sends.{Sends, SendsOn, is_at_sender}
-use Rattle.sctp_course_sides.proofs.PacketFollows.{all_come_still}
+use Rattle.sctp_course_sides.proofs.PacketFollows.{comes_still}
 use Rattle.sctp_course_sides.proofs.SendsBeside.{last_still}
 use Rattle.sctp_course_sides.proofs.SentOn.{Grows, sends_grow, still_asked, still_of_course, still_sent_up_to}
 use Rattle.sctp_course_sides.proofs.TruthBeside.{answers_grow}
 use Rattle.sctp_course_sides.proofs.TruthOfRequests.{IsSuccess, true_of}
-use Rattle.sctp_boundaries.specs.Between.{IsSaid}
+use Rattle.sctp_boundaries.specs.Between.{IsSaid, OfEachDatagram}
 
 -- What the sender of a course has, where its receiver leads the course on
 
-any_of_dropped : (test : Request → Bool) (n : ℕ) (qs : List Request) → list_any test (drop n qs) ≡ true
+pub any_of_dropped : (test : Request → Bool) (n : ℕ) (qs : List Request) → list_any test (drop n qs) ≡ true
     → list_any test qs ≡ true
 any_of_dropped test zero qs e = e
 any_of_dropped test (suc n) [] e = e
@@ -164,19 +166,6 @@ module _ (initial id : ℕ) (c d : Course) (g : Grows c d) where
   chunk_said (chunks.IForwardTsn x) came = still_sent_up_to initial id c d g x.new_cumulative_tsn came
   chunk_said (chunks.Other kind flags value) came = tt
 
-  packet_said : (packet : Option Packet) → PacketComes initial id c packet → PacketComes initial id d packet
-  packet_said None came = tt
-  packet_said (Some packet) came =
-      all_weaker (λ (k : Chunk). ChunkComes initial id c k × IsNoGreeting k)
-      (λ (k : Chunk). ChunkComes initial id d k × IsNoGreeting k) packet.chunks
-      (λ k came. (chunk_said k came.0, came.1)) came
-
--- where its receiver does
-packet_still : (initial id : ℕ) (c d : Course) → GoesOn c d → (packet : Option Packet)
-    → PacketComes initial id c packet → PacketComes initial id d packet
-packet_still initial id c d goes None came = tt
-packet_still initial id c d goes (Some packet) came = all_come_still initial id c d goes packet.chunks came
-
 -- What was said of requests that were performed, where more are
 module _ (initial : ℕ) (c d : Course) (grows : c.performed ≤ d.performed) where
   param_true : (p : Param) → ParamIsTrue initial c p → ParamIsTrue initial d p
@@ -212,23 +201,66 @@ module _ (initial : ℕ) (c d : Course) (grows : c.performed ≤ d.performed) wh
   chunk_true (chunks.IForwardTsn x) t = tt
   chunk_true (chunks.Other kind flags value) t = tt
 
-  honest_still : (packet : Option Packet) → BringsHonest initial c packet → BringsHonest initial d packet
-  honest_still None t = tt
-  honest_still (Some packet) t =
-      all_weaker (IsHonest initial c) (IsHonest initial d) packet.chunks (λ k t. (chunk_true k t.0, t.1)) t
+-- What was said of the handshake
+
+-- is so in a later stage.
+speaks_on : (own : ℕ) (s u : Stage) (chunk : Chunk) → IsNoEarlier s u → SpeaksOfStage own s chunk
+    → SpeaksOfStage own u chunk
+speaks_on own s u (chunks.Data x) later said = tt
+speaks_on own s u (chunks.SelectiveAck x) later said = tt
+speaks_on own s u (chunks.ForwardTsn x) later said = tt
+speaks_on own s u (chunks.IForwardTsn x) later said = tt
+speaks_on own s u (chunks.Reconfig x) later said = tt
+speaks_on own s u (chunks.Init x) later said = greetings_stay_true own s u (chunks.Init x) later said
+speaks_on own s u (chunks.InitAck x) later said = greetings_stay_true own s u (chunks.InitAck x) later said
+speaks_on own s u (chunks.Heartbeat x) later said = greetings_stay_true own s u (chunks.Heartbeat x) later said
+speaks_on own s u (chunks.HeartbeatAck x) later said = greetings_stay_true own s u (chunks.HeartbeatAck x) later said
+speaks_on own s u (chunks.Abort x) later said = greetings_stay_true own s u (chunks.Abort x) later said
+speaks_on own s u (chunks.Shutdown x) later said = greetings_stay_true own s u (chunks.Shutdown x) later said
+speaks_on own s u chunks.ShutdownAck later said = greetings_stay_true own s u chunks.ShutdownAck later said
+speaks_on own s u (chunks.Error x) later said = greetings_stay_true own s u (chunks.Error x) later said
+speaks_on own s u (chunks.CookieEcho x) later said = greetings_stay_true own s u (chunks.CookieEcho x) later said
+speaks_on own s u chunks.CookieAck later said = greetings_stay_true own s u chunks.CookieAck later said
+speaks_on own s u chunks.ShutdownComplete later said = greetings_stay_true own s u chunks.ShutdownComplete later said
+speaks_on own s u (chunks.Other kind flags value) later said =
+    greetings_stay_true own s u (chunks.Other kind flags value) later said
 
 -- What a side said stays said: where it sends on and receives on,
-pub said_still : (own peer id : ℕ) (out further coming later : Course) → SendsOn out further → GoesOn coming later
-    → (bytes : List ℕ) → IsSaid own peer id out coming bytes → IsSaid own peer id further later bytes
-said_still own peer id out further coming later sends goes bytes said = (
-  packet_said own id out further (sends_grow out further sends) (packet_in bytes) said.0,
-  honest_still peer coming later (goes_leaves coming later goes).3 (packet_in bytes) said.1,
+pub said_still : (own peer id : ℕ) (s u : Stage) (out further coming later : Course) → IsNoEarlier s u
+    → SendsOn out further → GoesOn coming later → (chunk : Chunk) → IsSaid own peer id s out coming chunk
+    → IsSaid own peer id u further later chunk
+said_still own peer id s u out further coming later goes_on sends goes chunk said = (
+  chunk_said own id out further (sends_grow out further sends) chunk said.0,
+  (chunk_true peer coming later (goes_leaves coming later goes).3 chunk said.1.0, said.1.1),
+  speaks_on own s u chunk goes_on said.2,
 )
 
 -- and where the other side does.
-pub said_beside : (own peer id : ℕ) (out further coming later : Course) → GoesOn out further → SendsOn coming later
-    → (bytes : List ℕ) → IsSaid own peer id out coming bytes → IsSaid own peer id further later bytes
-said_beside own peer id out further coming later goes sends bytes said = (
-  packet_still own id out further goes (packet_in bytes) said.0,
-  honest_still peer coming later (performs_no_less coming later sends) (packet_in bytes) said.1,
+pub said_beside : (own peer id : ℕ) (s : Stage) (out further coming later : Course) → GoesOn out further
+    → SendsOn coming later → (chunk : Chunk) → IsSaid own peer id s out coming chunk
+    → IsSaid own peer id s further later chunk
+said_beside own peer id s out further coming later goes sends chunk said = (
+  comes_still own id out further goes chunk said.0,
+  (chunk_true peer coming later (performs_no_less coming later sends) chunk said.1.0, said.1.1),
+  said.2,
 )
+
+-- What is so of each chunk of some datagrams, and what follows from it
+
+each_weaker : (Is So : Chunk → Type 0) → ((chunk : Chunk) → Is chunk → So chunk) → (packet : Option Packet)
+    → OfEachChunk Is packet → OfEachChunk So packet
+each_weaker Is So f None all = tt
+each_weaker Is So f (Some packet) all = all_weaker Is So packet.chunks f all
+
+pub datagrams_weaker : (Is So : Chunk → Type 0) → ((chunk : Chunk) → Is chunk → So chunk) → (packets : List (List ℕ))
+    → OfEachDatagram Is packets → OfEachDatagram So packets
+datagrams_weaker Is So f packets all =
+    all_weaker (λ (bytes : List ℕ). OfEachChunk Is (packet_in bytes))
+    (λ (bytes : List ℕ). OfEachChunk So (packet_in bytes)) packets
+    (λ bytes each. each_weaker Is So f (packet_in bytes) each) all
+
+-- and of two lists of them
+pub datagrams_join : (Is : Chunk → Type 0) (packets more : List (List ℕ)) → OfEachDatagram Is packets
+    → OfEachDatagram Is more → OfEachDatagram Is (packets ++ more)
+datagrams_join Is packets more all rest =
+    all_join (λ (bytes : List ℕ). OfEachChunk Is (packet_in bytes)) packets more all rest

@@ -1,59 +1,31 @@
 -- Each step of a pair is a call of one side, and so keeps the boundaries of a stream where each call of a side does.
-use Rattle.std.proofs.Common.{◌≡◌, refl, sym, ap, ◌∙◌, subst, ℕ, List, []}
+use Rattle.std.proofs.Common.{◌≡◌, refl, sym, ap, ◌∙◌, subst, ℕ, List}
 use Rattle.std.proofs.Common.{Bool, Option, Some, None, ◌⊎◌, ⊎_elim, inl, inr}
 use Rattle.std.specs.Prelude.{slice_get}
 use Rattle.std.specs.declared.net.socket_addr.SocketAddr.{SocketAddr}
-use Rattle.std.proofs.lemmas.List.{append-nil}
+use Rattle.sctp_wire_types.specs.declared.chunk.ChunkPayloadData.{ChunkPayloadData}
 use Rattle.sctp_receive_queues.specs.Messages.{ReceivedMessage}
-use Rattle.sctp_model.proofs.Lists.{all_get}
+use Rattle.sctp_reset_requests.specs.Laws.{DataHoldsBack, NamesAreThoseListed}
 use Rattle.sctp_courses.specs.Course.{Course}
-use Rattle.sctp_courses.specs.Invariants.{Invariant}
-use Rattle.sctp_reset_fit.proofs.Keeping.{goes_nowhere}
 use Rattle.sctp_assoc.specs.declared.call.Call.{Call}
 use Rattle.sctp_assoc.specs.declared.call.Call.TheVariants as calls
 use Rattle.sctp_assoc.specs.declared.call.Reply.{Reply}
 use Rattle.sctp_assoc.specs.declared.call.Reply.TheVariants as replies
-use Rattle.sctp_assoc.specs.Replies.{Replies, RepliesAlone, TakesIn}
+use Rattle.sctp_assoc.specs.Replies.{Replies, RepliesAlone, TakesIn, packet_in}
 use Rattle.sctp_assoc.specs.Shown.{Shown}
-use Rattle.sctp_course_sides.specs.Turns.{IsPresent}
-use Rattle.sctp_course_sides.proofs.SentOn.{sends_nothing}
-use Rattle.sctp_pair.specs.declared.step.Side2.{Side2}
-use Rattle.sctp_pair.specs.declared.step.Side2.TheVariants as sides
-use Rattle.sctp_pair.specs.declared.step.Step.{Step}
-use Rattle.sctp_pair.specs.declared.step.Step.TheVariants as steps
-use Rattle.sctp_pair.specs.Ends.{Ends}
-use Rattle.sctp_pair.specs.Steps.{AtSide, ComesTo, Delivers, SendsAt, Steps}
-use Rattle.sctp_pair.specs.World.{message_read, other_side}
-use Rattle.sctp_boundaries.specs.Between.{Courses, IsOpenOrGone, IsSaid, StandBetween, StandsAt}
+use Rattle.sctp_steps.specs.declared.step.Side2.{Side2}
+use Rattle.sctp_steps.specs.declared.step.Side2.TheVariants as sides
+use Rattle.sctp_steps.specs.declared.step.Step.{Step}
+use Rattle.sctp_steps.specs.declared.step.Step.TheVariants as steps
+use Rattle.sctp_steps.specs.Ends.{Ends}
+use Rattle.sctp_steps.specs.Steps.{AtSide, ComesTo, Delivers, SendsAt, Steps}
+use Rattle.sctp_steps.specs.Seen.{message_read, other_side}
+use Rattle.sctp_boundaries.specs.Between.{Courses, IsGivenOut, Stand, StandBetween}
 use Rattle.sctp_boundaries.specs.Laws.{LeadsBoth, NamesIdentifiers, StepsKeepBoundaries, polls_side}
-use Rattle.sctp_boundaries.proofs.Calling.{CallLeads, CallsLead, IsBrought, is_poll, message_given}
-use Rattle.sctp_boundaries.proofs.Gone.{gone_leads, reply_gone, reply_on}
-use Rattle.sctp_boundaries.proofs.Led.{FollowsBesideSending, SideLeads, a_leads, b_leads, grows_none}
-
--- each call of a side leads the courses on, where those of a present one do
-call_leads_on : CallsLead → (own peer id : ℕ) (call : Call) (r : Reply) (x y : Shown) (packets more : List (List ℕ))
-    (out coming : Course) → Invariant out → Invariant coming → IsOpenOrGone x
-    → (IsPresent x → StandsAt own peer id x out coming) → IsBrought own peer id out coming call
-    → Replies call x packets r y more → CallLeads own peer id call r x y packets more out coming
-call_leads_on calls_lead own peer id call r x y packets more out coming kept kept_too (inl is_open) at brought h =
-    calls_lead own peer id call r x y packets more out coming kept kept_too is_open.present (at is_open.present)
-    brought h
-call_leads_on calls_lead own peer id call r x y packets more out coming kept kept_too (inr gone) at brought h =
-    gone_leads own peer id x y packets more out coming gone (reply_gone call r x y packets more h gone) call r h
-
--- a side that stays as it is, and nothing is given out
-pub rests : (own peer id : ℕ) (polls : Bool) (x : Shown) (out coming : Course)
-    → (IsPresent x → StandsAt own peer id x out coming) → SideLeads own peer id polls x None x [] out coming
-rests own peer id polls x out coming at = record {
-  out_after = out;
-  coming_after = coming;
-  sends = sends_nothing out;
-  seen = grows_none polls x x out out refl refl;
-  goes = goes_nowhere coming;
-  grows = refl;
-  stands = λ few less present. at present;
-  said = tt;
-}
+use Rattle.sctp_boundaries.proofs.Acting.{FollowsBesideSending}
+use Rattle.sctp_boundaries.proofs.Calling.{is_poll, message_given}
+use Rattle.sctp_boundaries.proofs.Led.{SideActs, a_leads, b_leads, flip, moves_nothing}
+use Rattle.sctp_boundaries.proofs.SideActing.{IsOfOther, side_acts}
 
 -- a step reads what its call reads, and asks for packets where that does
 message_is_read : (id : ℕ) (side : Side2) (k : ℕ) (r : Reply)
@@ -74,7 +46,16 @@ sctp_message_is_read id sides.B k (replies.Read message) = (refl, refl, refl)
 sctp_message_is_read id sides.A k r = (refl, refl, refl)
 sctp_message_is_read id sides.B k r = (refl, refl, refl)
 
-module _ (sent_beside : FollowsBesideSending) (calls_lead : CallsLead) (own_a own_b id : ℕ) (r : Reply)
+-- a side that stays as it is
+rests : (own peer id : ℕ) (polls : Bool) (x y : Shown) (of_x of_y : List (List ℕ)) (out coming : Course)
+    → Stand own peer id x y of_x of_y out coming → SideActs own peer id polls x y None x of_y of_x out coming
+rests own peer id polls x y of_x of_y out coming st = record {
+  moves = moves_nothing (IsGivenOut of_y) own peer id polls x None x out coming refl;
+  stand = λ few less. st;
+}
+
+module _ (sent_beside : (P : ChunkPayloadData → Type 0) → FollowsBesideSending P) (held : DataHoldsBack)
+    (those_listed : NamesAreThoseListed) (own_a own_b id : ℕ) (r : Reply)
     (p q : Ends) (w : Courses) (s : StandBetween own_a own_b id p w)
   where
     -- what a step reads is what its call reads, at its side alone
@@ -83,40 +64,44 @@ module _ (sent_beside : FollowsBesideSending) (calls_lead : CallsLead) (own_a ow
         (message_read step r side id ≡ message_given call r id) × (message_read step r (other_side side) id ≡ None)
         × (polls_side side step ≡ is_poll call)
 
-    acts_at_a : (step : Step) (call : Call) → IsBrought own_a own_b id w.ab w.ba call
+    acts_at_a : (step : Step) (call : Call) → IsOfOther p.packets_b call
         → ReadsAs step sides.A call → Replies call p.a p.packets_a r q.a q.packets_a → q.b ≡ p.b
         → q.packets_b ≡ p.packets_b → LeadsBoth own_a own_b id step p r q w
     acts_at_a step call brought reads h same silent =
-        let l = call_leads_on calls_lead own_a own_b id call r p.a q.a p.packets_a q.packets_a w.ab w.ba s.kept_ab
-        s.kept_ba s.side_a s.at_a brought h in
-        a_leads sent_beside own_a own_b id step p r q w l.given s
+        let l = side_acts sent_beside held those_listed own_a own_b id p.a p.b q.a p.packets_a p.packets_b q.packets_a
+        w.ab w.ba s call r brought h in
+        a_leads own_a own_b id step p r q w s
         (subst
-        (λ (m : Option ReceivedMessage). SideLeads own_a own_b id (polls_side sides.A step) p.a m q.a l.given w.ab w.ba)
+        (λ (m : Option ReceivedMessage). SideActs own_a own_b id (polls_side sides.A step) p.a p.b m q.a p.packets_b
+        q.packets_a w.ab w.ba)
         (sym reads.0)
         (subst
-        (λ (polls : Bool). SideLeads own_a own_b id polls p.a (message_given call r id) q.a l.given w.ab w.ba)
-        (sym reads.2) l.leads))
-        reads.1 (reply_on call r p.a q.a p.packets_a q.packets_a h s.side_a) same l.extends silent
+        (λ (polls : Bool). SideActs own_a own_b id polls p.a p.b (message_given call r id) q.a p.packets_b q.packets_a
+        w.ab w.ba)
+        (sym reads.2) l))
+        reads.1 same silent
 
-    acts_at_b : (step : Step) (call : Call) → IsBrought own_b own_a id w.ba w.ab call
+    acts_at_b : (step : Step) (call : Call) → IsOfOther p.packets_a call
         → ReadsAs step sides.B call → Replies call p.b p.packets_b r q.b q.packets_b → q.a ≡ p.a
         → q.packets_a ≡ p.packets_a → LeadsBoth own_a own_b id step p r q w
     acts_at_b step call brought reads h same silent =
-        let l = call_leads_on calls_lead own_b own_a id call r p.b q.b p.packets_b q.packets_b w.ba w.ab s.kept_ba
-        s.kept_ab s.side_b s.at_b brought h in
-        b_leads sent_beside own_a own_b id step p r q w l.given s
+        let l = side_acts sent_beside held those_listed own_b own_a id p.b p.a q.b p.packets_b p.packets_a q.packets_b
+        w.ba w.ab (flip own_a own_b id p.a p.b p.packets_a p.packets_b w.ab w.ba s) call r brought h in
+        b_leads own_a own_b id step p r q w s
         (subst
-        (λ (m : Option ReceivedMessage). SideLeads own_b own_a id (polls_side sides.B step) p.b m q.b l.given w.ba w.ab)
+        (λ (m : Option ReceivedMessage). SideActs own_b own_a id (polls_side sides.B step) p.b p.a m q.b p.packets_a
+        q.packets_b w.ba w.ab)
         (sym reads.0)
         (subst
-        (λ (polls : Bool). SideLeads own_b own_a id polls p.b (message_given call r id) q.b l.given w.ba w.ab)
-        (sym reads.2) l.leads))
-        reads.1 (reply_on call r p.b q.b p.packets_b q.packets_b h s.side_b) same l.extends silent
+        (λ (polls : Bool). SideActs own_b own_a id polls p.b p.a (message_given call r id) q.b p.packets_a q.packets_b
+        w.ba w.ab)
+        (sym reads.2) l))
+        reads.1 same silent
 
     -- a step that calls a side, and gives out nothing
     called : {step : Step} (side : Side2) (call : Call)
         → ((a b : Shown) (packets : List (List ℕ)) → RepliesAlone call a r b → Replies call a packets r b packets)
-        → IsBrought own_a own_b id w.ab w.ba call → IsBrought own_b own_a id w.ba w.ab call
+        → IsOfOther p.packets_b call → IsOfOther p.packets_a call
         → ReadsAs step side call
         → AtSide side p (λ a b. RepliesAlone call a r b) q → LeadsBoth own_a own_b id step p r q w
     called {step} sides.A call replied brought_a brought_b reads h =
@@ -146,44 +131,47 @@ module _ (sent_beside : FollowsBesideSending) (calls_lead : CallsLead) (own_a ow
           → TakesIn p.a bytes now r q.a → q ≡ record p { a = q.a }
           → LeadsBoth own_a own_b id (steps.Deliver sides.A number now) p r q w
       takes_a number now bytes e h same =
-          acts_at_a (steps.Deliver sides.A number now) (calls.HandleDatagram bytes remote now)
-          (all_get (IsSaid own_b own_a id w.ba w.ab) p.packets_b number bytes e s.said_b) (refl, refl, refl)
+          acts_at_a (steps.Deliver sides.A number now) (calls.HandleDatagram bytes remote now) (number, e)
+          (refl, refl, refl)
           (h, ap (λ (z : Ends). z.packets_a) same) (ap (λ (z : Ends). z.b) same) (ap (λ (z : Ends). z.packets_b) same)
 
       takes_b : (number now : ℕ) (bytes : List ℕ) → slice_get p.packets_a number ≡ Some bytes
           → TakesIn p.b bytes now r q.b → q ≡ record p { b = q.b }
           → LeadsBoth own_a own_b id (steps.Deliver sides.B number now) p r q w
       takes_b number now bytes e h same =
-          acts_at_b (steps.Deliver sides.B number now) (calls.HandleDatagram bytes remote now)
-          (all_get (IsSaid own_a own_b id w.ab w.ba) p.packets_a number bytes e s.said_a) (refl, refl, refl)
+          acts_at_b (steps.Deliver sides.B number now) (calls.HandleDatagram bytes remote now) (number, e)
+          (refl, refl, refl)
           (h, ap (λ (z : Ends). z.packets_b) same) (ap (λ (z : Ends). z.a) same) (ap (λ (z : Ends). z.packets_a) same)
 
     -- there is no such packet
     rests_a : (step : Step) → q.a ≡ p.a → q ≡ record p { a = q.a } → message_read step r sides.A id ≡ None
         → message_read step r sides.B id ≡ None → LeadsBoth own_a own_b id step p r q w
     rests_a step same only none others =
-        a_leads sent_beside own_a own_b id step p r q w [] s
+        a_leads own_a own_b id step p r q w s
         (subst
-        (λ (m : Option ReceivedMessage). SideLeads own_a own_b id (polls_side sides.A step) p.a m q.a [] w.ab w.ba)
-        (sym none)
-        (subst (λ (z : Shown). SideLeads own_a own_b id (polls_side sides.A step) p.a None z [] w.ab w.ba) (sym same)
-        (rests own_a own_b id (polls_side sides.A step) p.a w.ab w.ba s.at_a)))
-        others (subst IsOpenOrGone (sym same) s.side_a) (ap (λ (z : Ends). z.b) only)
-        (ap (λ (z : Ends). z.packets_a) only ∙ sym (append-nil p.packets_a))
-        (ap (λ (z : Ends). z.packets_b) only)
+        (λ (m : Option ReceivedMessage). SideActs own_a own_b id (polls_side sides.A step) p.a p.b m q.a p.packets_b
+        q.packets_a w.ab w.ba) (sym none)
+        (subst (λ (ps : List (List ℕ)). SideActs own_a own_b id (polls_side sides.A step) p.a p.b None q.a p.packets_b
+        ps w.ab w.ba) (sym (ap (λ (z : Ends). z.packets_a) only))
+        (subst (λ (z : Shown). SideActs own_a own_b id (polls_side sides.A step) p.a p.b None z p.packets_b p.packets_a
+        w.ab w.ba) (sym same)
+        (rests own_a own_b id (polls_side sides.A step) p.a p.b p.packets_a p.packets_b w.ab w.ba s))))
+        others (ap (λ (z : Ends). z.b) only) (ap (λ (z : Ends). z.packets_b) only)
 
     rests_b : (step : Step) → q.b ≡ p.b → q ≡ record p { b = q.b } → message_read step r sides.B id ≡ None
         → message_read step r sides.A id ≡ None → LeadsBoth own_a own_b id step p r q w
     rests_b step same only none others =
-        b_leads sent_beside own_a own_b id step p r q w [] s
+        b_leads own_a own_b id step p r q w s
         (subst
-        (λ (m : Option ReceivedMessage). SideLeads own_b own_a id (polls_side sides.B step) p.b m q.b [] w.ba w.ab)
-        (sym none)
-        (subst (λ (z : Shown). SideLeads own_b own_a id (polls_side sides.B step) p.b None z [] w.ba w.ab) (sym same)
-        (rests own_b own_a id (polls_side sides.B step) p.b w.ba w.ab s.at_b)))
-        others (subst IsOpenOrGone (sym same) s.side_b) (ap (λ (z : Ends). z.a) only)
-        (ap (λ (z : Ends). z.packets_b) only ∙ sym (append-nil p.packets_b))
-        (ap (λ (z : Ends). z.packets_a) only)
+        (λ (m : Option ReceivedMessage). SideActs own_b own_a id (polls_side sides.B step) p.b p.a m q.b p.packets_a
+        q.packets_b w.ba w.ab) (sym none)
+        (subst (λ (ps : List (List ℕ)). SideActs own_b own_a id (polls_side sides.B step) p.b p.a None q.b p.packets_a
+        ps w.ba w.ab) (sym (ap (λ (z : Ends). z.packets_b) only))
+        (subst (λ (z : Shown). SideActs own_b own_a id (polls_side sides.B step) p.b p.a None z p.packets_a p.packets_b
+        w.ba w.ab) (sym same)
+        (rests own_b own_a id (polls_side sides.B step) p.b p.a p.packets_b p.packets_a w.ba w.ab
+        (flip own_a own_b id p.a p.b p.packets_a p.packets_b w.ab w.ba s)))))
+        others (ap (λ (z : Ends). z.a) only) (ap (λ (z : Ends). z.packets_a) only)
 
     none_or_some : (a b : Shown) (found : Option (List ℕ)) (now : ℕ) (reply : Reply)
         → Delivers a found now reply b
@@ -294,6 +282,7 @@ module _ (sent_beside : FollowsBesideSending) (calls_lead : CallsLead) (own_a ow
         called side calls.RemoteAddr (λ a b n c. (c, refl)) tt tt (refl, refl, refl) h
     step_acts (steps.LocalIp side) named h = called side calls.LocalIp (λ a b n c. (c, refl)) tt tt (refl, refl, refl) h
 
-pub steps_lead_by : FollowsBesideSending → CallsLead → StepsKeepBoundaries
-steps_lead_by sent_beside calls_lead own_a own_b id step p r q w named s h =
-    step_acts sent_beside calls_lead own_a own_b id r p q w s step named h
+pub steps_lead_by : ((P : ChunkPayloadData → Type 0) → FollowsBesideSending P) → DataHoldsBack → NamesAreThoseListed
+    → StepsKeepBoundaries
+steps_lead_by sent_beside held those_listed step p r q h own_a own_b id w named s =
+    step_acts sent_beside held those_listed own_a own_b id r p q w s step named h

@@ -118,8 +118,10 @@ flow_over : (x : Shown × Flow) (more : Shown → AckTrigger → Shown) (faults 
     → ((b : Shown) (next : AckTrigger) → faults b next ≡ true → IsOver (more b next)) → faults_or x faults ≡ true
     → IsOver (goes_on x more)
 flow_over (a, flows.Next trigger) more faults on e = on a trigger e
-flow_over (a, flows.Fault fault) more faults on e = closed_over a reasons.AssociationClosed (not_true (is_closed_state a.state) e)
-flow_over (a, flows.Closed) more faults on e = closed_over a reasons.AssociationClosed (not_true (is_closed_state a.state) e)
+flow_over (a, flows.Fault fault) more faults on e =
+    closed_over a reasons.AssociationClosed (not_true (is_closed_state a.state) e)
+flow_over (a, flows.Closed) more faults on e =
+    closed_over a reasons.AssociationClosed (not_true (is_closed_state a.state) e)
 flow_over (a, flows.Exhausted) more faults on e = exhausted_over a (not_true (is_closed_state a.state) e)
 
 chunks_over : (header : CommonHeader) (cs : List Chunk) (a : Shown) (trigger : AckTrigger) (now : ℕ)
@@ -129,7 +131,7 @@ chunks_over header (c ∷ cs) a trigger now e =
     flow_over (on_chunk a header c trigger now) (λ b next. after_chunks header cs b next now)
     (λ b next. is_faulted header cs b next now) (λ b next f. chunks_over header cs b next now f) e
 
-packet_over : (lost : Bool) (packet : Option Packet) (a : Shown) (now : ℕ)
+pub packet_over : (lost : Bool) (packet : Option Packet) (a : Shown) (now : ℕ)
     → (not lost && is_faulted_packet a packet now) ≡ true → IsOver (if lost then a else after_packet_of a packet now)
 packet_over true packet a now e = absurd (false≢true e)
 packet_over false None a now e = absurd (false≢true e)
@@ -152,7 +154,7 @@ open_as_far : (s t : AssociationState) → IsAsFarOn s t → is_closed_state s �
 open_as_far s t (inl same) e = ap is_closed_state same ∙ e
 open_as_far s t (inr (past, later)) e = open_begun t later
 
-ended_over : (m : Shown) → is_closed_state m.state ≡ false → IsOver (ended_shutdown m)
+pub ended_over : (m : Shown) → is_closed_state m.state ≡ false → IsOver (ended_shutdown m)
 ended_over m e =
     subst IsOver (ended_is_closed m e) (closed_over (complete_given m) reasons.AssociationClosed e)
 

@@ -5,6 +5,7 @@ use Rattle.std.proofs.lemmas.Bool.{false≢true}
 use Rattle.std.specs.declared.net.ip_addr.IpAddr.{IpAddr}
 use Rattle.std.specs.declared.net.socket_addr.SocketAddr.{SocketAddr}
 use Rattle.sctp_serial.specs.Serial.{tsn}
+use Rattle.sctp_wire_types.specs.declared.chunk.ChunkPayloadData.{ChunkPayloadData}
 use Rattle.sctp_wire_types.specs.declared.chunk.ChunkInit.{ChunkInit}
 use Rattle.sctp_wire_types.specs.declared.config.ServerConfig.{ServerConfig}
 use Rattle.sctp_wire_types.specs.Config.{Settings}
@@ -94,31 +95,6 @@ module _ (config : Settings) (size : ℕ) (remote_addr : SocketAddr) (local_ip :
     marked = tt;
   }
 
-  joined_stands : peer.initial_tsn < 2 ^ 32
-      → StandsBeside peer.initial_tsn id (joined config size remote_addr local_ip own peer).resets
-      (joined config size remote_addr local_ip own peer).streams fresh_course
-  joined_stands small = record {
-    kept = fresh_kept;
-    stands = nothing_stands_for_the_start peer.initial_tsn id;
-    read_on = fresh_read_on;
-    numbered = record {
-      last = ap (λ (n : ℕ). Some (number_before n)) (first_is peer.initial_tsn small);
-      current = tt;
-    };
-  }
-
-  -- a side that two tokens made follows the course of each stream of its peer
-  pub joined_follows : own.initial_tsn < 2 ^ 32 → peer.initial_tsn < 2 ^ 32
-      → Follows peer.initial_tsn id (joined config size remote_addr local_ip own peer)
-      (begun own.initial_tsn peer.initial_tsn) fresh_course
-  joined_follows own_small peer_small = record {
-    small = peer_small;
-    few = omega arith;
-    binds = joined_binds own_small;
-    stands = joined_stands peer_small;
-    reached = begun_reached own.initial_tsn peer.initial_tsn;
-  }
-
   -- it leads the course of each stream of its own on
   pub joined_sends : own.initial_tsn < 2 ^ 32
       → Sends own.initial_tsn id (joined config size remote_addr local_ip own peer)
@@ -142,30 +118,59 @@ module _ (config : Settings) (size : ℕ) (remote_addr : SocketAddr) (local_ip :
       → AnswersTruly initial (joined config size remote_addr local_ip own peer) fresh_course
   joined_answers initial = record { own = tt; control = tt }
 
+module _ (P : ChunkPayloadData → Type 0) (config : Settings) (size : ℕ) (remote_addr : SocketAddr)
+    (local_ip : Option IpAddr) (own peer : ChunkInit) (id : ℕ) where
+  joined_stands : peer.initial_tsn < 2 ^ 32
+      → StandsBeside P peer.initial_tsn id (joined config size remote_addr local_ip own peer).resets
+      (joined config size remote_addr local_ip own peer).streams fresh_course
+  joined_stands small = record {
+    kept = fresh_kept;
+    stands = nothing_stands_for_the_start P peer.initial_tsn id;
+    read_on = fresh_read_on;
+    numbered = record {
+      last = ap (λ (n : ℕ). Some (number_before n)) (first_is peer.initial_tsn small);
+      current = tt;
+    };
+  }
+
+  -- a side that two tokens made follows the course of each stream of its peer
+  pub joined_follows : own.initial_tsn < 2 ^ 32 → peer.initial_tsn < 2 ^ 32
+      → Follows P peer.initial_tsn id (joined config size remote_addr local_ip own peer)
+      (begun own.initial_tsn peer.initial_tsn) fresh_course
+  joined_follows own_small peer_small = record {
+    small = peer_small;
+    few = omega arith;
+    binds = joined_binds config size remote_addr local_ip own peer id own_small;
+    stands = joined_stands peer_small;
+    reached = begun_reached own.initial_tsn peer.initial_tsn;
+  }
+
 -- A handshake
 
-module _ (config : Settings) (size tag initial_tsn : ℕ) (cookie : List ℕ) (remote_addr : SocketAddr)
-    (local_ip : Option IpAddr) (now : ℕ) where
+module _ (P : ChunkPayloadData → Type 0) (config : Settings) (size tag initial_tsn : ℕ) (cookie : List ℕ)
+    (remote_addr : SocketAddr) (local_ip : Option IpAddr) (now : ℕ) where
   -- a side before its handshake awaits its peer, whatever the initial TSN of that will be
   pub created_awaits : (of_server : Option ServerConfig) (initial id : ℕ)
-      → AwaitsIts initial id (created of_server config size tag initial_tsn cookie remote_addr local_ip now)
+      → AwaitsIts P initial id (created of_server config size tag initial_tsn cookie remote_addr local_ip now)
       fresh_course
   unfolding sends_init
   created_awaits None initial id = record {
     kept = fresh_kept;
-    stands = nothing_stands_for_the_start initial id;
+    stands = nothing_stands_for_the_start P initial id;
     read_on = fresh_read_on;
     unknown = refl;
     untouched = fresh_untouched;
   }
   created_awaits (Some of_server) initial id = record {
     kept = fresh_kept;
-    stands = nothing_stands_for_the_start initial id;
+    stands = nothing_stands_for_the_start P initial id;
     read_on = fresh_read_on;
     unknown = refl;
     untouched = fresh_untouched;
   }
 
+module _ (config : Settings) (size tag initial_tsn : ℕ) (cookie : List ℕ) (remote_addr : SocketAddr)
+    (local_ip : Option IpAddr) (now : ℕ) where
   -- it leads the course of each stream of its own on
   pub created_sends : (of_server : Option ServerConfig) (peer id : ℕ) → initial_tsn < 2 ^ 32
       → Sends initial_tsn id (created of_server config size tag initial_tsn cookie remote_addr local_ip now)

@@ -10,6 +10,7 @@ use Rattle.sctp_assoc.specs.Shown.{Shown}
 use Rattle.sctp_streams.specs.Streams.{StreamMap, stream_at, read_in}
 use Rattle.sctp_assoc.specs.Closing.{is_exhausted, exhausted, is_closed_state, relieved}
 use Rattle.sctp_streams.specs.declared.event.Event.{Event}
+use Rattle.sctp_wire_types.specs.declared.chunk.Chunk.TheVariants as chunks
 use Rattle.sctp_wire_types.specs.declared.error.Error.TheVariants as errors
 use Rattle.sctp_wire_types.specs.declared.ids.PayloadProtocolIdentifier.{PayloadProtocolIdentifier}
 use Rattle.sctp_parts.specs.declared.timer.Timer.TheVariants as names
@@ -18,6 +19,7 @@ use Rattle.sctp_receive_queues.specs.Messages.{ReceivedMessage}
 use Rattle.sctp_streams.specs.declared.event.AssociationError.TheVariants as reasons
 use Rattle.sctp_streams.specs.Stream.{StreamView, is_read_half_open}
 use Rattle.sctp_inbound.specs.declared.handshake.Offer.{Offer}
+use Rattle.sctp_inbound.specs.Greeting.{init_of}
 use Rattle.sctp_resets.specs.Channels.{channels}
 use Rattle.sctp_assoc.specs.Calls.{accepted_from, after_ack_delay, after_read, after_t3, drained_behind, event_from}
 use Rattle.sctp_assoc.specs.Calls.{holds_of, retransmits, stopped_open, t3_expired, without_read_half_of, written_at}
@@ -33,7 +35,7 @@ use Rattle.std.specs.declared.net.socket_addr.SocketAddr.{SocketAddr}
 use Rattle.sctp_wire_types.specs.declared.chunk.ChunkInit.{ChunkInit}
 use Rattle.sctp_wire_types.specs.Config.{Settings}
 use Rattle.sctp_assoc.specs.Created.{joined}
-use Rattle.sctp_course_sides.specs.Spelled.{StaysBeside}
+use Rattle.sctp_course_sides.specs.Spelled.{WaitsBeside}
 use Rattle.sctp_course_sides.proofs.BesideInChunks.{Keeps, beside_keeps, closed_keeps, exhausted_keeps, queued_keeps}
 use Rattle.sctp_course_sides.proofs.BesideInChunks.{resetting_keeps}
 use Rattle.sctp_course_sides.proofs.BesideInPolls.{poll_stays_beside}
@@ -105,22 +107,18 @@ stopped_keeps a id = stop_keeps (holds_of (λ s. is_read_half_open s.halves) a i
 
 -- Timers
 
-some_offer : (offer : Offer) → Some offer ≡ None → ⊥
-some_offer offer e = absurd (cc)
-
--- no INIT goes out again, as none is kept
-offered_keeps : (o : Option Offer) (a : Shown) → o ≡ None → Keeps a (init_queued o a)
-offered_keeps None a e h = h
-offered_keeps (Some offer) a e h = absurd (some_offer offer e)
+offered_keeps : (o : Option Offer) (a : Shown) → Keeps a (init_queued o a)
+offered_keeps None a h = h
+offered_keeps (Some offer) a h = queued_keeps a (chunks.Init (init_of a.handshake offer)) tt h
 
 offer_keeps : (a : Shown) (now : ℕ) → Keeps a (sends_init a now)
 unfolding sends_init
 offer_keeps a now h =
-    offered_keeps a.handshake.offer a h.2 h
+    offered_keeps a.handshake.offer a h
 
 cookie_keeps : (o : Option (List ℕ)) (a : Shown) → Keeps a (cookie_queued o a)
 cookie_keeps None a h = h
-cookie_keeps (Some cookie) a h = queued_keeps a _ tt refl h
+cookie_keeps (Some cookie) a h = queued_keeps a _ tt h
 
 echo_keeps : (a : Shown) (now : ℕ) → Keeps a (sends_cookie a now)
 unfolding sends_cookie
@@ -190,8 +188,8 @@ timeouts_keep a now h =
 
 -- Each call that brings no packet
 
-pub call_stays_beside : (call : Call) (a : Shown) → BringsNoPacket call → StaysBeside a
-    → StaysBeside (carried_out call a).0
+pub call_stays_beside : (call : Call) (a : Shown) → BringsNoPacket call → WaitsBeside a
+    → WaitsBeside (carried_out call a).0
 call_stays_beside (Call.OpenStream id kind) a none = λ h. h
 call_stays_beside (Call.Write id named bytes) a none = written_keeps (stream_at a.streams id) a id named bytes
 call_stays_beside (Call.Set id setting) a none = λ h. h
@@ -213,5 +211,5 @@ call_stays_beside (Call.CloseStream id) a none =
 
 -- What two tokens join is so.
 pub joined_stays_beside : (config : Settings) (size : ℕ) (remote_addr : SocketAddr) (local_ip : Option IpAddr)
-    (own peer : ChunkInit) → StaysBeside (joined config size remote_addr local_ip own peer)
-joined_stays_beside config size remote_addr local_ip own peer = (tt, tt, refl)
+    (own peer : ChunkInit) → WaitsBeside (joined config size remote_addr local_ip own peer)
+joined_stays_beside config size remote_addr local_ip own peer = tt

@@ -5,6 +5,7 @@ use Rattle.std.proofs.Common.{List, [], ◌∷◌, Option, Some, None, is_some, 
 use Rattle.sctp_wire_types.specs.declared.chunk.Chunk.{Chunk}
 use Rattle.sctp_wire_types.specs.declared.chunk.Chunk.TheVariants as chunks
 use Rattle.sctp_wire_types.specs.declared.chunk.ChunkHeartbeat.{ChunkHeartbeat}
+use Rattle.sctp_wire_types.specs.declared.chunk.ChunkInit.{ChunkInit}
 use Rattle.sctp_wire_types.specs.declared.chunk.ChunkPayloadData.{ChunkPayloadData}
 use Rattle.sctp_wire_types.specs.declared.chunk.ChunkReconfig.{ChunkReconfig}
 use Rattle.sctp_wire_types.specs.declared.chunk.GapAckBlock.{GapAckBlock}
@@ -18,8 +19,8 @@ use Rattle.sctp_wire_types.specs.declared.param.ParamReconfigResponse.{ParamReco
 use Rattle.sctp_wire_types.specs.Checks.{checked_chunk}
 use Rattle.sctp_streams.specs.Streams.{StreamMap, generation_left, is_readable_in, pushed_in, refusal_in, stream_at}
 use Rattle.sctp_inbound.specs.declared.receiver.AckTrigger.{AckTrigger}
-use Rattle.sctp_inbound.specs.Greeting.{information_of}
-use Rattle.sctp_inbound.specs.Handshake.{has_issued, header_of}
+use Rattle.sctp_inbound.specs.Greeting.{first_cookie, information_of, init_ack_of}
+use Rattle.sctp_inbound.specs.Handshake.{comes_back, has_issued}
 use Rattle.sctp_inbound.specs.Receiver.{admits, is_new_to, taken_to}
 use Rattle.sctp_outbound.specs.declared.sender.SackOutcome.{SackOutcome}
 use Rattle.sctp_outbound.specs.declared.sender.SackOutcome.TheVariants as outcomes
@@ -29,17 +30,14 @@ use Rattle.sctp_resets.specs.declared.performing.Handled.{Handled}
 use Rattle.sctp_resets.specs.declared.performing.Settled.{Settled}
 use Rattle.sctp_resets.specs.Resets.{Beside, Resetting, handled, responded, skips_done, skips_done_of}
 use Rattle.sctp_resets.specs.Resets as resets
-use Rattle.sctp_courses.specs.Course.{Course}
 use Rattle.sctp_assoc.specs.declared.inbound.Flow.{Flow}
 use Rattle.sctp_assoc.specs.declared.inbound.Flow.TheVariants as flows
-use Rattle.sctp_assoc.specs.Calls.{is_beginning, is_cookie_echoed, is_established, sends_data}
+use Rattle.sctp_assoc.specs.Calls.{is_beginning, is_cookie_echoed, is_cookie_wait, is_established, sends_data}
 use Rattle.sctp_assoc.specs.Chunks.{asks, asks_or_faults, checked_first, counted_data, counted_sack, deferred_unless}
 use Rattle.sctp_assoc.specs.Chunks.{deferred_where_admitted, dispatched, on_chunk, on_counted_sack, on_data}
 use Rattle.sctp_assoc.specs.Chunks.{on_new_data, on_sack, stream_found, taken_in, taken_unless, taken_where_admitted}
 use Rattle.sctp_assoc.specs.Chunks.{then_skips, told, with_message}
 use Rattle.sctp_assoc.specs.Closing.{is_exhausted}
-use Rattle.sctp_assoc.specs.Gather.{IsPlainControl, single_chunk_packet}
-use Rattle.sctp_wire.specs.Packets.{packet_is_plain}
 use Rattle.sctp_assoc.specs.Handshake.{information_returned, on_cookie_ack}
 use Rattle.sctp_assoc.specs.Handshake.{on_cookie_echo, on_heartbeat}
 use Rattle.sctp_assoc.specs.Resets.{after_param, asking_if, behind_first, behind_params, channels_of, handled_with}
@@ -57,45 +55,36 @@ use Rattle.sctp_wire.specs.declared.packet.Packet.{Packet}
 use Rattle.sctp_streams.specs.declared.event.AssociationError.{AssociationError}
 use Rattle.sctp_streams.specs.declared.event.AssociationError.TheVariants as reasons
 use Rattle.sctp_inbound.specs.declared.receiver.AckTrigger.TheVariants as triggers
-use Rattle.sctp_model.proofs.Lists.{all_push, all_weaker}
+use Rattle.sctp_model.proofs.Lists.{all_push}
 use Rattle.sctp_assoc.specs.declared.control.Control.TheVariants as controls
 use Rattle.sctp_assoc.specs.Chunks.{after_chunks, after_packet, after_packet_of, goes_on}
 use Rattle.sctp_assoc.specs.Closing.{closed_by, closed_open, exhausted, is_closed_state, out_of_resource}
 use Rattle.sctp_assoc.specs.Control.{queued}
-use Rattle.sctp_assoc.specs.Handshake.{connected}
+use Rattle.sctp_assoc.specs.Handshake.{connected, echoed, learned, on_init, on_init_ack, sends_cookie}
 use Rattle.sctp_assoc.specs.Resets.{responding}
 use Rattle.sctp_assoc.specs.Skipping.{unrecognized_chunk}
-use Rattle.sctp_sides.specs.SideLaws.{OfEachChunk}
-use Rattle.sctp_course_sides.specs.Following.{IsNoGreeting, PacketComes}
-use Rattle.sctp_course_sides.specs.Follows.{ChunkComes}
-use Rattle.sctp_course_sides.specs.Spelled.{ControlIsBeside, IsBesideStreams, StaysBeside}
+use Rattle.sctp_course_sides.specs.Spelled.{ControlIsBeside, IsBesideStreams, WaitsBeside}
 
 abbrev pub Keeps : Shown → Shown → Type 0
-Keeps a b = StaysBeside a → StaysBeside b
+Keeps a b = WaitsBeside a → WaitsBeside b
 
 then_on : (a b d : Shown) → Keeps a b → Keeps b d → Keeps a d
 then_on a b d f g x = g (f x)
 
 -- where an association is another one as it is
 same_keeps : (a b : Shown) → b ≡ a → Keeps a b
-same_keeps a b e x = subst StaysBeside (sym e) x
+same_keeps a b e x = subst WaitsBeside (sym e) x
 
 -- one packet more waits
-pub queued_keeps : (a : Shown) (chunk : Chunk) → IsBesideStreams chunk
-    → packet_is_plain (single_chunk_packet (header_of a.handshake) chunk) ≡ true → Keeps a (queued a chunk)
-queued_keeps a chunk e plain x =
-    (all_push ControlIsBeside a.control _ x.0 e, all_push IsPlainControl a.control _ x.1 plain, x.2)
+pub queued_keeps : (a : Shown) (chunk : Chunk) → IsBesideStreams chunk → Keeps a (queued a chunk)
+queued_keeps a chunk e x = all_push ControlIsBeside a.control _ x e
 
 pub asking_keeps : (asks_for : Bool) (a : Shown) → Keeps a (asking_if asks_for a)
-asking_keeps true a x = (
-  all_push ControlIsBeside a.control controls.OwnRequest x.0 tt,
-  all_push IsPlainControl a.control controls.OwnRequest x.1 tt,
-  x.2,
-)
+asking_keeps true a x = all_push ControlIsBeside a.control controls.OwnRequest x tt
 asking_keeps false a x = x
 
 responding_keeps : (a : Shown) (number : ℕ) (result : ReconfigResult) → Keeps a (responding a number result)
-responding_keeps a number result = queued_keeps a _ (tt, tt) refl
+responding_keeps a number result = queued_keeps a _ (tt, tt)
 
 pub beside_keeps : (a : Shown) (x : Beside) → Keeps a (with_beside a x)
 beside_keeps a (r, m, told) x = x
@@ -284,15 +273,38 @@ ahead_keeps a t es trigger =
 forward_keeps : (a : Shown) (t : ℕ) (es : List SkippedStream) (trigger : AckTrigger) (now : ℕ)
     → Keeps a (on_forward a t es trigger now).0
 forward_keeps a t es trigger now =
-    forward_is_one_of t es (λ b x. Keeps b x.0) trigger now (λ b e. queued_keeps b unrecognized_chunk tt refl)
+    forward_is_one_of t es (λ b x. Keeps b x.0) trigger now (λ b e. queued_keeps b unrecognized_chunk tt)
     (λ b e f x. x)
     (λ b e f. ahead_keeps b t es trigger) a
 
 -- The handshake
 
--- no INIT is kept for its timer
+init_keeps : (counts : Bool) (a : Shown) (header : CommonHeader) (init : ChunkInit) (trigger : AckTrigger)
+    → is_beginning a.state ≡ counts → Keeps a (on_init a header init trigger).0
+unfolding on_init
+init_keeps true a header init trigger e =
+    let b : Shown = learned a header init in
+    rw e (queued_keeps b (chunks.InitAck (init_ack_of b.handshake b.receiver.buffer_size)) tt)
+init_keeps false a header init trigger e = rw e (λ x. x)
+
+echoed_keeps : (o : Option (List ℕ)) (a b : Shown) (trigger : AckTrigger) (now : ℕ) → b.control ≡ a.control
+    → Keeps a (echoed o b trigger now).0
+unfolding sends_cookie
+echoed_keeps None a b trigger now same x = subst (AllByRecursion ControlIsBeside) (sym same) x
+echoed_keeps (Some cookie) a b trigger now same x =
+    queued_keeps b (chunks.CookieEcho cookie) tt (subst (AllByRecursion ControlIsBeside) (sym same) x)
+
+init_ack_keeps : (waits back : Bool) (a : Shown) (header : CommonHeader) (init : ChunkInit) (trigger : AckTrigger)
+    (now : ℕ) → is_cookie_wait a.state ≡ waits → comes_back a.handshake header ≡ back
+    → Keeps a (on_init_ack a header init trigger now).0
+unfolding on_init_ack
+init_ack_keeps true true a header init trigger now e f =
+    rw (e, f) (echoed_keeps (first_cookie init.params) a _ trigger now refl)
+init_ack_keeps true false a header init trigger now e f = rw (e, f) (λ x. x)
+init_ack_keeps false back a header init trigger now e f = rw e (λ x. x)
+
 connected_keeps : (a : Shown) → Keeps a (connected a)
-connected_keeps a x = (x.0, x.1, refl)
+connected_keeps a x = x
 
 cookie_echo_keeps : (issued begins established : Bool) (a : Shown) (cookie : List ℕ) (trigger : AckTrigger)
     → has_issued a.handshake cookie ≡ issued → is_beginning a.state ≡ begins → is_established a.state ≡ established
@@ -300,8 +312,8 @@ cookie_echo_keeps : (issued begins established : Bool) (a : Shown) (cookie : Lis
 unfolding on_cookie_echo
 cookie_echo_keeps false begins established a cookie trigger e f g = rw e (λ x. x)
 cookie_echo_keeps true true established a cookie trigger e f g =
-    rw (e, f) (λ x. queued_keeps (connected a) chunks.CookieAck tt refl (connected_keeps a x))
-cookie_echo_keeps true false true a cookie trigger e f g = rw (e, f, g) (queued_keeps a chunks.CookieAck tt refl)
+    rw (e, f) (λ x. queued_keeps (connected a) chunks.CookieAck tt (connected_keeps a x))
+cookie_echo_keeps true false true a cookie trigger e f g = rw (e, f, g) (queued_keeps a chunks.CookieAck tt)
 cookie_echo_keeps true false false a cookie trigger e f g = rw (e, f, g) (λ x. x)
 
 cookie_ack_keeps : (echoes : Bool) (a : Shown) (trigger : AckTrigger) → is_cookie_echoed a.state ≡ echoes
@@ -312,7 +324,7 @@ cookie_ack_keeps false a trigger e = rw e (λ x. x)
 
 information_keeps : (o : Option (List ℕ)) (a : Shown) → Keeps a (information_returned o a)
 information_keeps None a = λ x. x
-information_keeps (Some information) a = queued_keeps a _ tt refl
+information_keeps (Some information) a = queued_keeps a _ tt
 
 heartbeat_keeps : (a : Shown) (heartbeat : ChunkHeartbeat) (trigger : AckTrigger)
     → Keeps a (on_heartbeat a heartbeat trigger).0
@@ -372,41 +384,41 @@ reconfig_keeps a reconfig trigger =
 -- Any chunk
 
 kind_keeps : (header : CommonHeader) (chunk : Chunk) (a : Shown) (trigger : AckTrigger) (now : ℕ)
-    → IsNoGreeting chunk → Keeps a (dispatched a header chunk trigger now).0
-kind_keeps header (chunks.Data piece) a trigger now plain = data_keeps a piece trigger
-kind_keeps header (chunks.SelectiveAck k) a trigger now plain =
+    → Keeps a (dispatched a header chunk trigger now).0
+kind_keeps header (chunks.Data piece) a trigger now = data_keeps a piece trigger
+kind_keeps header (chunks.SelectiveAck k) a trigger now =
     sack_keeps (sends_data a.state) a k.cumulative_tsn_ack k.gap_ack_blocks k.advertised_receiver_window_credit trigger
     now refl
-kind_keeps header (chunks.Init y) a trigger now plain = absurd plain
-kind_keeps header (chunks.InitAck y) a trigger now plain = absurd plain
-kind_keeps header (chunks.Heartbeat y) a trigger now plain = heartbeat_keeps a y trigger
-kind_keeps header (chunks.HeartbeatAck y) a trigger now plain = λ x. x
-kind_keeps header (chunks.Abort y) a trigger now plain = λ x. x
-kind_keeps header (chunks.Shutdown y) a trigger now plain = λ x. x
-kind_keeps header chunks.ShutdownAck a trigger now plain = λ x. x
-kind_keeps header (chunks.Error y) a trigger now plain = λ x. x
-kind_keeps header (chunks.CookieEcho y) a trigger now plain =
+kind_keeps header (chunks.Init y) a trigger now = init_keeps (is_beginning a.state) a header y trigger refl
+kind_keeps header (chunks.InitAck y) a trigger now =
+    init_ack_keeps (is_cookie_wait a.state) (comes_back a.handshake header) a header y trigger now refl refl
+kind_keeps header (chunks.Heartbeat y) a trigger now = heartbeat_keeps a y trigger
+kind_keeps header (chunks.HeartbeatAck y) a trigger now = λ x. x
+kind_keeps header (chunks.Abort y) a trigger now = λ x. x
+kind_keeps header (chunks.Shutdown y) a trigger now = λ x. x
+kind_keeps header chunks.ShutdownAck a trigger now = λ x. x
+kind_keeps header (chunks.Error y) a trigger now = λ x. x
+kind_keeps header (chunks.CookieEcho y) a trigger now =
     cookie_echo_keeps (has_issued a.handshake y) (is_beginning a.state) (is_established a.state) a y trigger refl refl
     refl
-kind_keeps header chunks.CookieAck a trigger now plain = cookie_ack_keeps (is_cookie_echoed a.state) a trigger refl
-kind_keeps header chunks.ShutdownComplete a trigger now plain = λ x. x
-kind_keeps header (chunks.Reconfig y) a trigger now plain = reconfig_keeps a y trigger
-kind_keeps header (chunks.ForwardTsn y) a trigger now plain =
+kind_keeps header chunks.CookieAck a trigger now = cookie_ack_keeps (is_cookie_echoed a.state) a trigger refl
+kind_keeps header chunks.ShutdownComplete a trigger now = λ x. x
+kind_keeps header (chunks.Reconfig y) a trigger now = reconfig_keeps a y trigger
+kind_keeps header (chunks.ForwardTsn y) a trigger now =
     forward_keeps a y.new_cumulative_tsn y.streams trigger now
-kind_keeps header (chunks.IForwardTsn y) a trigger now plain =
+kind_keeps header (chunks.IForwardTsn y) a trigger now =
     forward_keeps a y.new_cumulative_tsn (skips_of y.entries) trigger now
-kind_keeps header (chunks.Other kind flags value) a trigger now plain = λ x. x
+kind_keeps header (chunks.Other kind flags value) a trigger now = λ x. x
 
 checked_keeps : (r : Result (Unit {0}) Error) (header : CommonHeader) (chunk : Chunk) (a : Shown)
-    (trigger : AckTrigger) (now : ℕ) → IsNoGreeting chunk → Keeps a (checked_first r a header chunk trigger now).0
-checked_keeps (Err fault) header chunk a trigger now plain = λ x. x
-checked_keeps (Ok done) header chunk a trigger now plain = kind_keeps header chunk a trigger now plain
+    (trigger : AckTrigger) (now : ℕ) → Keeps a (checked_first r a header chunk trigger now).0
+checked_keeps (Err fault) header chunk a trigger now = λ x. x
+checked_keeps (Ok done) header chunk a trigger now = kind_keeps header chunk a trigger now
 
 pub chunk_stays_beside : (a : Shown) (header : CommonHeader) (chunk : Chunk) (trigger : AckTrigger) (now : ℕ)
-    → IsNoGreeting chunk → StaysBeside a → StaysBeside (on_chunk a header chunk trigger now).0
+    → WaitsBeside a → WaitsBeside (on_chunk a header chunk trigger now).0
 unfolding on_chunk
-chunk_stays_beside a header chunk trigger now plain =
-    checked_keeps (checked_chunk chunk) header chunk a trigger now plain
+chunk_stays_beside a header chunk trigger now = checked_keeps (checked_chunk chunk) header chunk a trigger now
 
 -- Any packet
 
@@ -414,11 +426,11 @@ chunk_stays_beside a header chunk trigger now plain =
 pub closed_keeps : (closed : Bool) (a : Shown) (reason : AssociationError)
     → Keeps a (if closed then a else closed_open a reason)
 closed_keeps true a reason x = x
-closed_keeps false a reason x = (tt, tt, x.2)
+closed_keeps false a reason x = tt
 
 pub exhausted_keeps : (a : Shown) → Keeps a (exhausted a)
 exhausted_keeps a x =
-    queued_keeps (closed_by a reasons.ReceiveBufferExhausted) out_of_resource tt refl
+    queued_keeps (closed_by a reasons.ReceiveBufferExhausted) out_of_resource tt
     (closed_keeps (is_closed_state a.state) a reasons.ReceiveBufferExhausted x)
 
 flow_keeps : (x : Shown × Flow) (more : Shown → AckTrigger → Shown)
@@ -429,34 +441,24 @@ flow_keeps (a, flows.Closed) more f = closed_keeps (is_closed_state a.state) a r
 flow_keeps (a, flows.Exhausted) more f = exhausted_keeps a
 
 chunks_keep : (header : CommonHeader) (cs : List Chunk) (a : Shown) (trigger : AckTrigger) (now : ℕ)
-    → AllByRecursion IsNoGreeting cs → Keeps a (after_chunks header cs a trigger now)
-chunks_keep header [] a trigger now plain = λ x. x
-chunks_keep header (chunk ∷ cs) a trigger now plain =
+    → Keeps a (after_chunks header cs a trigger now)
+chunks_keep header [] a trigger now = λ x. x
+chunks_keep header (chunk ∷ cs) a trigger now =
     let y = on_chunk a header chunk trigger now in
     let more : Shown → AckTrigger → Shown = λ b next. after_chunks header cs b next now in
-    then_on a y.0 (goes_on y more) (chunk_stays_beside a header chunk trigger now plain.0)
-    (flow_keeps y more (λ b next. chunks_keep header cs b next now plain.1))
+    then_on a y.0 (goes_on y more) (chunk_stays_beside a header chunk trigger now)
+    (flow_keeps y more (λ b next. chunks_keep header cs b next now))
 
-packet_of_keeps : (packet : Option Packet) (a : Shown) (now : ℕ) → OfEachChunk IsNoGreeting packet
-    → Keeps a (after_packet_of a packet now)
-packet_of_keeps None a now plain = λ x. x
-packet_of_keeps (Some packet) a now plain =
-    chunks_keep packet.common_header packet.chunks a triggers.None now plain
+packet_of_keeps : (packet : Option Packet) (a : Shown) (now : ℕ) → Keeps a (after_packet_of a packet now)
+packet_of_keeps None a now = λ x. x
+packet_of_keeps (Some packet) a now = chunks_keep packet.common_header packet.chunks a triggers.None now
 
-packet_if : (lost : Bool) (packet : Option Packet) (a : Shown) (now : ℕ) → OfEachChunk IsNoGreeting packet
+packet_if : (lost : Bool) (packet : Option Packet) (a : Shown) (now : ℕ)
     → Keeps a (if lost then a else after_packet_of a packet now)
-packet_if true packet a now plain = λ x. x
-packet_if false packet a now plain = packet_of_keeps packet a now plain
+packet_if true packet a now = λ x. x
+packet_if false packet a now = packet_of_keeps packet a now
 
--- What waits stays beside streams over each packet that begins no association.
-pub packet_stays_beside : (packet : Option Packet) (a : Shown) (now : ℕ) → OfEachChunk IsNoGreeting packet
-    → StaysBeside a → StaysBeside (after_packet a packet now)
-packet_stays_beside packet a now plain = packet_if a.lost packet a now plain
-
--- what comes of a course begins none
-pub comes_without_greeting : (initial id : ℕ) (c : Course) (packet : Option Packet)
-    → PacketComes initial id c packet → OfEachChunk IsNoGreeting packet
-comes_without_greeting initial id c None comes = tt
-comes_without_greeting initial id c (Some packet) comes =
-    all_weaker (λ (chunk : Chunk). ChunkComes initial id c chunk × IsNoGreeting chunk) IsNoGreeting packet.chunks
-    (λ chunk both. both.1) comes
+-- What waits stays beside streams over each packet.
+pub packet_stays_beside : (packet : Option Packet) (a : Shown) (now : ℕ) → WaitsBeside a
+    → WaitsBeside (after_packet a packet now)
+packet_stays_beside packet a now = packet_if a.lost packet a now

@@ -19,11 +19,11 @@ use Rattle.sctp_assoc.specs.Gather.{exchange_after, exchange_polled, first_reque
 use Rattle.sctp_assoc.specs.Gather.{forward_after, forward_polled, is_due, open_polled, polled, reconfig_run_after}
 use Rattle.sctp_assoc.specs.Gather.{repeat_polled, request_made, requests_after, requests_polled, with_control_given}
 use Rattle.sctp_assoc.specs.Gather.{with_request_again, with_request_asked, with_request_placed, with_request_sent}
-use Rattle.sctp_assoc.specs.Gather.{IsPlainControl, without_control}
+use Rattle.sctp_assoc.specs.Gather.{without_control}
 use Rattle.sctp_assoc.specs.Resets.{with_reconfig_run}
 use Rattle.sctp_assoc.specs.Shown.{Shown}
 use Rattle.sctp_sides.proofs.EndedPolls.{by_poll_end, complete_given}
-use Rattle.sctp_course_sides.specs.Spelled.{ControlIsBeside, StaysBeside}
+use Rattle.sctp_course_sides.specs.Spelled.{ControlIsBeside, WaitsBeside}
 use Rattle.sctp_course_sides.proofs.BesideInChunks.{Keeps, asking_keeps, closed_keeps}
 
 -- this side's requests are these
@@ -46,7 +46,7 @@ all_given_keep [] x h = h
 all_given_keep (k ∷ ks) x h = all_given_keep ks (with_control_given x k) (given_keeps x k h)
 
 control_keeps : (a : Shown) → Keeps a (control_polled a).0
-control_keeps a x = all_given_keep a.control (without_control a, []) (tt, tt, x.2)
+control_keeps a x = all_given_keep a.control (without_control a, []) tt
 
 -- Requests go out behind DATA
 
@@ -61,11 +61,7 @@ made_keeps a (o, made) x = asking_keeps made (with_own_requests a o) x
 sent_keeps : (a : Shown) (x : OwnView × Option ParamOutgoingResetRequest)
     → Keeps a (with_request_sent a (with_own a.resets x)).0
 sent_keeps a (o, None) x = x
-sent_keeps a (o, Some param) x = (
-  all_taken ControlIsBeside (length a.control - 1) a.control x.0,
-  all_taken IsPlainControl (length a.control - 1) a.control x.1,
-  x.2,
-)
+sent_keeps a (o, Some param) x = all_taken ControlIsBeside (length a.control - 1) a.control x
 
 first_if : (none : Bool) (a : Shown)
     → Keeps a (if none then (a, []) else with_request_sent a (request_sent a.resets a.sender.queue)).0
@@ -74,7 +70,7 @@ first_if false a x = sent_keeps a (sent_first a.resets.own a.sender.queue) x
 
 -- what a step leaves and gives
 abbrev Given : Shown × List (List ℕ) → Type 0
-Given x = StaysBeside x.0
+Given x = WaitsBeside x.0
 
 both_keep : (packets : List (List ℕ)) (x : Shown × List (List ℕ)) → Given x → Given (after_both packets x)
 both_keep packets (a, more) h = h
@@ -85,16 +81,16 @@ behind_keeps (a, packets) h =
     both_keep packets (first_request_polled b)
     (first_if (length b.control == 0) b (made_keeps a (asked a.resets.own a.sender.queue a.resets.peer) h))
 
-requests_if : (established : Bool) (a : Shown) → StaysBeside a
+requests_if : (established : Bool) (a : Shown) → WaitsBeside a
     → Given (if established then first_request_behind (repeat_polled a) else (a, []))
 requests_if true a h = behind_keeps (repeat_polled a) (again_keeps a (repeated a.resets.own) h)
 requests_if false a h = h
 
-requests_keep : (a : Shown) → StaysBeside a → Given (requests_polled a)
+requests_keep : (a : Shown) → WaitsBeside a → Given (requests_polled a)
 unfolding requests_polled
 requests_keep a h = requests_if (is_established a.state) a h
 
-requests_after_keep : (x : Shown × List (List ChunkPayloadData)) → StaysBeside x.0 → Given (requests_after x)
+requests_after_keep : (x : Shown × List (List ChunkPayloadData)) → WaitsBeside x.0 → Given (requests_after x)
 requests_after_keep (a, bundles) h =
     both_keep (datagrams_of (header_of a.handshake) bundles) (requests_polled a) (requests_keep a h)
 
@@ -104,7 +100,7 @@ data_keeps : (a : Shown) (now : ℕ) → Keeps a (data_after a now).0
 unfolding data_polled
 data_keeps a now h = h
 
-ack_if : (due : Bool) (a : Shown) → is_due a.receiver.ack_state ≡ due → StaysBeside a → Given (ack_polled a)
+ack_if : (due : Bool) (a : Shown) → is_due a.receiver.ack_state ≡ due → WaitsBeside a → Given (ack_polled a)
 unfolding ack_polled
 ack_if true a e = rw e (λ h. h)
 ack_if false a e = rw e (λ h. h)
@@ -112,7 +108,7 @@ ack_if false a e = rw e (λ h. h)
 ack_after_keeps : (x : Shown × List (List ℕ)) → Given x → Given (ack_after x)
 ack_after_keeps (a, packets) h = both_keep packets (ack_polled a) (ack_if (is_due a.receiver.ack_state) a refl h)
 
-forward_keeps : (a : Shown) → StaysBeside a → Given (forward_polled a)
+forward_keeps : (a : Shown) → WaitsBeside a → Given (forward_polled a)
 unfolding forward_polled
 forward_keeps a h = h
 
@@ -121,7 +117,7 @@ forward_after_keeps (a, packets) h = both_keep packets (forward_polled a) (forwa
 
 -- All of that while DATA is exchanged, and then the timer of a request
 
-exchange_keeps : (exchanges : Bool) (a : Shown) (now : ℕ) → exchanges_data a.state ≡ exchanges → StaysBeside a
+exchange_keeps : (exchanges : Bool) (a : Shown) (now : ℕ) → exchanges_data a.state ≡ exchanges → WaitsBeside a
     → Given (exchange_polled a now)
 unfolding exchange_polled
 exchange_keeps true a now e =
@@ -150,9 +146,9 @@ front_keeps a now h =
     (exchange_after_keeps (control_polled a) now (control_keeps a h))
 
 -- the end of a poll leaves what waits, or closes
-pub poll_stays_beside : (a : Shown) (now : ℕ) → StaysBeside a → StaysBeside (polled a now).0
+pub poll_stays_beside : (a : Shown) (now : ℕ) → WaitsBeside a → WaitsBeside (polled a now).0
 poll_stays_beside a now h =
     let m : Shown = (open_polled a now).0 in
-    let front : StaysBeside m = front_keeps a now h in
-    by_poll_end StaysBeside a now (λ e due timer. front)
+    let front : WaitsBeside m = front_keeps a now h in
+    by_poll_end WaitsBeside a now (λ e due timer. front)
     (λ e open_still. closed_keeps false (complete_given m) reasons.AssociationClosed front)

@@ -106,8 +106,9 @@ none_live None e = refl
 none_live (Some t) e = absurd (true≢false e)
 
 -- DATA comes to a side that follows the course of the stream.
-module _ (initial id : ℕ) (piece : ChunkPayloadData) (a : Shown) (h : History) (c : Course)
-    (f : Follows initial id a h c) (came : IsOfCourse initial id c piece) where
+module _ (P : ChunkPayloadData → Type 0) (initial id : ℕ) (piece : ChunkPayloadData) (a : Shown) (h : History)
+    (c : Course)
+    (f : Follows P initial id a h c) (came : IsOfCourse initial id c piece) (so : P piece) where
   offset_near : came.offset < 2 ^ 31
   offset_near =
       let l : came.offset < c.assigned = came.assigned in
@@ -130,7 +131,7 @@ module _ (initial id : ℕ) (piece : ChunkPayloadData) (a : Shown) (h : History)
     placed : (reach_in h ≤ came.offset) × (offset_in h piece.tsn ≡ came.offset)
     placed =
         at_place h.peer initial (reach_in h) piece.tsn came.offset f.reached.peer came.is
-        (reach_small initial id a h c f) offset_near unseen.near
+        (reach_small P initial id a h c f) offset_near unseen.near
 
     -- it is new in the course
     new_there : piece.stream_identifier ≡ id → is_new c (offset_of initial piece.tsn) ≡ true
@@ -145,8 +146,8 @@ module _ (initial id : ℕ) (piece : ChunkPayloadData) (a : Shown) (h : History)
 
     -- what takes it in follows
     came_following : (s : ResetsView) (n : StreamMap) (es : List Told)
-        → TakesOn initial id (offset_of initial piece.tsn) s n c
-        → LeadsFollowing initial id
+        → TakesOn P initial id (offset_of initial piece.tsn) s n c
+        → LeadsFollowing P initial id
         (record a { receiver = taken_to a.receiver piece.tsn; resets = s; streams = n; events = es }) c
     came_following s n es t =
         let b : Shown =
@@ -163,7 +164,7 @@ module _ (initial id : ℕ) (piece : ChunkPayloadData) (a : Shown) (h : History)
         let grown : reach_in h ≤ reach_in k =
         reach_grown h k (λ o m. or_right (eqb (offset_in h piece.tsn) o) (mem o h.taken) m) (le_itself h.passed) in
         let at : t.after.point ≡ reach_in h = t.point ∙ f.reached.point in
-        reaches initial id a b h k c t.after f binds refl t.goes t.told t.stands
+        reaches P initial id a b h k c t.after f binds refl t.goes t.told t.stands
         (subst (λ p. p ≤ reach_in k) (sym at) grown)
         (λ o m.
         member_of (offset_of initial piece.tsn) (offset_in h piece.tsn) o c.taken h.taken same (f.reached.taken o)
@@ -178,17 +179,18 @@ module _ (initial id : ℕ) (piece : ChunkPayloadData) (a : Shown) (h : History)
     module _ (out : is_hidden a.resets piece.stream_identifier piece.tsn ≡ false) where
       taken_unless_following : (o : Option Error)
           → refusal_in a.streams piece.stream_identifier piece a.receiver.max_receive_message_size ≡ o
-          → LeadsFollowing initial id (taken_unless o a piece).0 c
-      taken_unless_following (Some fault) e = same_following initial id a h c f
+          → LeadsFollowing P initial id (taken_unless o a piece).0 c
+      taken_unless_following (Some fault) e = same_following P initial id a h c f
       taken_unless_following None e =
-          message_any (λ (b : Shown). LeadsFollowing initial id b c) a piece
+          message_any (λ (b : Shown). LeadsFollowing P initial id b c) a piece
           (pushed_in a.streams piece.stream_identifier piece)
           (λ es.
           came_following a.resets (pushed_in a.streams piece.stream_identifier piece).0 es
-          (takes_on initial piece is_near a.resets a.streams c id a.receiver.max_receive_message_size f.stands new_there
+          (takes_on P initial piece so is_near a.resets a.streams c id a.receiver.max_receive_message_size f.stands
+          new_there
           out e))
 
-      taken_in_following : LeadsFollowing initial id (taken_in a piece).0 c
+      taken_in_following : LeadsFollowing P initial id (taken_in a piece).0 c
       unfolding taken_in
       taken_in_following =
           taken_unless_following
@@ -197,68 +199,70 @@ module _ (initial id : ℕ) (piece : ChunkPayloadData) (a : Shown) (h : History)
     -- Of a later one
 
     deferred_unless_following : is_hidden a.resets piece.stream_identifier piece.tsn ≡ true → (o : Option Error)
-        → LeadsFollowing initial id (deferred_unless o a piece).0 c
-    deferred_unless_following out (Some fault) = same_following initial id a h c f
+        → LeadsFollowing P initial id (deferred_unless o a piece).0 c
+    deferred_unless_following out (Some fault) = same_following P initial id a h c f
     deferred_unless_following out None =
         came_following (with_deferred a.resets piece) a.streams a.events
-        (waits_on initial piece is_near a.resets a.streams c id f.stands new_there out)
+        (waits_on P initial piece so is_near a.resets a.streams c id f.stands new_there out)
 
     deferred_if_following : is_hidden a.resets piece.stream_identifier piece.tsn ≡ true → (credit : Bool)
-        → LeadsFollowing initial id
+        → LeadsFollowing P initial id
         (if◌then◌else◌ {A = Shown × Option Error} credit (deferred a piece) (a, None)).0 c
     deferred_if_following out true =
         deferred_unless_following out (refusal_of a.resets piece a.receiver.max_receive_message_size)
-    deferred_if_following out false = same_following initial id a h c f
+    deferred_if_following out false = same_following P initial id a h c f
 
     deferred_following : is_hidden a.resets piece.stream_identifier piece.tsn ≡ true
-        → LeadsFollowing initial id (deferred_where_admitted a piece).0 c
+        → LeadsFollowing P initial id (deferred_where_admitted a piece).0 c
     unfolding deferred_where_admitted
     deferred_following out = deferred_if_following out (admits a.receiver piece.tsn (all_waiting a))
 
 -- What follows DATA that was taken in
 
-module _ (initial id : ℕ) (c : Course) where
-  skips_behind : (x : Shown × Option Error) (k : ℕ) → LeadsFollowing initial id x.0 c
-      → LeadsFollowing initial id (then_skips x k).0 c
+module _ (P : ChunkPayloadData → Type 0) (initial id : ℕ) (c : Course) where
+  skips_behind : (x : Shown × Option Error) (k : ℕ) → LeadsFollowing P initial id x.0 c
+      → LeadsFollowing P initial id (then_skips x k).0 c
   skips_behind (b, None) k l =
-      then_following initial id b (skips_applied_of k b) c l (skips_following initial id k b l.past l.after l.follows)
+      then_following P initial id b (skips_applied_of k b) c l
+      (skips_following P initial id k b l.past l.after l.follows)
   skips_behind (b, Some fault) k l = l
 
-  settles_behind : (x : Shown × Option Error) → LeadsFollowing initial id x.0 c
-      → LeadsFollowing initial id (settled_unless x) c
+  settles_behind : (x : Shown × Option Error) → LeadsFollowing P initial id x.0 c
+      → LeadsFollowing P initial id (settled_unless x) c
   settles_behind (b, None) l =
-      then_following initial id b (settled b) c l (settled_following initial id b l.past l.after l.follows)
+      then_following P initial id b (settled b) c l (settled_following P initial id b l.past l.after l.follows)
   settles_behind (b, Some fault) l = l
 
   asks_behind : (x : Shown × Option Error) (piece : ChunkPayloadData) (trigger : AckTrigger)
-      → LeadsFollowing initial id x.0 c
-      → LeadsFollowing initial id (asks_or_faults x piece.immediate_sack trigger).0 c
+      → LeadsFollowing P initial id x.0 c
+      → LeadsFollowing P initial id (asks_or_faults x piece.immediate_sack trigger).0 c
   asks_behind x piece trigger l =
-      subst (λ (z : Shown). LeadsFollowing initial id z c) (sym (asks_same x piece trigger)) (settles_behind x l)
+      subst (λ (z : Shown). LeadsFollowing P initial id z c) (sym (asks_same x piece trigger)) (settles_behind x l)
 
-module _ (initial id : ℕ) (piece : ChunkPayloadData) (trigger : AckTrigger) where
-  admitted_following : (a : Shown) (h : History) (c : Course) → Follows initial id a h c
+module _ (P : ChunkPayloadData → Type 0) (initial id : ℕ) (piece : ChunkPayloadData) (trigger : AckTrigger)
+    (so : P piece) where
+  admitted_following : (a : Shown) (h : History) (c : Course) → Follows P initial id a h c
       → IsOfCourse initial id c piece → is_new_to a.receiver piece.tsn ≡ true
       → is_hidden a.resets piece.stream_identifier piece.tsn ≡ false → (credit : Bool)
-      → LeadsFollowing initial id
+      → LeadsFollowing P initial id
       (if◌then◌else◌ {A = Shown × Option Error} credit (then_skips (taken_in a piece) piece.stream_identifier)
       (a, None)).0 c
   admitted_following a h c f came new out true =
-      skips_behind initial id c (taken_in a piece) piece.stream_identifier
-      (taken_in_following initial id piece a h c f came new out)
-  admitted_following a h c f came new out false = same_following initial id a h c f
+      skips_behind P initial id c (taken_in a piece) piece.stream_identifier
+      (taken_in_following P initial id piece a h c f came so new out)
+  admitted_following a h c f came new out false = same_following P initial id a h c f
 
-  new_following : (a : Shown) (h : History) (c : Course) → Follows initial id a h c
+  new_following : (a : Shown) (h : History) (c : Course) → Follows P initial id a h c
       → IsOfCourse initial id c piece → is_new_to a.receiver piece.tsn ≡ true
       → is_hidden a.resets piece.stream_identifier piece.tsn ≡ false
-      → LeadsFollowing initial id (on_new_data (a, true) piece trigger).0 c
+      → LeadsFollowing P initial id (on_new_data (a, true) piece trigger).0 c
   new_following a h c f came new out =
-      asks_behind initial id c (taken_where_admitted a piece) piece trigger
+      asks_behind P initial id c (taken_where_admitted a piece) piece trigger
       (admitted_following a h c f came new out (admits a.receiver piece.tsn (all_waiting a)))
 
-  made_following : (a : Shown) (h : History) (c : Course) → Follows initial id a h c
+  made_following : (a : Shown) (h : History) (c : Course) → Follows P initial id a h c
       → is_some (stream_at a.streams piece.stream_identifier) ≡ false
-      → LeadsFollowing initial id (with_new_stream a piece.stream_identifier) c
+      → LeadsFollowing P initial id (with_new_stream a piece.stream_identifier) c
   made_following a h c f none =
       let binds : Binds (with_new_stream a piece.stream_identifier) h = record {
         first = f.binds.first;
@@ -267,60 +271,60 @@ module _ (initial id : ℕ) (piece : ChunkPayloadData) (trigger : AckTrigger) wh
             same_held h h a.streams (with_new_stream a piece.stream_identifier).streams (past_itself h) f.binds.held;
         marked = f.binds.marked;
       } in
-      keeps_following initial id a (with_new_stream a piece.stream_identifier) h h c f binds (past_itself h)
-      (made_keeps initial id a.resets a.streams piece.stream_identifier a.sender.queue.next_message_id kinds.Unknown
+      keeps_following P initial id a (with_new_stream a piece.stream_identifier) h h c f binds (past_itself h)
+      (made_keeps P initial id a.resets a.streams piece.stream_identifier a.sender.queue.next_message_id kinds.Unknown
       (none_live (stream_at a.streams piece.stream_identifier) none)) refl
 
-  found_if : (there left : Bool) (a : Shown) (h : History) (c : Course) → Follows initial id a h c
+  found_if : (there left : Bool) (a : Shown) (h : History) (c : Course) → Follows P initial id a h c
       → IsOfCourse initial id c piece → is_new_to a.receiver piece.tsn ≡ true
       → is_hidden a.resets piece.stream_identifier piece.tsn ≡ false
       → is_some (stream_at a.streams piece.stream_identifier) ≡ there
-      → LeadsFollowing initial id
+      → LeadsFollowing P initial id
       (on_new_data
       (if◌then◌else◌ {A = Shown × Bool} there (a, true)
       (if◌then◌else◌ {A = Shown × Bool} (not left) (a, false) (with_new_stream a piece.stream_identifier, true)))
       piece trigger).0 c
   found_if true left a h c f came new out e = new_following a h c f came new out
-  found_if false false a h c f came new out e = same_following initial id a h c f
+  found_if false false a h c f came new out e = same_following P initial id a h c f
   found_if false true a h c f came new out e =
-      let l : LeadsFollowing initial id (with_new_stream a piece.stream_identifier) c = made_following a h c f e in
-      then_following initial id (with_new_stream a piece.stream_identifier)
+      let l : LeadsFollowing P initial id (with_new_stream a piece.stream_identifier) c = made_following a h c f e in
+      then_following P initial id (with_new_stream a piece.stream_identifier)
       (on_new_data (with_new_stream a piece.stream_identifier, true) piece trigger).0 c l
       (new_following (with_new_stream a piece.stream_identifier) l.past l.after l.follows
       (data_still initial id c l.after piece l.goes came) new out)
 
-  found_following : (a : Shown) (h : History) (c : Course) → Follows initial id a h c
+  found_following : (a : Shown) (h : History) (c : Course) → Follows P initial id a h c
       → IsOfCourse initial id c piece → is_new_to a.receiver piece.tsn ≡ true
       → is_hidden a.resets piece.stream_identifier piece.tsn ≡ false
-      → LeadsFollowing initial id (on_new_data (stream_found a piece.stream_identifier) piece trigger).0 c
+      → LeadsFollowing P initial id (on_new_data (stream_found a piece.stream_identifier) piece trigger).0 c
   unfolding stream_found
   found_following a h c f came new out =
       found_if (is_some (stream_at a.streams piece.stream_identifier)) (generation_left a.streams) a h c f came new out
       refl
 
-  counted_if : (next hidden : Bool) (a : Shown) (h : History) (c : Course) → Follows initial id a h c
+  counted_if : (next hidden : Bool) (a : Shown) (h : History) (c : Course) → Follows P initial id a h c
       → IsOfCourse initial id c piece → is_new_to a.receiver piece.tsn ≡ next
       → is_hidden a.resets piece.stream_identifier piece.tsn ≡ hidden
-      → LeadsFollowing initial id
+      → LeadsFollowing P initial id
       (if not next then asks (settled a) piece.immediate_sack trigger else
       if hidden then asks_or_faults (deferred_where_admitted a piece) piece.immediate_sack trigger else
       on_new_data (stream_found a piece.stream_identifier) piece trigger).0 c
   counted_if false hidden a h c f came e g =
-      subst (λ (z : Shown). LeadsFollowing initial id z c) (sym (asks_keeps (settled a) piece trigger))
-      (settled_following initial id a h c f)
+      subst (λ (z : Shown). LeadsFollowing P initial id z c) (sym (asks_keeps (settled a) piece trigger))
+      (settled_following P initial id a h c f)
   counted_if true true a h c f came e g =
-      asks_behind initial id c (deferred_where_admitted a piece) piece trigger
-      (deferred_following initial id piece a h c f came e g)
+      asks_behind P initial id c (deferred_where_admitted a piece) piece trigger
+      (deferred_following P initial id piece a h c f came so e g)
   counted_if true false a h c f came e g = found_following a h c f came e g
 
   -- A DATA chunk of the course keeps to it.
-  pub data_follows : (a : Shown) (h : History) (c : Course) → IsOfCourse initial id c piece → Follows initial id a h c
-      → LeadsFollowing initial id (on_data a piece trigger).0 c
+  pub data_follows : (a : Shown) (h : History) (c : Course) → IsOfCourse initial id c piece → Follows P initial id a h c
+      → LeadsFollowing P initial id (on_data a piece trigger).0 c
   unfolding on_data
   data_follows a h c came f =
-      let counted : LeadsFollowing initial id (counted_data a) c =
-      stays_following initial id a (counted_data a) h c refl refl refl f in
-      then_following initial id (counted_data a) (on_data a piece trigger).0 c counted
+      let counted : LeadsFollowing P initial id (counted_data a) c =
+      stays_following P initial id a (counted_data a) h c refl refl refl f in
+      then_following P initial id (counted_data a) (on_data a piece trigger).0 c counted
       (counted_if (is_new_to a.receiver piece.tsn) (is_hidden a.resets piece.stream_identifier piece.tsn)
       (counted_data a) counted.past counted.after counted.follows
       (data_still initial id c counted.after piece counted.goes came) refl refl)

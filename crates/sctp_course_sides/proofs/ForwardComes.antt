@@ -2,6 +2,7 @@
 use Rattle.std.proofs.Common.{◌≡◌, refl, sym, ap, ◌∙◌, subst, ℕ, suc, ◌+◌, ◌^◌, ◌<◌, ◌≤◌, Bool, true, false, not}
 use Rattle.std.proofs.Common.{◌&&◌, if◌then◌else◌, nat_lt, List, [], ◌∷◌, ◌++◌, arith}
 use Rattle.sctp_serial.specs.Serial.{tsn, tsn_past}
+use Rattle.sctp_wire_types.specs.declared.chunk.ChunkPayloadData.{ChunkPayloadData}
 use Rattle.sctp_wire_types.specs.declared.chunk.SkippedStream.{SkippedStream}
 use Rattle.sctp_model.specs.Packets.{mem}
 use Rattle.sctp_streams.specs.Stream.{stream_skipped}
@@ -64,40 +65,40 @@ sent_still initial c d t goes sent = record {
 -- Skips of ordered messages
 
 -- What keeps to courses, and leaves the peer's requests, the sender and the receiver.
-record KeepsAll (initial id : ℕ) (a b : Shown) : Type 0 where
-  keeps : KeepsCourse initial id a.resets a.streams b.resets b.streams
+record KeepsAll (P : ChunkPayloadData → Type 0) (initial id : ℕ) (a b : Shown) : Type 0 where
+  keeps : KeepsCourse P initial id a.resets a.streams b.resets b.streams
   peer : b.resets.peer ≡ a.resets.peer
   sender : b.sender ≡ a.sender
   receiver : b.receiver ≡ a.receiver
 
-module _ (initial id tsn : ℕ) where
+module _ (P : ChunkPayloadData → Type 0) (initial id tsn : ℕ) where
   skip_keeps_if : (c : Bool) (k ssn : ℕ) (a : Shown)
-      → KeepsAll initial id a
+      → KeepsAll P initial id a
       (if◌then◌else◌ {A = Shown} c (record a { resets = resets.with_skip a.resets k ssn tsn })
       (record a {
         streams = changed_stream (stream_skipped ssn) a.streams k;
         events = a.events ++ readable_told (becomes_ready_in a.streams k ssn) k;
       }))
   skip_keeps_if true k ssn a = record {
-    keeps = skip_keeps initial id a.resets a.streams k ssn tsn;
+    keeps = skip_keeps P initial id a.resets a.streams k ssn tsn;
     peer = (skip_alone a.resets k ssn tsn).peer;
     sender = refl;
     receiver = refl;
   }
   skip_keeps_if false k ssn a = record {
-    keeps = stream_skip_keeps initial id a.resets a.streams k ssn;
+    keeps = stream_skip_keeps P initial id a.resets a.streams k ssn;
     peer = refl;
     sender = refl;
     receiver = refl;
   }
 
-  skip_keeps_all : (k ssn : ℕ) (a : Shown) → KeepsAll initial id a (with_skip tsn k ssn a)
+  skip_keeps_all : (k ssn : ℕ) (a : Shown) → KeepsAll P initial id a (with_skip tsn k ssn a)
   unfolding with_skip
   skip_keeps_all k ssn a = skip_keeps_if (is_retiring a.resets k) k ssn a
 
-  skips_keep_all : (es : List SkippedStream) (a : Shown) → KeepsAll initial id a (with_skips tsn es a)
+  skips_keep_all : (es : List SkippedStream) (a : Shown) → KeepsAll P initial id a (with_skips tsn es a)
   skips_keep_all [] a = record {
-    keeps = keeps_same initial id a.resets a.streams;
+    keeps = keeps_same P initial id a.resets a.streams;
     peer = refl;
     sender = refl;
     receiver = refl;
@@ -105,21 +106,22 @@ module _ (initial id tsn : ℕ) where
   skips_keep_all (e ∷ es) a =
       let b : Shown = with_skip tsn e.stream_identifier e.stream_sequence_number a in
       let d : Shown = with_skips tsn es b in
-      let one : KeepsAll initial id a (with_skip tsn e.stream_identifier e.stream_sequence_number a) =
+      let one : KeepsAll P initial id a (with_skip tsn e.stream_identifier e.stream_sequence_number a) =
       skip_keeps_all e.stream_identifier e.stream_sequence_number a in
       let rest :
-      KeepsAll initial id (with_skip tsn e.stream_identifier e.stream_sequence_number a) (with_skips tsn (e ∷ es) a) =
+      KeepsAll P initial id (with_skip tsn e.stream_identifier e.stream_sequence_number a) (with_skips tsn (e ∷ es) a) =
       skips_keep_all es (with_skip tsn e.stream_identifier e.stream_sequence_number a) in
       record {
         keeps =
-            keeps_then initial id a.resets b.resets d.resets a.streams b.streams d.streams one.keeps rest.keeps;
+            keeps_then P initial id a.resets b.resets d.resets a.streams b.streams d.streams one.keeps rest.keeps;
         peer = rest.peer ∙ one.peer;
         sender = rest.sender ∙ one.sender;
         receiver = rest.receiver ∙ one.receiver;
       }
 
-kept_binds : (initial id : ℕ) (a b : Shown) (h : History) → KeepsAll initial id a b → Binds a h → Binds b h
-kept_binds initial id a b h k binds = record {
+kept_binds : (P : ChunkPayloadData → Type 0) (initial id : ℕ) (a b : Shown) (h : History) → KeepsAll P initial id a b
+    → Binds a h → Binds b h
+kept_binds P initial id a b h k binds = record {
   first = ap (λ (s : Sender). s.queue.first_tsn) k.sender ∙ binds.first;
   peer_last_tsn = ap (λ (r : Receiver). r.peer_last_tsn) k.receiver ∙ binds.peer_last_tsn;
   held = same_held h h a.streams b.streams (past_itself h) (held_by a.receiver b.receiver k.receiver binds.held);
@@ -133,7 +135,8 @@ kept_binds initial id a b h k binds = record {
     marked_by r s e l = subst (λ (x : Sender). AreMarkedRight x.queue.in_flight) (sym e) l
 
 -- A side that follows the course passes over all up to a TSN.
-module _ (initial id tsn : ℕ) (a : Shown) (h : History) (c : Course) (f : Follows initial id a h c)
+module _ (P : ChunkPayloadData → Type 0) (initial id tsn : ℕ) (a : Shown) (h : History) (c : Course)
+    (f : Follows P initial id a h c)
     (sent : IsSentUpTo initial c tsn) (ahead : is_ahead a tsn ≡ true) where
   lies : IsAhead h tsn
   lies = lies_ahead h a.streams a.receiver tsn f.binds.peer_last_tsn f.binds.held ahead
@@ -145,19 +148,20 @@ module _ (initial id tsn : ℕ) (a : Shown) (h : History) (c : Course) (f : Foll
 
   placed : (reach_in h < sent.reach) × (suc (offset_in h tsn) ≡ sent.reach)
   placed =
-      at_place h.peer initial (reach_in h) tsn sent.reach f.reached.peer sent.is (reach_small initial id a h c f)
+      at_place h.peer initial (reach_in h) tsn sent.reach f.reached.peer sent.is (reach_small P initial id a h c f)
       upto_near sent.some lies.near
 
-  passed_following : LeadsFollowing initial id (with_passed a tsn) c
+  passed_following : LeadsFollowing P initial id (with_passed a tsn) c
   passed_following =
       let b : Shown = with_passed a tsn in
       let k : History = acts.with_passed h (offset_in h tsn) in
       let n : StreamMap = passed_in a.streams tsn in
-      let keeps : KeepsCourse initial id a.resets a.streams (without_unordered a.resets tsn) (passed_in a.streams tsn) =
-      keeps_then initial id a.resets a.resets (without_unordered a.resets tsn) a.streams n n
-      (passed_keeps initial id a.resets a.streams tsn) (unordered_keeps initial id a.resets n tsn) in
-      let g : GoesOnBeside initial id (without_unordered a.resets tsn) (passed_in a.streams tsn) c =
-      (beside_keeps initial id a.resets (without_unordered a.resets tsn) a.streams n c keeps
+      let keeps : KeepsCourse P initial id a.resets a.streams (without_unordered a.resets tsn)
+      (passed_in a.streams tsn) =
+      keeps_then P initial id a.resets a.resets (without_unordered a.resets tsn) a.streams n n
+      (passed_keeps P initial id a.resets a.streams tsn) (unordered_keeps P initial id a.resets n tsn) in
+      let g : GoesOnBeside P initial id (without_unordered a.resets tsn) (passed_in a.streams tsn) c =
+      (beside_keeps P initial id a.resets (without_unordered a.resets tsn) a.streams n c keeps
       (unordered_alone a.resets tsn).peer f.stands).0 in
       let binds : Binds b k = record {
         first = f.binds.first;
@@ -173,7 +177,7 @@ module _ (initial id tsn : ℕ) (a : Shown) (h : History) (c : Course) (f : Foll
       reach_grown h k (λ o m. m)
       (subst (λ p. h.passed ≤ p) (sym is) (passes h.passed (reach_in h) sent.reach before less)) in
       let at : g.after.point ≡ reach_in h = g.point ∙ f.reached.point in
-      reaches initial id a b h k c g.after f binds refl g.goes g.told g.stands
+      reaches P initial id a b h k c g.after f binds refl g.goes g.told g.stands
       (subst (λ p. p ≤ reach_in k) (sym at) grown)
       (λ o m. f.reached.taken o (subst (λ xs. mem o xs ≡ true) g.taken m)) f.reached.assigned
       (subst (λ p. p ≤ c.assigned) (sym is) sent.assigned)
@@ -181,38 +185,39 @@ module _ (initial id tsn : ℕ) (a : Shown) (h : History) (c : Course) (f : Foll
       passes : (passed reach upto : ℕ) → passed ≤ reach → reach < upto → passed ≤ upto
       passes passed reach upto l m = omega (arith, l, m)
 
-module _ (initial id tsn : ℕ) (es : List SkippedStream) (trigger : AckTrigger) (now : ℕ) where
-  ahead_following : (a : Shown) (h : History) (c : Course) → Follows initial id a h c → IsSentUpTo initial c tsn
+module _ (P : ChunkPayloadData → Type 0) (initial id tsn : ℕ) (es : List SkippedStream) (trigger : AckTrigger)
+    (now : ℕ) where
+  ahead_following : (a : Shown) (h : History) (c : Course) → Follows P initial id a h c → IsSentUpTo initial c tsn
       → is_ahead a tsn ≡ true
-      → LeadsFollowing initial id (asks_behind (settled (with_passed (with_skips tsn es a) tsn)) trigger).0 c
+      → LeadsFollowing P initial id (asks_behind (settled (with_passed (with_skips tsn es a) tsn)) trigger).0 c
   ahead_following a h c f sent ahead =
-      let k : KeepsAll initial id a (with_skips tsn es a) = skips_keep_all initial id tsn es a in
-      let skipped : LeadsFollowing initial id (with_skips tsn es a) c =
-      keeps_following initial id a (with_skips tsn es a) h h c f
-      (kept_binds initial id a (with_skips tsn es a) h k f.binds) (past_itself h) k.keeps k.peer in
+      let k : KeepsAll P initial id a (with_skips tsn es a) = skips_keep_all P initial id tsn es a in
+      let skipped : LeadsFollowing P initial id (with_skips tsn es a) c =
+      keeps_following P initial id a (with_skips tsn es a) h h c f
+      (kept_binds P initial id a (with_skips tsn es a) h k f.binds) (past_itself h) k.keeps k.peer in
       let still : is_ahead (with_skips tsn es a) tsn ≡ true =
       ap (λ (r : Receiver). nat_lt tsn (2 ^ 32) && not (is_behind r tsn)) k.receiver ∙ ahead in
-      let passed : LeadsFollowing initial id (with_passed (with_skips tsn es a) tsn) skipped.after =
-      passed_following initial id tsn (with_skips tsn es a) skipped.past skipped.after skipped.follows
+      let passed : LeadsFollowing P initial id (with_passed (with_skips tsn es a) tsn) skipped.after =
+      passed_following P initial id tsn (with_skips tsn es a) skipped.past skipped.after skipped.follows
       (sent_still initial c skipped.after tsn skipped.goes sent) still in
-      let both : LeadsFollowing initial id (with_passed (with_skips tsn es a) tsn) c =
-      then_following initial id (with_skips tsn es a) (with_passed (with_skips tsn es a) tsn) c skipped passed in
-      let all : LeadsFollowing initial id (settled (with_passed (with_skips tsn es a) tsn)) c =
-      then_following initial id (with_passed (with_skips tsn es a) tsn)
+      let both : LeadsFollowing P initial id (with_passed (with_skips tsn es a) tsn) c =
+      then_following P initial id (with_skips tsn es a) (with_passed (with_skips tsn es a) tsn) c skipped passed in
+      let all : LeadsFollowing P initial id (settled (with_passed (with_skips tsn es a) tsn)) c =
+      then_following P initial id (with_passed (with_skips tsn es a) tsn)
       (settled (with_passed (with_skips tsn es a) tsn)) c both
-      (settled_following initial id (with_passed (with_skips tsn es a) tsn) both.past both.after both.follows) in
-      subst (λ (z : Shown). LeadsFollowing initial id z c)
+      (settled_following P initial id (with_passed (with_skips tsn es a) tsn) both.past both.after both.follows) in
+      subst (λ (z : Shown). LeadsFollowing P initial id z c)
       (sym (flow_same (is_exhausted (settled (with_passed (with_skips tsn es a) tsn)))
       (settled (with_passed (with_skips tsn es a) tsn)) _ _)) all
 
   -- A FORWARD TSN that passes over no more than was sent keeps to the course.
-  pub forward_follows : (a : Shown) (h : History) (c : Course) → IsSentUpTo initial c tsn → Follows initial id a h c
-      → LeadsFollowing initial id (on_forward a tsn es trigger now).0 c
+  pub forward_follows : (a : Shown) (h : History) (c : Course) → IsSentUpTo initial c tsn → Follows P initial id a h c
+      → LeadsFollowing P initial id (on_forward a tsn es trigger now).0 c
   forward_follows a h c sent f =
       forward_is_one_of tsn es
       (λ (b : Shown) (x : Shown × Flow).
-      (k : History) (d : Course) → IsSentUpTo initial d tsn → Follows initial id b k d
-      → LeadsFollowing initial id x.0 d) trigger now
-      (λ b e k d up g. stays_following initial id b (refused b trigger).0 k d refl refl refl g)
-      (λ b e i k d up g. stays_following initial id b (acknowledged_at_once b now) k d refl refl refl g)
+      (k : History) (d : Course) → IsSentUpTo initial d tsn → Follows P initial id b k d
+      → LeadsFollowing P initial id x.0 d) trigger now
+      (λ b e k d up g. stays_following P initial id b (refused b trigger).0 k d refl refl refl g)
+      (λ b e i k d up g. stays_following P initial id b (acknowledged_at_once b now) k d refl refl refl g)
       (λ b e i k d up g. ahead_following b k d g up i) a h c sent f

@@ -5,6 +5,7 @@ use Rattle.std.proofs.Common.{Bool, true, false, ◌&&◌, List, [], ◌∷◌, 
 use Rattle.std.specs.List.{AllByRecursion}
 use Rattle.std.proofs.lemmas.Bool.{false≢true}
 use Rattle.sctp_serial.specs.Serial.{tsn}
+use Rattle.sctp_wire_types.specs.declared.chunk.ChunkPayloadData.{ChunkPayloadData}
 use Rattle.sctp_wire_types.specs.declared.chunk.Chunk.TheVariants as chunks
 use Rattle.sctp_wire_types.specs.declared.chunk.ChunkInit.{ChunkInit}
 use Rattle.sctp_wire_types.specs.declared.packet.CommonHeader.{CommonHeader}
@@ -15,11 +16,9 @@ use Rattle.sctp_model.specs.Packets.{mem}
 use Rattle.sctp_model.proofs.Lists.{all_join}
 use Rattle.sctp_streams.specs.Streams.{StreamMap}
 use Rattle.sctp_inbound.specs.declared.receiver.AckTrigger.{AckTrigger}
-use Rattle.sctp_inbound.specs.declared.receiver.Receiver.{Receiver}
 use Rattle.sctp_inbound.specs.Greeting.{first_cookie}
 use Rattle.sctp_inbound.specs.Handshake.{comes_back, header_of}
 use Rattle.sctp_inbound.specs.Receiver.{past_of}
-use Rattle.sctp_outbound.specs.declared.sender.Sender.{Sender}
 use Rattle.sctp_reset_requests.specs.declared.own_request.OwnRequest.{OwnRequest}
 use Rattle.sctp_reset_requests.specs.Laws.{HasNumber}
 use Rattle.sctp_reset_requests.specs.Own.{OwnView, open_with}
@@ -50,16 +49,16 @@ greeted true t h = with_peer h t
 greeted false t h = h
 
 -- What is so of a side that follows a course and of one that awaits its peer.
-record IsBefore (initial id : ℕ) (a : Shown) (c : Course) : Type 0 where
+pub record IsBefore (P : ChunkPayloadData → Type 0) (initial id : ℕ) (a : Shown) (c : Course) : Type 0 where
   pub kept : Invariant c
-  pub stands : Stands initial id a.resets.generations a.streams a.resets.peer.in_progress c
+  pub stands : Stands P initial id a.resets.generations a.streams a.resets.peer.in_progress c
   pub read_on : IsReadOn c
 
-before : (initial id : ℕ) (a : Shown) (h : History) (c : Course)
-    → (Follows initial id a h c ⊎ AwaitsIts initial id a c) → IsBefore initial id a c
-before initial id a h c (inl f) =
+before : (P : ChunkPayloadData → Type 0) (initial id : ℕ) (a : Shown) (h : History) (c : Course)
+    → (Follows P initial id a h c ⊎ AwaitsIts P initial id a c) → IsBefore P initial id a c
+before P initial id a h c (inl f) =
     record { kept = f.stands.kept; stands = f.stands.stands; read_on = f.stands.read_on }
-before initial id a h c (inr w) = record { kept = w.kept; stands = w.stands; read_on = w.read_on }
+before P initial id a h c (inr w) = record { kept = w.kept; stands = w.stands; read_on = w.read_on }
 
 none_asked : (performed : ℕ) (asked : List Request) → asked ≡ [] → performed < length asked → ⊥
 none_asked performed [] none l = omega (arith, l)
@@ -91,9 +90,10 @@ nothing_reached initial t h c same u = record {
 }
 
 -- the peer's numbers begin with its initial TSN
-met_stands : (initial id t : ℕ) (a : Shown) (c : Course) → t ≡ initial → initial < 2 ^ 32 → IsUntouched c
-    → IsBefore initial id a c → StandsBeside initial id (met_peer a.resets t) a.streams c
-met_stands initial id t a c same small u x = record {
+pub met_stands : (P : ChunkPayloadData → Type 0) (initial id t : ℕ) (a : Shown) (c : Course) → t ≡ initial
+    → initial < 2 ^ 32 → IsUntouched c
+    → IsBefore P initial id a c → StandsBeside P initial id (met_peer a.resets t) a.streams c
+met_stands P initial id t a c same small u x = record {
   kept = x.kept;
   stands = x.stands;
   read_on = x.read_on;
@@ -120,137 +120,157 @@ met_binds a b t h binds queue past = record {
 }
 
 -- A side that met its peer follows the course of each stream of it, of which nothing was sent.
-met_follows : (initial id t : ℕ) (a b : Shown) (h : History) (c : Course) → t ≡ initial → initial < 2 ^ 32
-    → IsUntouched c → Binds a h → IsBefore initial id a c → b.resets ≡ met_peer a.resets t → b.streams ≡ a.streams
+met_follows : (P : ChunkPayloadData → Type 0) (initial id t : ℕ) (a b : Shown) (h : History) (c : Course) → t ≡ initial
+    → initial < 2 ^ 32
+    → IsUntouched c → Binds a h → IsBefore P initial id a c → b.resets ≡ met_peer a.resets t → b.streams ≡ a.streams
     → b.sender.queue ≡ a.sender.queue → past_of b.receiver ≡ ((t + 2 ^ 32 - 1) % 2 ^ 32, [])
-    → Follows initial id b (with_peer h t) c
-met_follows initial id t a b h c same small u binds x resets streams queue past = record {
+    → Follows P initial id b (with_peer h t) c
+met_follows P initial id t a b h c same small u binds x resets streams queue past = record {
   small = small;
   few = few_asked c.asked u.asked;
   binds = met_binds a b t h binds queue past;
   stands =
-      subst₂ (λ (r : ResetsView) (m : StreamMap). StandsBeside initial id r m c) (sym resets) (sym streams)
-      (met_stands initial id t a c same small u x);
+      subst₂ (λ (r : ResetsView) (m : StreamMap). StandsBeside P initial id r m c) (sym resets) (sym streams)
+      (met_stands P initial id t a c same small u x);
   reached = nothing_reached initial t h c same u;
 }
 
--- a side of which nothing but its handshake changed stands where it stood
-still_binds : (a b : Shown) (h : History) → Binds a h → b.streams ≡ a.streams → b.sender ≡ a.sender
-    → b.receiver ≡ a.receiver → Binds b h
-still_binds a b h binds streams sender receiver = record {
-  first = ap (λ (s : Sender). s.queue.first_tsn) sender ∙ binds.first;
-  peer_last_tsn = ap (λ (r : Receiver). r.peer_last_tsn) receiver ∙ binds.peer_last_tsn;
+-- Of a side nothing changed that the courses of streams are seen by: resets and streams, what is in flight, and what
+-- came.
+pub record IsSeenAlike (a b : Shown) : Type 0 where
+  pub resets : b.resets ≡ a.resets
+  pub streams : b.streams ≡ a.streams
+  pub queue : b.sender.queue ≡ a.sender.queue
+  pub past : past_of b.receiver ≡ past_of a.receiver
+
+-- It stands where it stood,
+pub alike_binds : (a b : Shown) (h : History) → IsSeenAlike a b → Binds a h → Binds b h
+alike_binds a b h alike binds = record {
+  first = ap (λ (q : Outbound). q.first_tsn) alike.queue ∙ binds.first;
+  peer_last_tsn = ap (λ (z : ℕ × List ℕ). z.0) alike.past ∙ binds.peer_last_tsn;
   held =
-      subst₂ (λ (m : StreamMap) (r : Receiver). HoldsPast (came_on h m) r.held) (sym streams) (sym receiver)
+      subst₂ (λ (m : StreamMap) (z : ℕ × List ℕ). HoldsPast (came_on h m) z.1) (sym alike.streams) (sym alike.past)
       binds.held;
-  marked = subst (λ (s : Sender). AreMarkedRight s.queue.in_flight) (sym sender) binds.marked;
+  marked = subst (λ (q : Outbound). AreMarkedRight q.in_flight) (sym alike.queue) binds.marked;
 }
 
--- A side of which nothing but its handshake changed follows the course as before, or awaits its peer as before.
-still_before : (initial id : ℕ) (a b : Shown) (h : History) (c : Course) → b.resets ≡ a.resets
-    → b.streams ≡ a.streams → b.sender ≡ a.sender → b.receiver ≡ a.receiver
-    → (Follows initial id a h c ⊎ AwaitsIts initial id a c) → Follows initial id b h c ⊎ AwaitsIts initial id b c
-still_before initial id a b h c resets streams sender receiver (inl f) =
-    inl record {
-      small = f.small;
-      few = f.few;
-      binds = still_binds a b h f.binds streams sender receiver;
-      stands =
-          subst₂ (λ (r : ResetsView) (m : StreamMap). StandsBeside initial id r m c) (sym resets) (sym streams)
-          f.stands;
-      reached = f.reached;
-    }
-still_before initial id a b h c resets streams sender receiver (inr w) = inr record {
+-- follows the course as before,
+pub alike_follows : (P : ChunkPayloadData → Type 0) (initial id : ℕ) (a b : Shown) (h : History) (c : Course)
+    → IsSeenAlike a b → Follows P initial id a h c → Follows P initial id b h c
+alike_follows P initial id a b h c alike f = record {
+  small = f.small;
+  few = f.few;
+  binds = alike_binds a b h alike f.binds;
+  stands =
+      subst₂ (λ (r : ResetsView) (m : StreamMap). StandsBeside P initial id r m c) (sym alike.resets)
+      (sym alike.streams) f.stands;
+  reached = f.reached;
+}
+
+-- or awaits its peer as before.
+pub alike_awaits : (P : ChunkPayloadData → Type 0) (initial id : ℕ) (a b : Shown) (c : Course) → IsSeenAlike a b
+    → AwaitsIts P initial id a c → AwaitsIts P initial id b c
+alike_awaits P initial id a b c alike w = record {
   kept = w.kept;
   stands =
-      subst₂ (λ (r : ResetsView) (m : StreamMap). Stands initial id r.generations m r.peer.in_progress c)
-      (sym resets) (sym streams) w.stands;
+      subst₂ (λ (r : ResetsView) (m : StreamMap). Stands P initial id r.generations m r.peer.in_progress c)
+      (sym alike.resets) (sym alike.streams) w.stands;
   read_on = w.read_on;
-  unknown = ap (λ (r : ResetsView). r.peer.last_completed) resets ∙ w.unknown;
+  unknown = ap (λ (r : ResetsView). r.peer.last_completed) alike.resets ∙ w.unknown;
   untouched = w.untouched;
 }
 
+still_before : (P : ChunkPayloadData → Type 0) (initial id : ℕ) (a b : Shown) (h : History) (c : Course)
+    → IsSeenAlike a b → (Follows P initial id a h c ⊎ AwaitsIts P initial id a c)
+    → Follows P initial id b h c ⊎ AwaitsIts P initial id b c
+still_before P initial id a b h c alike (inl f) = inl (alike_follows P initial id a b h c alike f)
+still_before P initial id a b h c alike (inr w) = inr (alike_awaits P initial id a b c alike w)
+
 -- Where a greeting comes to a side that stands on this history, its peer's initial TSN being this one.
-module _ (initial id : ℕ) (a : Shown) (h : History) (c : Course) (small : initial < 2 ^ 32) (binds : Binds a h)
-    (was : Follows initial id a h c ⊎ AwaitsIts initial id a c) where
+module _ (P : ChunkPayloadData → Type 0) (initial id : ℕ) (a : Shown) (h : History) (c : Course)
+    (small : initial < 2 ^ 32) (binds : Binds a h)
+    (was : Follows P initial id a h c ⊎ AwaitsIts P initial id a c) where
   init_at : (counts : Bool) (header : CommonHeader) (init : ChunkInit) (trigger : AckTrigger)
       → is_beginning a.state ≡ counts → init.initial_tsn ≡ initial → (counts ≡ true → IsUntouched c)
-      → Follows initial id (on_init a header init trigger).0 (greeted counts init.initial_tsn h) c
-      ⊎ AwaitsIts initial id (on_init a header init trigger).0 c
+      → Follows P initial id (on_init a header init trigger).0 (greeted counts init.initial_tsn h) c
+      ⊎ AwaitsIts P initial id (on_init a header init trigger).0 c
   unfolding on_init
   init_at true header init trigger e same u =
-      rw e (inl (met_follows initial id init.initial_tsn a (answered (learned a header init)) h c same small (u refl)
-      binds (before initial id a h c was) refl refl refl refl))
+      rw e (inl (met_follows P initial id init.initial_tsn a (answered (learned a header init)) h c same small (u refl)
+      binds (before P initial id a h c was) refl refl refl refl))
   init_at false header init trigger e same u = rw e was
 
   echoed_at : (o : Option (List ℕ)) (b : Shown) (t : ℕ) (trigger : AckTrigger) (now : ℕ) → t ≡ initial
       → IsUntouched c → b.resets ≡ met_peer a.resets t → b.streams ≡ a.streams → b.sender.queue ≡ a.sender.queue
       → past_of b.receiver ≡ ((t + 2 ^ 32 - 1) % 2 ^ 32, [])
-      → Follows initial id (echoed o b trigger now).0 (with_peer h t) c
+      → Follows P initial id (echoed o b trigger now).0 (with_peer h t) c
   unfolding sends_cookie
   echoed_at None b t trigger now same u resets streams queue past =
-      met_follows initial id t a b h c same small u binds (before initial id a h c was) resets streams queue past
+      met_follows P initial id t a b h c same small u binds (before P initial id a h c was) resets streams queue past
   echoed_at (Some cookie) b t trigger now same u resets streams queue past =
-      met_follows initial id t a (with_echo b cookie now) h c same small u binds (before initial id a h c was) resets
+      met_follows P initial id t a (with_echo b cookie now) h c same small u binds
+      (before P initial id a h c was) resets
       streams queue past
 
   init_ack_at : (waits back : Bool) (header : CommonHeader) (init : ChunkInit) (trigger : AckTrigger) (now : ℕ)
       → is_cookie_wait a.state ≡ waits → comes_back a.handshake header ≡ back → init.initial_tsn ≡ initial
       → ((waits && back) ≡ true → IsUntouched c)
-      → Follows initial id (on_init_ack a header init trigger now).0 (greeted (waits && back) init.initial_tsn h) c
-      ⊎ AwaitsIts initial id (on_init_ack a header init trigger now).0 c
+      → Follows P initial id (on_init_ack a header init trigger now).0 (greeted (waits && back) init.initial_tsn h) c
+      ⊎ AwaitsIts P initial id (on_init_ack a header init trigger now).0 c
   unfolding on_init_ack
   init_ack_at true true header init trigger now e f same u =
       rw (e, f) (inl (echoed_at (first_cookie init.params) _ init.initial_tsn trigger now same (u refl) refl refl refl
       refl))
   init_ack_at true false header init trigger now e f same u =
-      rw (e, f) (still_before initial id a _ h c refl refl refl refl was)
+      rw (e, f) (still_before P initial id a _ h c (record { resets = refl; streams = refl; queue = refl; past = refl }) was)
   init_ack_at false back header init trigger now e f same u = rw e was
 
 -- the history is one on which the side stands
-on_some : (initial id : ℕ) (b : Shown) (k : History) (c : Course)
-    → (Follows initial id b k c ⊎ AwaitsIts initial id b c)
-    → ((j : History) × Follows initial id b j c) ⊎ AwaitsIts initial id b c
-on_some initial id b k c (inl f) = inl (k, f)
-on_some initial id b k c (inr w) = inr w
+on_some : (P : ChunkPayloadData → Type 0) (initial id : ℕ) (b : Shown) (k : History) (c : Course)
+    → (Follows P initial id b k c ⊎ AwaitsIts P initial id b c)
+    → ((j : History) × Follows P initial id b j c) ⊎ AwaitsIts P initial id b c
+on_some P initial id b k c (inl f) = inl (k, f)
+on_some P initial id b k c (inr w) = inr w
 
-module _ (initial id : ℕ) (a : Shown) (h : History) (c : Course) (header : CommonHeader) (init : ChunkInit)
+module _ (P : ChunkPayloadData → Type 0) (initial id : ℕ) (a : Shown) (h : History) (c : Course) (header : CommonHeader)
+    (init : ChunkInit)
     (trigger : AckTrigger) where
   -- An INIT of its peer comes to a side; where it counts nothing was sent to the side yet.
   pub init_follows_on : init.initial_tsn ≡ initial → initial < 2 ^ 32
       → (is_beginning a.state ≡ true → IsUntouched c) → Binds a h
-      → (Follows initial id a h c ⊎ AwaitsIts initial id a c)
-      → Follows initial id (on_init a header init trigger).0 (greeted (is_beginning a.state) init.initial_tsn h) c
-      ⊎ AwaitsIts initial id (on_init a header init trigger).0 c
+      → (Follows P initial id a h c ⊎ AwaitsIts P initial id a c)
+      → Follows P initial id (on_init a header init trigger).0 (greeted (is_beginning a.state) init.initial_tsn h) c
+      ⊎ AwaitsIts P initial id (on_init a header init trigger).0 c
   init_follows_on same small u binds was =
-      init_at initial id a h c small binds was (is_beginning a.state) header init trigger refl same u
+      init_at P initial id a h c small binds was (is_beginning a.state) header init trigger refl same u
 
   pub init_follows : init.initial_tsn ≡ initial → initial < 2 ^ 32 → (is_beginning a.state ≡ true → IsUntouched c)
-      → Binds a h → (Follows initial id a h c ⊎ AwaitsIts initial id a c)
-      → ((k : History) × Follows initial id (on_init a header init trigger).0 k c)
-      ⊎ AwaitsIts initial id (on_init a header init trigger).0 c
+      → Binds a h → (Follows P initial id a h c ⊎ AwaitsIts P initial id a c)
+      → ((k : History) × Follows P initial id (on_init a header init trigger).0 k c)
+      ⊎ AwaitsIts P initial id (on_init a header init trigger).0 c
   init_follows same small u binds was =
-      on_some initial id (on_init a header init trigger).0 (greeted (is_beginning a.state) init.initial_tsn h) c
+      on_some P initial id (on_init a header init trigger).0 (greeted (is_beginning a.state) init.initial_tsn h) c
       (init_follows_on same small u binds was)
 
   -- So it is with an INIT ACK: it counts where the side waits for one, and it comes back between the ports of its INIT.
   pub init_ack_follows_on : (now : ℕ) → init.initial_tsn ≡ initial → initial < 2 ^ 32
       → ((is_cookie_wait a.state && comes_back a.handshake header) ≡ true → IsUntouched c) → Binds a h
-      → (Follows initial id a h c ⊎ AwaitsIts initial id a c)
-      → Follows initial id (on_init_ack a header init trigger now).0
+      → (Follows P initial id a h c ⊎ AwaitsIts P initial id a c)
+      → Follows P initial id (on_init_ack a header init trigger now).0
       (greeted (is_cookie_wait a.state && comes_back a.handshake header) init.initial_tsn h) c
-      ⊎ AwaitsIts initial id (on_init_ack a header init trigger now).0 c
+      ⊎ AwaitsIts P initial id (on_init_ack a header init trigger now).0 c
   init_ack_follows_on now same small u binds was =
-      init_ack_at initial id a h c small binds was (is_cookie_wait a.state) (comes_back a.handshake header) header init
+      init_ack_at P initial id a h c small binds was (is_cookie_wait a.state)
+      (comes_back a.handshake header) header init
       trigger now refl refl same u
 
   pub init_ack_follows : (now : ℕ) → init.initial_tsn ≡ initial → initial < 2 ^ 32
       → ((is_cookie_wait a.state && comes_back a.handshake header) ≡ true → IsUntouched c) → Binds a h
-      → (Follows initial id a h c ⊎ AwaitsIts initial id a c)
-      → ((k : History) × Follows initial id (on_init_ack a header init trigger now).0 k c)
-      ⊎ AwaitsIts initial id (on_init_ack a header init trigger now).0 c
+      → (Follows P initial id a h c ⊎ AwaitsIts P initial id a c)
+      → ((k : History) × Follows P initial id (on_init_ack a header init trigger now).0 k c)
+      ⊎ AwaitsIts P initial id (on_init_ack a header init trigger now).0 c
   init_ack_follows now same small u binds was =
-      on_some initial id (on_init_ack a header init trigger now).0
+      on_some P initial id (on_init_ack a header init trigger now).0
       (greeted (is_cookie_wait a.state && comes_back a.handshake header) init.initial_tsn h) c
       (init_ack_follows_on now same small u binds was)
 

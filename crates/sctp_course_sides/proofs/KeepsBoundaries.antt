@@ -2,6 +2,7 @@
 use Rattle.std.proofs.Common.{◌≡◌, refl, sym, ap, ◌∙◌, subst, inl, inr, ℕ, Bool, true, false, eqb}
 use Rattle.std.proofs.Common.{if◌then◌else◌, List, [], ◌∷◌, ◌++◌, Option, Some, None, is_some}
 use Rattle.std.proofs.lemmas.Bool.{eqb-false, eqb-true, true≢false}
+use Rattle.sctp_wire_types.specs.declared.chunk.ChunkPayloadData.{ChunkPayloadData}
 use Rattle.sctp_wire_types.specs.declared.error.Error.TheVariants as errors
 use Rattle.sctp_receive_queues.specs.Messages.{ReceivedMessage}
 use Rattle.sctp_streams.specs.declared.event.Event.{Event}
@@ -41,28 +42,28 @@ live_of false (Some t) e = (t, refl)
 abbrev told_in : ℕ → List ℕ → Told
 told_in generation offsets = record { generation = generation; offsets = offsets }
 
-module _ (initial id : ℕ) where
+module _ (P : ChunkPayloadData → Type 0) (initial id : ℕ) where
   -- The course goes on to one in which this was read beyond what was before; unless the side was lost it follows that.
   abbrev pub Carries : Option ReceivedMessage → Shown → Shown → Course → Type 0
   Carries read a b c =
-      (d : Course) × GoesOn c d × Grows initial id read a c.told d.told
-      × (b.lost ≡ false → (k : History) × Follows initial id b k d)
+      (d : Course) × GoesOn c d × Grows P initial id read a c.told d.told
+      × (b.lost ≡ false → (k : History) × Follows P initial id b k d)
 
   -- A call by which nothing comes and nothing is read
 
   quiet_carries : (call : Call) (a : Shown) (h : History) (c : Course) → BringsAndReadsNothing call
-      → call_refusal call a ≡ None → Follows initial id a h c → Carries None a (carried_out call a).0 c
+      → call_refusal call a ≡ None → Follows P initial id a h c → Carries None a (carried_out call a).0 c
   quiet_carries call a h c quiet accepted f = by (carried_out call a).0.lost refl
     where
       by : (lost : Bool) → (carried_out call a).0.lost ≡ lost → Carries None a (carried_out call a).0 c
       by true e = (c, goes_nowhere c, refl, λ not_lost. absurd (true≢false (sym e ∙ not_lost)))
       by false e =
-          let on = call_follows initial id call a h c quiet accepted e f in
+          let on = call_follows P initial id call a h c quiet accepted e f in
           (on.0, on.1, on.2, λ not_lost. on.3)
 
   -- A datagram
 
-  packet_carries : (a b : Shown) (c : Course) → (l : LeadsUnlessLost initial id b c) → Carries None a b c
+  packet_carries : (a b : Shown) (c : Course) → (l : LeadsUnlessLost P initial id b c) → Carries None a b c
   packet_carries a b c l = (l.after, l.goes, l.told, l.follows)
 
   -- A read
@@ -70,7 +71,7 @@ module _ (initial id : ℕ) where
   -- a message that is given is read on the live stream
   reading_carries : (message : ReceivedMessage) (a b : Shown) (c : Course) (t : StreamView)
       → stream_at a.streams id ≡ Some t
-      → GoesOnReading initial id a message c (λ d. b.lost ≡ false → (k : History) × Follows initial id b k d)
+      → GoesOnReading P initial id a message c (λ d. b.lost ≡ false → (k : History) × Follows P initial id b k d)
       → Carries (Some message) a b c
   reading_carries message a b c t is (d, goes, offsets, made, generation, is_of, told, behind) = (
     d,
@@ -86,26 +87,26 @@ module _ (initial id : ℕ) where
   )
 
   own_read_carries : (m : Option ReceivedMessage) (a : Shown) (h : History) (c : Course)
-      → (read_from_stream a id).1 ≡ m → read_refusal a id ≡ None → Follows initial id a h c
+      → (read_from_stream a id).1 ≡ m → read_refusal a id ≡ None → Follows P initial id a h c
       → Carries m a (read_from_stream a id).0 c
-  own_read_carries None a h c e accepted f = silent_read_follows initial id a id h c (inr e) f
+  own_read_carries None a h c e accepted f = silent_read_follows P initial id a id h c (inr e) f
   own_read_carries (Some message) a h c e accepted f =
       let live = live_of a.failed (stream_at a.streams id) accepted in
       reading_carries message a (read_from_stream a id).0 c live.0 live.1
-      (read_follows initial id a h c message accepted e f)
+      (read_follows P initial id a h c message accepted e f)
 
   read_carries : (same : Bool) (k : ℕ) (a : Shown) (h : History) (c : Course) → eqb k id ≡ same
-      → read_refusal a k ≡ None → Follows initial id a h c
+      → read_refusal a k ≡ None → Follows P initial id a h c
       → Carries (if same then (read_from_stream a k).1 else None) a (read_from_stream a k).0 c
   read_carries true k a h c e accepted f =
       subst (λ (i : ℕ). read_refusal a i ≡ None → Carries (read_from_stream a i).1 a (read_from_stream a i).0 c)
       (sym (eqb-true k id e)) (λ own. own_read_carries (read_from_stream a id).1 a h c refl own f) accepted
-  read_carries false k a h c e accepted f = silent_read_follows initial id a k h c (inl (eqb-false k id e)) f
+  read_carries false k a h c e accepted f = silent_read_follows P initial id a k h c (inl (eqb-false k id e)) f
 
   -- Any call that is carried out
 
-  call_carries : (call : Call) (a : Shown) (h : History) (c : Course) → Brings initial id c call
-      → call_refusal call a ≡ None → Follows initial id a h c
+  call_carries : (call : Call) (a : Shown) (h : History) (c : Course) → Brings P initial id c call
+      → call_refusal call a ≡ None → Follows P initial id a h c
       → Carries (message_read id call a) a (carried_out call a).0 c
   call_carries (Call.OpenStream k kind) a h c brings e f = quiet_carries (Call.OpenStream k kind) a h c tt e f
   call_carries (Call.Write k named bytes) a h c brings e f = quiet_carries (Call.Write k named bytes) a h c tt e f
@@ -122,7 +123,7 @@ module _ (initial id : ℕ) where
   call_carries (Call.HandleTimeout now) a h c brings e f = quiet_carries (Call.HandleTimeout now) a h c tt e f
   call_carries (Call.HandleEvent packet now) a h c brings e f =
       packet_carries a (after_packet a packet now) c
-      (packet_follows initial id packet a (after_packet a packet now) h c now brings f refl)
+      (packet_follows P initial id packet a (after_packet a packet now) h c now brings.0 brings.1 f refl)
   call_carries (Call.Stop k) a h c brings e f = quiet_carries (Call.Stop k) a h c tt e f
   call_carries (Call.CloseStream k) a h c brings e f = quiet_carries (Call.CloseStream k) a h c tt e f
 
@@ -130,7 +131,7 @@ module _ (initial id : ℕ) where
 
   -- whatever is so of a present side that follows a course, is so of what the call leaves
   module _ (Later : Shown → Course → Type 0)
-      (on : (b : Shown) (h : History) (d : Course) → IsPresent b → Follows initial id b h d → Later b d) where
+      (on : (b : Shown) (h : History) (d : Course) → IsPresent b → Follows P initial id b h d → Later b d) where
     -- nothing was read, and the course is where it was
     nothing_leads : (b : Shown) (c : Course) → Invariant c → (IsPresent b → Later b c)
         → LeadsAlong ReadsNothing b c Later
@@ -143,7 +144,7 @@ module _ (initial id : ℕ) where
     }
 
     carried_leads : (read : Option ReceivedMessage) (a b : Shown) (c : Course) → Invariant c → Carries read a b c
-        → LeadsAlong (Grows initial id read a) b c Later
+        → LeadsAlong (Grows P initial id read a) b c Later
     carried_leads read a b c kept (d, goes, grows, follows) = record {
       after = d;
       goes = goes;
@@ -153,7 +154,7 @@ module _ (initial id : ℕ) where
     }
 
     call_leads : (call : Call) (told : List Event) (a b : Shown) (h : History) (c : Course)
-        → Brings initial id c call → Follows initial id a h c → LeadsEitherWay initial id call told a b c Later
+        → Brings P initial id c call → Follows P initial id a h c → LeadsEitherWay P initial id call told a b c Later
     call_leads call told a b h c brings f = record {
       done = λ carried.
           carried_leads (message_read id call a) a b c f.stands.kept
@@ -161,24 +162,24 @@ module _ (initial id : ℕ) where
           (call_carries call a h c brings carried.accepted f));
       unchanged = λ same.
           nothing_leads b c f.stands.kept
-          (λ present. on b h c present (subst (λ (x : Shown). Follows initial id x h c) (sym same.same) f));
+          (λ present. on b h c present (subst (λ (x : Shown). Follows P initial id x h c) (sym same.same) f));
       failed = λ fails.
           nothing_leads b c f.stands.kept
           (λ present. absurd (true≢false (sym fails.failed.marked ∙ present.working)));
     }
 
 -- turn after turn
-pub one_side_keeps_boundaries : OneSideKeepsBoundaries
-one_side_keeps_boundaries initial id [] a h c f = the_invariant_is_enough c f.stands.kept
-one_side_keeps_boundaries initial id (turn ∷ turns) a h c f =
+pub one_side_keeps_boundaries : (P : ChunkPayloadData → Type 0) → OneSideKeepsBoundaries P
+one_side_keeps_boundaries P initial id [] a h c f = the_invariant_is_enough c f.stands.kept
+one_side_keeps_boundaries P initial id (turn ∷ turns) a h c f =
     λ b told sent few brings.
-    call_leads initial id (KeepsAlong initial id turns)
-    (λ z k d there follows. one_side_keeps_boundaries initial id turns z k d follows) turn.call told a b h
-    (run turn.sent c) brings (sent_beside initial id a h c turn.sent sent few f)
+    call_leads P initial id (KeepsAlong P initial id turns)
+    (λ z k d there follows. one_side_keeps_boundaries P initial id turns z k d follows) turn.call told a b h
+    (run turn.sent c) brings (sent_beside P initial id a h c turn.sent sent few f)
 
 -- and from two tokens on
-pub joined_sides_keep_boundaries : JoinedSidesKeepBoundaries
-joined_sides_keep_boundaries config size remote_addr local_ip own peer id turns own_small peer_small =
-    one_side_keeps_boundaries peer.initial_tsn id turns (joined config size remote_addr local_ip own peer)
+pub joined_sides_keep_boundaries : (P : ChunkPayloadData → Type 0) → JoinedSidesKeepBoundaries P
+joined_sides_keep_boundaries P config size remote_addr local_ip own peer id turns own_small peer_small =
+    one_side_keeps_boundaries P peer.initial_tsn id turns (joined config size remote_addr local_ip own peer)
     (begun own.initial_tsn peer.initial_tsn) fresh_course
-    (joined_follows config size remote_addr local_ip own peer id own_small peer_small)
+    (joined_follows P config size remote_addr local_ip own peer id own_small peer_small)

@@ -32,6 +32,7 @@ use Rattle.sctp_assoc.specs.Replies.{packet_in}
 use Rattle.sctp_assoc.specs.Shown.{Shown}
 use Rattle.sctp_assoc.specs.Shutdown.{endpoint_event_polled}
 use Rattle.sctp_assoc.proofs.Stopping.{stop_refusal_stays}
+use Rattle.sctp_sides.specs.Meeting.{Greets, Stage}
 use Rattle.sctp_sides.specs.NoReset.{HasNoReset, control_packets}
 use Rattle.sctp_sides.specs.OneSide.{Call, IsCarriedOut, call_refusal, carried_out, with_told}
 use Rattle.sctp_sides.specs.SideLaws.{HoldsNothing, IsLive, IsWaitingToGo, OfEachChunk}
@@ -45,7 +46,6 @@ use Rattle.sctp_sides.proofs.Proved.{stops_are_in_established, told_events_begin
 use Rattle.sctp_sides.proofs.Proved.{what_holds_nothing_gives_nothing, what_waits_goes_out_as_it_is}
 use Rattle.sctp_sides.proofs.TimersOverTimeouts.{unarmed_timeouts_do_nothing}
 use Rattle.sctp_sides.proofs.TimersRun.{begins_established}
-use Rattle.sctp_course_sides.specs.Following.{IsNoGreeting}
 use Rattle.sctp_course_sides.specs.Follows.{ChunkComes}
 use Rattle.sctp_course_sides.specs.Honest.{IsHonest}
 use Rattle.sctp_course_sides.specs.Over.{ControlSaysNothing, IsOver, SaysNothing}
@@ -238,18 +238,29 @@ over_says a b now over on =
     (λ bytes all. each_weaker (IsWaitingToGo a) SaysNothing (waiting_says_nothing a over) (packet_in bytes) all)
     (what_waits_goes_out_as_it_is a over.plain on.control_again))
 
--- Such a chunk is of every course, and begins no association.
-pub nothing_comes : (initial id : ℕ) (c : Course) (chunk : Chunk) → SaysNothing chunk
-    → ChunkComes initial id c chunk × IsNoGreeting chunk
-nothing_comes initial id c (chunks.Data piece) says = absurd says
-nothing_comes initial id c (chunks.Init init) says = absurd says
-nothing_comes initial id c (chunks.InitAck init) says = absurd says
-nothing_comes initial id c (chunks.ForwardTsn forward) says = absurd says
-nothing_comes initial id c (chunks.IForwardTsn forward) says = absurd says
-nothing_comes initial id c (chunks.Reconfig reconfig) says = absurd says
-nothing_comes initial id c chunk says = (tt, tt)
+-- Such a chunk is of every course,
+pub nothing_comes : (initial id : ℕ) (c : Course) (chunk : Chunk) → SaysNothing chunk → ChunkComes initial id c chunk
+nothing_comes initial id c (chunks.Abort abort) says = tt
+nothing_comes initial id c (chunks.Error error) says = tt
+nothing_comes initial id c (chunks.Shutdown cumulative_tsn_ack) says = tt
+nothing_comes initial id c chunks.ShutdownAck says = tt
+nothing_comes initial id c chunks.ShutdownComplete says = tt
+nothing_comes initial id c chunk says = absurd says
 
 -- and honest
 pub nothing_is_honest : (initial : ℕ) (c : Course) (chunk : Chunk) → SaysNothing chunk → IsHonest initial c chunk
-nothing_is_honest initial c (chunks.Reconfig reconfig) says = absurd says
-nothing_is_honest initial c chunk says = (tt, tt)
+nothing_is_honest initial c (chunks.Abort abort) says = (tt, tt)
+nothing_is_honest initial c (chunks.Error error) says = (tt, tt)
+nothing_is_honest initial c (chunks.Shutdown cumulative_tsn_ack) says = (tt, tt)
+nothing_is_honest initial c chunks.ShutdownAck says = (tt, tt)
+nothing_is_honest initial c chunks.ShutdownComplete says = (tt, tt)
+nothing_is_honest initial c chunk says = absurd says
+
+-- so does it of the side's handshake, whatever the stage of that
+pub nothing_greets : (own : ℕ) (s : Stage) (chunk : Chunk) → SaysNothing chunk → Greets own s chunk
+nothing_greets own s (chunks.Abort abort) says = tt
+nothing_greets own s (chunks.Error error) says = tt
+nothing_greets own s (chunks.Shutdown cumulative_tsn_ack) says = tt
+nothing_greets own s chunks.ShutdownAck says = tt
+nothing_greets own s chunks.ShutdownComplete says = tt
+nothing_greets own s chunk says = absurd says

@@ -25,7 +25,6 @@ use Rattle.sctp_assoc.specs.Replies.{packet_in}
 use Rattle.sctp_assoc.specs.Shown.{Shown}
 use Rattle.sctp_sides.specs.SideLaws.{IsExchanged, IsWaitingToGo, OfEachChunk}
 use Rattle.sctp_course_sides.specs.Answers.{ChunkIsTrue, ControlIsTrue, IsOfPerformed}
-use Rattle.sctp_course_sides.specs.Following.{IsNoGreeting, PacketComes}
 use Rattle.sctp_course_sides.specs.Follows.{ChunkComes, IsAskedIn, IsOfCourse, IsSentUpTo, ParamComes, ParamComesIf}
 use Rattle.sctp_course_sides.specs.Honest.{BringsHonest, ChunkNames, IsHonest, ParamNames, ParamNamesIf, RequestNames}
 use Rattle.sctp_course_sides.specs.Sends.{AreIdentifiers}
@@ -48,15 +47,12 @@ asked_is P a now request front behind (inr (k, there)) = all_get P (requests_beh
 
 -- What comes of the course
 
-abbrev Comes : ℕ → ℕ → Course → Chunk → Type 0
-Comes initial id c chunk = ChunkComes initial id c chunk × IsNoGreeting chunk
-
 packet_comes : (initial id : ℕ) (c : Course) (Is : Chunk → Type 0)
-    → ((chunk : Chunk) → Is chunk → Comes initial id c chunk) → (packet : Option Packet) → OfEachChunk Is packet
-    → PacketComes initial id c packet
+    → ((chunk : Chunk) → Is chunk → ChunkComes initial id c chunk) → (packet : Option Packet) → OfEachChunk Is packet
+    → OfEachChunk (ChunkComes initial id c) packet
 packet_comes initial id c Is f None of_each = tt
 packet_comes initial id c Is f (Some packet) of_each =
-    all_weaker Is (Comes initial id c) packet.chunks f of_each
+    all_weaker Is (ChunkComes initial id c) packet.chunks f of_each
 
 module _ (initial id : ℕ) (c : Course) where
   no_request_comes : (param : Param) → IsNoRequest param → ParamComes initial id c param
@@ -71,25 +67,25 @@ module _ (initial id : ℕ) (c : Course) where
   no_request_comes_if None e = tt
   no_request_comes_if (Some param) e = no_request_comes param e
 
-  beside_comes : (chunk : Chunk) → IsBesideStreams chunk → Comes initial id c chunk
+  beside_comes : (chunk : Chunk) → IsBesideStreams chunk → ChunkComes initial id c chunk
   beside_comes (chunks.Data piece) e = absurd e
-  beside_comes (chunks.SelectiveAck sack) e = (tt, tt)
-  beside_comes (chunks.Init init) e = absurd e
-  beside_comes (chunks.InitAck init) e = absurd e
-  beside_comes (chunks.Heartbeat heartbeat) e = (tt, tt)
-  beside_comes (chunks.HeartbeatAck heartbeat) e = (tt, tt)
-  beside_comes (chunks.Abort abort) e = (tt, tt)
-  beside_comes (chunks.Shutdown last) e = (tt, tt)
-  beside_comes chunks.ShutdownAck e = (tt, tt)
-  beside_comes (chunks.Error error) e = (tt, tt)
-  beside_comes (chunks.CookieEcho cookie) e = (tt, tt)
-  beside_comes chunks.CookieAck e = (tt, tt)
-  beside_comes chunks.ShutdownComplete e = (tt, tt)
+  beside_comes (chunks.SelectiveAck sack) e = tt
+  beside_comes (chunks.Init init) e = tt
+  beside_comes (chunks.InitAck init) e = tt
+  beside_comes (chunks.Heartbeat heartbeat) e = tt
+  beside_comes (chunks.HeartbeatAck heartbeat) e = tt
+  beside_comes (chunks.Abort abort) e = tt
+  beside_comes (chunks.Shutdown last) e = tt
+  beside_comes chunks.ShutdownAck e = tt
+  beside_comes (chunks.Error error) e = tt
+  beside_comes (chunks.CookieEcho cookie) e = tt
+  beside_comes chunks.CookieAck e = tt
+  beside_comes chunks.ShutdownComplete e = tt
   beside_comes (chunks.Reconfig reconfig) e =
-      ((no_request_comes reconfig.first e.0, no_request_comes_if reconfig.second e.1), tt)
+      (no_request_comes reconfig.first e.0, no_request_comes_if reconfig.second e.1)
   beside_comes (chunks.ForwardTsn forward) e = absurd e
   beside_comes (chunks.IForwardTsn forward) e = absurd e
-  beside_comes (chunks.Other kind flags value) e = (tt, tt)
+  beside_comes (chunks.Other kind flags value) e = tt
 
 shutdown_is_beside : (chunk : Chunk) → IsOfShutdown chunk → IsBesideStreams chunk
 shutdown_is_beside (chunks.Shutdown last) e = tt
@@ -104,28 +100,23 @@ waiting_is_beside a chunk beside (k, c, there, same) =
 module _ (initial id now : ℕ) (a : Shown) (h : History) (c : Course) (s : PollSends initial id now a h c) where
   exchanged_comes : (chunk : Chunk)
       → IsExchanged (acts_of_poll a now) (forwards_of_poll a now) a (polled a now).0 h chunk
-      → Comes initial id s.after chunk
-  exchanged_comes (chunks.Data piece) (k, there) = (
-    all_get (IsOfCourse initial id s.after) (all_data_given (acts_of_poll a now) (parts a h)) k piece there s.data_is,
-    tt,
-  )
-  exchanged_comes (chunks.SelectiveAck sack) e = (tt, tt)
-  exchanged_comes (chunks.ForwardTsn forward) (gives, same) = (
-    subst (λ (x : ChunkForwardTsn). IsSentUpTo initial s.after x.new_cumulative_tsn) (sym same) (s.forward_is gives),
-    tt,
-  )
+      → ChunkComes initial id s.after chunk
+  exchanged_comes (chunks.Data piece) (k, there) =
+      all_get (IsOfCourse initial id s.after) (all_data_given (acts_of_poll a now) (parts a h)) k piece there s.data_is
+  exchanged_comes (chunks.SelectiveAck sack) e = tt
+  exchanged_comes (chunks.ForwardTsn forward) (gives, same) =
+      subst (λ (x : ChunkForwardTsn). IsSentUpTo initial s.after x.new_cumulative_tsn) (sym same) (s.forward_is gives)
   exchanged_comes chunk e = absurd e
 
-  asked_comes : (chunk : Chunk) → IsOfAsked a now chunk → Comes initial id s.after chunk
+  asked_comes : (chunk : Chunk) → IsOfAsked a now chunk → ChunkComes initial id s.after chunk
   asked_comes chunk (request, asks, same) =
       let there : IsAskedIn initial id s.after request =
       asked_is (IsAskedIn initial id s.after) a now request s.first_asked s.then_asked asks in
       let named : RequestNames request = asked_is RequestNames a now request s.first_named s.then_named asks in
-      subst (Comes initial id s.after) (sym same)
-      ((carried_asked initial id s.after request named.1 there, tt), tt)
+      subst (ChunkComes initial id s.after) (sym same) (carried_asked initial id s.after request named.1 there, tt)
 
   given_comes : WaitsBeside a → (chunk : Chunk) → GivesChunk a now h (polled a now).0 chunk
-      → Comes initial id s.after chunk
+      → ChunkComes initial id s.after chunk
   given_comes beside chunk (inl waits) =
       beside_comes initial id s.after chunk (waiting_is_beside a chunk beside waits)
   given_comes beside chunk (inr (inl (exchanges, is))) = exchanged_comes chunk is
@@ -133,14 +124,15 @@ module _ (initial id now : ℕ) (a : Shown) (h : History) (c : Course) (s : Poll
   given_comes beside chunk (inr (inr (inr ends))) =
       beside_comes initial id s.after chunk (shutdown_is_beside chunk ends)
 
-  -- What a poll gives is of the course that it leads on, and begins no association.
+  -- What a poll gives is of the course that it leads on.
   pub poll_comes : Binds a h → WaitPlainly a → WaitsBeside a
       → PollsOn (acts_of_poll a now) (forwards_of_poll a now) a (polled a now).0 (polled a now).1
-      → AllByRecursion (λ (bytes : List ℕ). PacketComes initial id s.after (packet_in bytes)) (polled a now).1
+      → AllByRecursion (λ (bytes : List ℕ). OfEachChunk (ChunkComes initial id s.after) (packet_in bytes))
+      (polled a now).1
   poll_comes binds plain beside on =
       let Is : Chunk → Type 0 = GivesChunk a now h (polled a now).0 in
       all_weaker (λ (bytes : List ℕ). OfEachChunk Is (packet_in bytes))
-      (λ (bytes : List ℕ). PacketComes initial id s.after (packet_in bytes)) (polled a now).1
+      (λ (bytes : List ℕ). OfEachChunk (ChunkComes initial id s.after) (packet_in bytes)) (polled a now).1
       (λ bytes spelled. packet_comes initial id s.after Is (given_comes beside) (packet_in bytes) spelled)
       (poll_spells a (polled a now).0 now h binds plain on)
 

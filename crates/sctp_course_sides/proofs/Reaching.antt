@@ -9,6 +9,7 @@ use Rattle.sctp_model.specs.Packets.{mem}
 use Rattle.sctp_model.proofs.OffsetSets.{reach_grows}
 use Rattle.sctp_fit.specs.Incoming.{tsn_before}
 use Rattle.sctp_serial.specs.Serial.{tsn}
+use Rattle.sctp_wire_types.specs.declared.chunk.ChunkPayloadData.{ChunkPayloadData}
 use Rattle.sctp_resets.specs.declared.performing.Settled.{Settled}
 use Rattle.sctp_resets.specs.Resets.{Beside, ResetsView, Resetting, skips_done, skips_done_of}
 use Rattle.sctp_resets.specs.Resets as resets
@@ -64,9 +65,10 @@ le_is a b l = grind arith
 advances_is : (c : Course) (point : ℕ) → c.point ≤ point → happens c (Event.Advances point) ≡ record c { point = point }
 advances_is c point l = ap (λ z. cond z (record c { point = point }) c) (le_is c.point point l)
 
-advanced_beside : (initial id : ℕ) (r : ResetsView) (m : StreamMap) (c : Course) (point : ℕ) → c.point ≤ point
-    → StandsBeside initial id r m c → StandsBeside initial id r m (record c { point = point })
-advanced_beside initial id r m c point l h = record {
+advanced_beside : (P : ChunkPayloadData → Type 0) (initial id : ℕ) (r : ResetsView) (m : StreamMap) (c : Course)
+    (point : ℕ) → c.point ≤ point
+    → StandsBeside P initial id r m c → StandsBeside P initial id r m (record c { point = point })
+advanced_beside P initial id r m c point l h = record {
   kept = subst Invariant (advances_is c point l) (each_event_keeps_the_invariant c (Event.Advances point) h.kept);
   stands = record {
     live = h.stands.live;
@@ -87,11 +89,12 @@ advanced_beside initial id r m c point l h = record {
 }
 
 -- A course went on, and a side has what the course has: it follows where the course's reach moves to its own.
-pub reaches : (initial id : ℕ) (a b : Shown) (h k : History) (c d : Course) → Follows initial id a h c → Binds b k
-    → k.peer ≡ h.peer → GoesOn c d → d.told ≡ c.told → StandsBeside initial id b.resets b.streams d
+pub reaches : (P : ChunkPayloadData → Type 0) (initial id : ℕ) (a b : Shown) (h k : History) (c d : Course)
+    → Follows P initial id a h c → Binds b k
+    → k.peer ≡ h.peer → GoesOn c d → d.told ≡ c.told → StandsBeside P initial id b.resets b.streams d
     → d.point ≤ reach_in k → ((o : ℕ) → mem o d.taken ≡ true → mem o k.taken ≡ true)
-    → ((o : ℕ) → mem o k.taken ≡ true → o < c.assigned) → k.passed ≤ c.assigned → LeadsFollowing initial id b c
-reaches initial id a b h k c d f binds peer goes told stands below taken assigned passed =
+    → ((o : ℕ) → mem o k.taken ≡ true → o < c.assigned) → k.passed ≤ c.assigned → LeadsFollowing P initial id b c
+reaches P initial id a b h k c d f binds peer goes told stands below taken assigned passed =
     let moves : GoesOn d (record d { point = reach_in k }) =
     subst (GoesOn d) (advances_is d (reach_in k) below) (goes_by d (Event.Advances (reach_in k)) refl) in
     let all : GoesOn c (record d { point = reach_in k }) = goes_on c d (record d { point = reach_in k }) goes moves in
@@ -105,7 +108,7 @@ reaches initial id a b h k c d f binds peer goes told stands below taken assigne
         small = f.small;
         few = subst (λ qs. length qs < 2 ^ 31) (sym left.0) f.few;
         binds = binds;
-        stands = advanced_beside initial id b.resets b.streams d (reach_in k) below stands;
+        stands = advanced_beside P initial id b.resets b.streams d (reach_in k) below stands;
         reached = record {
           peer = peer ∙ f.reached.peer;
           point = refl;
@@ -118,10 +121,11 @@ reaches initial id a b h k c d f binds peer goes told stands below taken assigne
 
 -- Nothing more came
 
-pub goes_following : (initial id : ℕ) (a b : Shown) (h k : History) (c : Course) → Follows initial id a h c → Binds b k
-    → IsSamePast h k → GoesOnBeside initial id b.resets b.streams c → LeadsFollowing initial id b c
-goes_following initial id a b h k c f binds same g =
-    reaches initial id a b h k c g.after f binds same.peer g.goes g.told g.stands
+pub goes_following : (P : ChunkPayloadData → Type 0) (initial id : ℕ) (a b : Shown) (h k : History) (c : Course)
+    → Follows P initial id a h c → Binds b k
+    → IsSamePast h k → GoesOnBeside P initial id b.resets b.streams c → LeadsFollowing P initial id b c
+goes_following P initial id a b h k c f binds same g =
+    reaches P initial id a b h k c g.after f binds same.peer g.goes g.told g.stands
     (let e : g.after.point ≡ reach_in k = g.point ∙ f.reached.point ∙ reach_same h k same in omega (arith, e))
     (λ o m.
     subst (λ xs. mem o xs ≡ true) (sym same.taken)
@@ -130,18 +134,20 @@ goes_following initial id a b h k c f binds same g =
     (subst (λ n. n ≤ c.assigned) (sym same.passed) f.reached.passed)
 
 -- what keeps to courses is followed
-pub keeps_following : (initial id : ℕ) (a b : Shown) (h k : History) (c : Course) → Follows initial id a h c → Binds b k
-    → IsSamePast h k → KeepsCourse initial id a.resets a.streams b.resets b.streams → b.resets.peer ≡ a.resets.peer
-    → LeadsFollowing initial id b c
-keeps_following initial id a b h k c f binds same keeps peer =
-    goes_following initial id a b h k c f binds same
-    (beside_keeps initial id a.resets b.resets a.streams b.streams c keeps peer f.stands).0
+pub keeps_following : (P : ChunkPayloadData → Type 0) (initial id : ℕ) (a b : Shown) (h k : History) (c : Course)
+    → Follows P initial id a h c → Binds b k
+    → IsSamePast h k → KeepsCourse P initial id a.resets a.streams b.resets b.streams → b.resets.peer ≡ a.resets.peer
+    → LeadsFollowing P initial id b c
+keeps_following P initial id a b h k c f binds same keeps peer =
+    goes_following P initial id a b h k c f binds same
+    (beside_keeps P initial id a.resets b.resets a.streams b.streams c keeps peer f.stands).0
 
 -- what changes beside the directions and the resets is no matter
-pub stays_following : (initial id : ℕ) (a b : Shown) (h : History) (c : Course) → parts b h ≡ parts a h
-    → past_of b.receiver ≡ past_of a.receiver → b.resets ≡ a.resets → Follows initial id a h c
-    → LeadsFollowing initial id b c
-stays_following initial id a b h c same past kept f = record {
+pub stays_following : (P : ChunkPayloadData → Type 0) (initial id : ℕ) (a b : Shown) (h : History) (c : Course)
+    → parts b h ≡ parts a h
+    → past_of b.receiver ≡ past_of a.receiver → b.resets ≡ a.resets → Follows P initial id a h c
+    → LeadsFollowing P initial id b c
+stays_following P initial id a b h c same past kept f = record {
   after = c;
   past = h;
   goes = goes_nowhere c;
@@ -150,21 +156,23 @@ stays_following initial id a b h c same past kept f = record {
     small = f.small;
     few = f.few;
     binds = (leads_nowhere a b h f.binds same past).binds;
-    stands = subst₂ (λ (r : ResetsView) (m : StreamMap). StandsBeside initial id r m c) (sym kept)
+    stands = subst₂ (λ (r : ResetsView) (m : StreamMap). StandsBeside P initial id r m c) (sym kept)
         (sym (ap (λ (p : Parts). p.streams) same)) f.stands;
     reached = f.reached;
   };
 }
 
-pub same_following : (initial id : ℕ) (a : Shown) (h : History) (c : Course) → Follows initial id a h c
-    → LeadsFollowing initial id a c
-same_following initial id a h c f =
+pub same_following : (P : ChunkPayloadData → Type 0) (initial id : ℕ) (a : Shown) (h : History) (c : Course)
+    → Follows P initial id a h c
+    → LeadsFollowing P initial id a c
+same_following P initial id a h c f =
     record { after = c; past = h; goes = goes_nowhere c; told = refl; follows = f }
 
 -- one thing behind another
-pub then_following : (initial id : ℕ) (a b : Shown) (c : Course) → (first : LeadsFollowing initial id a c)
-    → LeadsFollowing initial id b first.after → LeadsFollowing initial id b c
-then_following initial id a b c first later = record {
+pub then_following : (P : ChunkPayloadData → Type 0) (initial id : ℕ) (a b : Shown) (c : Course)
+    → (first : LeadsFollowing P initial id a c)
+    → LeadsFollowing P initial id b first.after → LeadsFollowing P initial id b c
+then_following P initial id a b c first later = record {
   after = later.after;
   past = later.past;
   goes = goes_on c first.after later.after first.goes later.goes;
@@ -174,24 +182,28 @@ then_following initial id a b c first later = record {
 
 -- What is known where a side follows
 
-pub within_assigned : (initial id : ℕ) (a : Shown) (h : History) (c : Course) → Follows initial id a h c
+pub within_assigned : (P : ChunkPayloadData → Type 0) (initial id : ℕ) (a : Shown) (h : History) (c : Course)
+    → Follows P initial id a h c
     → reach_in h ≤ c.assigned
-within_assigned initial id a h c f = reach_within h c.assigned f.reached.assigned f.reached.passed
+within_assigned P initial id a h c f = reach_within h c.assigned f.reached.assigned f.reached.passed
 
-pub reach_small : (initial id : ℕ) (a : Shown) (h : History) (c : Course) → Follows initial id a h c
+pub reach_small : (P : ChunkPayloadData → Type 0) (initial id : ℕ) (a : Shown) (h : History) (c : Course)
+    → Follows P initial id a h c
     → reach_in h < 2 ^ 31
-reach_small initial id a h c f =
-    let within : reach_in h ≤ c.assigned = within_assigned initial id a h c f in
+reach_small P initial id a h c f =
+    let within : reach_in h ≤ c.assigned = within_assigned P initial id a h c f in
     let near : c.assigned < 2 ^ 31 = f.stands.stands.near in omega (arith, within, near)
 
-pub point_small : (initial id : ℕ) (a : Shown) (h : History) (c : Course) → Follows initial id a h c → c.point < 2 ^ 31
-point_small initial id a h c f =
-    subst (λ n. n < 2 ^ 31) (sym f.reached.point) (reach_small initial id a h c f)
+pub point_small : (P : ChunkPayloadData → Type 0) (initial id : ℕ) (a : Shown) (h : History) (c : Course)
+    → Follows P initial id a h c → c.point < 2 ^ 31
+point_small P initial id a h c f =
+    subst (λ n. n < 2 ^ 31) (sym f.reached.point) (reach_small P initial id a h c f)
 
 -- the last TSN in order is that below the course's reach
-pub last_is : (initial id : ℕ) (a : Shown) (h : History) (c : Course) → Follows initial id a h c
+pub last_is : (P : ChunkPayloadData → Type 0) (initial id : ℕ) (a : Shown) (h : History) (c : Course)
+    → Follows P initial id a h c
     → a.receiver.peer_last_tsn ≡ last_below initial c.point
-last_is initial id a h c f =
+last_is P initial id a h c f =
     f.binds.peer_last_tsn ∙ ap (λ p. tsn_before (tsn p (reach_in h))) f.reached.peer
     ∙ ap (λ n. last_below initial n) (sym f.reached.point)
 
@@ -233,22 +245,24 @@ settled_seen a =
     ∙ ap (λ (z : Beside). skips_done z.0 z.1 z.2) (settled_with_seen a (performed_of a))
 
 -- a request that waited is performed where it is due, and skips that were kept are applied
-pub settled_following : (initial id : ℕ) (a : Shown) (h : History) (c : Course) → Follows initial id a h c
-    → LeadsFollowing initial id (settled a) c
-settled_following initial id a h c f =
-    goes_following initial id a (settled a) h h c f (settling_leads a h f.binds).binds (past_itself h)
-    (subst (λ (z : Beside). GoesOnBeside initial id z.0 z.1 c) (sym (settled_seen a))
-    (settles_and_skips initial id a.receiver.peer_last_tsn a.sender.queue.next_message_id
-    a.receiver.max_receive_message_size a.resets (channels_of a) c f.stands (point_small initial id a h c f)
-    (last_is initial id a h c f)))
+pub settled_following : (P : ChunkPayloadData → Type 0) (initial id : ℕ) (a : Shown) (h : History) (c : Course)
+    → Follows P initial id a h c
+    → LeadsFollowing P initial id (settled a) c
+settled_following P initial id a h c f =
+    goes_following P initial id a (settled a) h h c f (settling_leads a h f.binds).binds (past_itself h)
+    (subst (λ (z : Beside). GoesOnBeside P initial id z.0 z.1 c) (sym (settled_seen a))
+    (settles_and_skips P initial id a.receiver.peer_last_tsn a.sender.queue.next_message_id
+    a.receiver.max_receive_message_size a.resets (channels_of a) c f.stands (point_small P initial id a h c f)
+    (last_is P initial id a h c f)))
 
 -- so are those of one stream
-pub skips_following : (initial id k : ℕ) (a : Shown) (h : History) (c : Course) → Follows initial id a h c
-    → LeadsFollowing initial id (skips_applied_of k a) c
-skips_following initial id k a h c f =
+pub skips_following : (P : ChunkPayloadData → Type 0) (initial id k : ℕ) (a : Shown) (h : History) (c : Course)
+    → Follows P initial id a h c
+    → LeadsFollowing P initial id (skips_applied_of k a) c
+skips_following P initial id k a h c f =
     let is : seen (skips_applied_of k a) ≡ skips_done_of k a.resets a.streams a.events =
     beside_seen a (skips_done_of k a.resets a.streams a.events) in
-    keeps_following initial id a (skips_applied_of k a) h h c f (skipping_leads k a h f.binds).binds (past_itself h)
-    (subst (λ (z : Beside). KeepsCourse initial id a.resets a.streams z.0 z.1) (sym is)
-    (skips_done_of_keeps initial id a.resets a.streams k a.events))
+    keeps_following P initial id a (skips_applied_of k a) h h c f (skipping_leads k a h f.binds).binds (past_itself h)
+    (subst (λ (z : Beside). KeepsCourse P initial id a.resets a.streams z.0 z.1) (sym is)
+    (skips_done_of_keeps P initial id a.resets a.streams k a.events))
     (ap (λ (z : Beside). z.0.peer) is ∙ skips_done_of_peer a.resets k a.streams a.events)

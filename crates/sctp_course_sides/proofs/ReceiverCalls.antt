@@ -4,6 +4,7 @@ use Rattle.std.proofs.Common.{◌≡◌, refl, sym, ap, ◌∙◌, subst, ℕ, �
 use Rattle.std.proofs.Common.{if◌then◌else◌, filter, List, [], ◌∷◌, length, Option, Some, None}
 use Rattle.std.specs.Prelude.{remove, slice_get, ⊤}
 use Rattle.std.proofs.lemmas.Bool.{true≢false}
+use Rattle.sctp_wire_types.specs.declared.chunk.ChunkPayloadData.{ChunkPayloadData}
 use Rattle.sctp_model.specs.Packets.{mem}
 use Rattle.sctp_wire_types.specs.declared.ids.PayloadProtocolIdentifier.{PayloadProtocolIdentifier}
 use Rattle.sctp_streams.specs.declared.event.AssociationError.{AssociationError}
@@ -87,131 +88,132 @@ stopped_is true a k = refl
 stopped_is false a k = refl
 
 -- The stream of a course, and the initial TSN.
-module _ (initial id : ℕ) where
+module _ (P : ChunkPayloadData → Type 0) (initial id : ℕ) where
   -- one that closes is lost then
 
   closed_on_if : (closed : Bool) (a : Shown) (reason : AssociationError)
       → (if closed then a else closed_open a reason).lost ≡ false
-      → KeepsOn initial id a (if closed then a else closed_open a reason)
-  closed_on_if true a reason lost = stays_on initial id a
+      → KeepsOn P initial id a (if closed then a else closed_open a reason)
+  closed_on_if true a reason lost = stays_on P initial id a
   closed_on_if false a reason lost = absurd (true≢false lost)
 
   closed_on : (a : Shown) (reason : AssociationError) → (closed_by a reason).lost ≡ false
-      → KeepsOn initial id a (closed_by a reason)
+      → KeepsOn P initial id a (closed_by a reason)
   closed_on a reason lost = closed_on_if (is_closed_state a.state) a reason lost
 
   relieved_on_if : (e : Bool) (a : Shown) → (if e then exhausted a else a).lost ≡ false
-      → KeepsOn initial id a (if e then exhausted a else a)
+      → KeepsOn P initial id a (if e then exhausted a else a)
   relieved_on_if true a lost =
       let b : Shown = closed_by a reasons.ReceiveBufferExhausted in
-      then_on initial id (closed_on a reasons.ReceiveBufferExhausted lost)
-      (same_on initial id b (queued b out_of_resource) refl refl refl)
-  relieved_on_if false a lost = stays_on initial id a
+      then_on P initial id (closed_on a reasons.ReceiveBufferExhausted lost)
+      (same_on P initial id b (queued b out_of_resource) refl refl refl)
+  relieved_on_if false a lost = stays_on P initial id a
 
-  pub relieved_on : (a : Shown) → (relieved a).lost ≡ false → KeepsOn initial id a (relieved a)
+  pub relieved_on : (a : Shown) → (relieved a).lost ≡ false → KeepsOn P initial id a (relieved a)
   relieved_on a lost = relieved_on_if (is_exhausted a) a lost
 
   -- Streams, writes, settings and limits
 
   opened_on : (a : Shown) (k : ℕ) (kind : PayloadProtocolIdentifier) → stream_at a.streams k ≡ None
-      → KeepsOn initial id a (opened a k kind)
+      → KeepsOn P initial id a (opened a k kind)
   opened_on a k kind none =
-      course_on initial id a (opened a k kind)
-      (made_keeps initial id a.resets a.streams k a.sender.queue.next_message_id kind none) refl
+      course_on P initial id a (opened a k kind)
+      (made_keeps P initial id a.resets a.streams k a.sender.queue.next_message_id kind none) refl
 
   written_on_at : (o : Option StreamView) (a : Shown) (k : ℕ) (named : Option PayloadProtocolIdentifier)
-      (bytes : List ℕ) → KeepsOn initial id a (written_at o a k named bytes)
-  written_on_at None a k named bytes = stays_on initial id a
+      (bytes : List ℕ) → KeepsOn P initial id a (written_at o a k named bytes)
+  written_on_at None a k named bytes = stays_on P initial id a
   written_on_at (Some s) a k named bytes =
-      course_on initial id a (written_at (Some s) a k named bytes)
-      (written_keeps initial id a.resets a.streams k (type_on s named) (length bytes)) refl
+      course_on P initial id a (written_at (Some s) a k named bytes)
+      (written_keeps P initial id a.resets a.streams k (type_on s named) (length bytes)) refl
 
-  adjusted_on : (a : Shown) (k : ℕ) (setting : Setting) → KeepsOn initial id a (adjusted a k setting)
+  adjusted_on : (a : Shown) (k : ℕ) (setting : Setting) → KeepsOn P initial id a (adjusted a k setting)
   adjusted_on a k setting =
-      course_on initial id a (adjusted a k setting) (setting_keeps initial id a.resets a.streams k setting) refl
+      course_on P initial id a (adjusted a k setting) (setting_keeps P initial id a.resets a.streams k setting) refl
 
-  accepted_on_from : (ids : List ℕ) (a : Shown) → KeepsOn initial id a (accepted_from ids a).0
-  accepted_on_from [] a = stays_on initial id a
-  accepted_on_from (k ∷ ids) a = same_on initial id a (accepted_from (k ∷ ids) a).0 refl refl refl
+  accepted_on_from : (ids : List ℕ) (a : Shown) → KeepsOn P initial id a (accepted_from ids a).0
+  accepted_on_from [] a = stays_on P initial id a
+  accepted_on_from (k ∷ ids) a = same_on P initial id a (accepted_from (k ∷ ids) a).0 refl refl refl
 
   accepted_on_if : (failed : Bool) (a : Shown)
-      → KeepsOn initial id a (if failed then (a, None) else accepted_from a.to_accept a).0
-  accepted_on_if true a = stays_on initial id a
+      → KeepsOn P initial id a (if failed then (a, None) else accepted_from a.to_accept a).0
+  accepted_on_if true a = stays_on P initial id a
   accepted_on_if false a = accepted_on_from a.to_accept a
 
   limited_on_if : (failed : Bool) (a : Shown) (size : ℕ)
-      → KeepsOn initial id a (if failed then a else record a { max_send_message_size = size })
-  limited_on_if true a size = stays_on initial id a
-  limited_on_if false a size = same_on initial id a (record a { max_send_message_size = size }) refl refl refl
+      → KeepsOn P initial id a (if failed then a else record a { max_send_message_size = size })
+  limited_on_if true a size = stays_on P initial id a
+  limited_on_if false a size = same_on P initial id a (record a { max_send_message_size = size }) refl refl refl
 
   -- Events
 
   told_on_from : (x : ResetsView × List Event × Option Event) (a : Shown)
       → (x.0.generations ≡ a.resets.generations) × (x.0.peer ≡ a.resets.peer)
-      → KeepsOn initial id a (with_told (event_from x a)).0
+      → KeepsOn P initial id a (with_told (event_from x a)).0
   told_on_from (r, left, None) a (kept, peer) =
-      same_on initial id a (event_from (r, left, None) a).0 refl kept (ap (with_peer_of a) peer)
+      same_on P initial id a (event_from (r, left, None) a).0 refl kept (ap (with_peer_of a) peer)
   told_on_from (r, left, Some e) a (kept, peer) =
-      same_on initial id a (event_from (r, left, Some e) a).0 refl kept (ap (with_peer_of a) peer)
+      same_on P initial id a (event_from (r, left, Some e) a).0 refl kept (ap (with_peer_of a) peer)
 
-  told_on : (a : Shown) → KeepsOn initial id a (with_told (event_polled a)).0
+  told_on : (a : Shown) → KeepsOn P initial id a (with_told (event_polled a)).0
   told_on a =
       told_on_from (event_told a.resets a.events) a
       (told_stays (next_told a.resets.generations a.resets.debts a.events) a.resets a.events)
 
   -- Stops
 
-  half_beside_on : (a : Shown) (k : ℕ) (x : Beside) → KeepsCourse initial id a.resets a.streams x.0 x.1
-      → x.0.peer ≡ a.resets.peer → KeepsOn initial id a (with_beside (without_read_half_of a k) x)
+  half_beside_on : (a : Shown) (k : ℕ) (x : Beside) → KeepsCourse P initial id a.resets a.streams x.0 x.1
+      → x.0.peer ≡ a.resets.peer → KeepsOn P initial id a (with_beside (without_read_half_of a k) x)
   half_beside_on a k (r, m, told) course peer =
-      course_on initial id a (with_beside (without_read_half_of a k) (r, m, told)) course (ap (with_peer_of a) peer)
+      course_on P initial id a (with_beside (without_read_half_of a k) (r, m, told)) course (ap (with_peer_of a) peer)
 
-  stopped_open_on : (a : Shown) (k : ℕ) → KeepsOn initial id a (stopped_open a k)
+  stopped_open_on : (a : Shown) (k : ℕ) → KeepsOn P initial id a (stopped_open a k)
   stopped_open_on a k =
-      subst (KeepsOn initial id a) (sym (stopped_is (is_retiring a.resets k) a k))
+      subst (KeepsOn P initial id a) (sym (stopped_is (is_retiring a.resets k) a k))
       (half_beside_on a k (with_reads_stopped k a.resets a.streams a.events)
-      (stopped_open_keeps initial id a.resets a.streams a.events k)
+      (stopped_open_keeps P initial id a.resets a.streams a.events k)
       (stopped_peer (is_retiring a.resets k) a.resets a.streams a.events k))
 
   stopped_on_if : (reads : Bool) (a : Shown) (k : ℕ)
       → (if reads then relieved (stopped_open a k) else a).lost ≡ false
-      → KeepsOn initial id a (if reads then relieved (stopped_open a k) else a)
-  stopped_on_if true a k lost = then_on initial id (stopped_open_on a k) (relieved_on (stopped_open a k) lost)
-  stopped_on_if false a k lost = stays_on initial id a
+      → KeepsOn P initial id a (if reads then relieved (stopped_open a k) else a)
+  stopped_on_if true a k lost = then_on P initial id (stopped_open_on a k) (relieved_on (stopped_open a k) lost)
+  stopped_on_if false a k lost = stays_on P initial id a
 
-  stopped_on : (a : Shown) (k : ℕ) → (stopped a k).lost ≡ false → KeepsOn initial id a (stopped a k)
+  stopped_on : (a : Shown) (k : ℕ) → (stopped a k).lost ≡ false → KeepsOn P initial id a (stopped a k)
   stopped_on a k lost = stopped_on_if (holds_of (λ s. is_read_half_open s.halves) a k) a k lost
 
   -- Any call but a read and a datagram
 
   pub keeps_call : (call : Call) (a : Shown) → BringsAndReadsNothing call → call_refusal call a ≡ None
-      → (carried_out call a).0.lost ≡ false → KeepsOn initial id a (carried_out call a).0
+      → (carried_out call a).0.lost ≡ false → KeepsOn P initial id a (carried_out call a).0
   keeps_call (Call.OpenStream k kind) a quiet e lost =
       opened_on a k kind (opened_streams_were_not_live a k e).1
   keeps_call (Call.Write k named bytes) a quiet e lost = written_on_at (stream_at a.streams k) a k named bytes
   keeps_call (Call.Set k setting) a quiet e lost = adjusted_on a k setting
   keeps_call Call.AcceptStream a quiet e lost = accepted_on_if a.failed a
   keeps_call (Call.SetMaxSendMessageSize size) a quiet e lost = limited_on_if a.failed a size
-  keeps_call Call.Shutdown a quiet e lost = same_on initial id a (shutdown_begun a) refl refl refl
+  keeps_call Call.Shutdown a quiet e lost = same_on P initial id a (shutdown_begun a) refl refl refl
   keeps_call Call.Close a quiet e lost = closed_on a reasons.AssociationClosed lost
   keeps_call (Call.Read k) a quiet e lost = absurd quiet
   keeps_call Call.Poll a quiet e lost = told_on a
-  keeps_call Call.PollEndpointEvent a quiet e lost = same_on initial id a (endpoint_event_polled a).0 refl refl refl
-  keeps_call (Call.PollTransmit now) a quiet e lost = polled_on initial id a now lost
-  keeps_call (Call.HandleTimeout now) a quiet e lost = timeouts_on initial id a now
+  keeps_call Call.PollEndpointEvent a quiet e lost = same_on P initial id a (endpoint_event_polled a).0 refl refl refl
+  keeps_call (Call.PollTransmit now) a quiet e lost = polled_on P initial id a now lost
+  keeps_call (Call.HandleTimeout now) a quiet e lost = timeouts_on P initial id a now
   keeps_call (Call.HandleEvent packet now) a quiet e lost = absurd quiet
   keeps_call (Call.Stop k) a quiet e lost = stopped_on a k lost
   keeps_call (Call.CloseStream k) a quiet e lost =
-      then_on initial id (adjusted_on a k settings.WriteHalfClosed)
+      then_on P initial id (adjusted_on a k settings.WriteHalfClosed)
       (stopped_on (adjusted a k settings.WriteHalfClosed) k lost)
 
 -- Where a side follows a course
 
 -- It follows one that this goes on to, where nothing came.
-pub follows_beside : (initial id : ℕ) (a b : Shown) (h : History) (c d : Course) → Follows initial id a h c
-    → GoesOn c d → StandsBeside initial id b.resets b.streams d → d.point ≡ c.point → d.taken ≡ c.taken → Binds b h
-    → Follows initial id b h d
-follows_beside initial id a b h c d f goes stands point taken binds =
+pub follows_beside : (P : ChunkPayloadData → Type 0) (initial id : ℕ) (a b : Shown) (h : History) (c d : Course)
+    → Follows P initial id a h c
+    → GoesOn c d → StandsBeside P initial id b.resets b.streams d → d.point ≡ c.point → d.taken ≡ c.taken → Binds b h
+    → Follows P initial id b h d
+follows_beside P initial id a b h c d f goes stands point taken binds =
     let left = goes_leaves c d goes in
     record {
       small = f.small;
@@ -231,9 +233,10 @@ reach_same : (h k : History) → IsSamePast h k → reach_in h ≡ reach_in k
 reach_same h k same = rw (same.taken, same.passed) refl
 
 -- It follows it on each history with the same past on which it stands.
-pub follows_past : (initial id : ℕ) (b : Shown) (h k : History) (d : Course) → IsSamePast h k → Binds b k
-    → Follows initial id b h d → Follows initial id b k d
-follows_past initial id b h k d same binds f = record {
+pub follows_past : (P : ChunkPayloadData → Type 0) (initial id : ℕ) (b : Shown) (h k : History) (d : Course)
+    → IsSamePast h k → Binds b k
+    → Follows P initial id b h d → Follows P initial id b k d
+follows_past P initial id b h k d same binds f = record {
   small = f.small;
   few = f.few;
   binds = binds;
@@ -261,22 +264,24 @@ pub untouched_leads : (c d : Course) → LeadsTo c d → IsUntouched c → IsUnt
 untouched_leads c d leads u = untouched_still c d (far_of c d leads) u
 
 -- What keeps on: the course goes on, and nothing is read.
-pub follow_on : (initial id : ℕ) (a b : Shown) (h : History) (c : Course) → KeepsOn initial id a b
-    → Follows initial id a h c
-    → (d : Course) × GoesOn c d × (d.told ≡ c.told) × ((k : History) × Follows initial id b k d)
-follow_on initial id a b h c k f =
-    let g = beside_keeps initial id a.resets b.resets a.streams b.streams c k.keeps.course k.keeps.peer f.stands in
+pub follow_on : (P : ChunkPayloadData → Type 0) (initial id : ℕ) (a b : Shown) (h : History) (c : Course)
+    → KeepsOn P initial id a b
+    → Follows P initial id a h c
+    → (d : Course) × GoesOn c d × (d.told ≡ c.told) × ((k : History) × Follows P initial id b k d)
+follow_on P initial id a b h c k f =
+    let g = beside_keeps P initial id a.resets b.resets a.streams b.streams c k.keeps.course k.keeps.peer f.stands in
     let d : Course = g.0.after in (
       d,
       g.0.goes,
       g.0.told,
-      (h, follows_beside initial id a b h c d f g.0.goes g.0.stands g.0.point g.0.taken (k.past h f.binds)),
+      (h, follows_beside P initial id a b h c d f g.0.goes g.0.stands g.0.point g.0.taken (k.past h f.binds)),
     )
 
 -- So it is of a side that does not know its peer yet.
-pub await_on : (initial id : ℕ) (a b : Shown) (c : Course) → KeepsOn initial id a b → AwaitsIts initial id a c
-    → (d : Course) × GoesOn c d × (d.told ≡ c.told) × AwaitsIts initial id b d
-await_on initial id a b c k w =
+pub await_on : (P : ChunkPayloadData → Type 0) (initial id : ℕ) (a b : Shown) (c : Course) → KeepsOn P initial id a b
+    → AwaitsIts P initial id a c
+    → (d : Course) × GoesOn c d × (d.told ≡ c.told) × AwaitsIts P initial id b d
+await_on P initial id a b c k w =
     let one = k.keeps.course c w.kept w.stands w.read_on in
     let d : Course = one.0.after in (
       d,
@@ -292,15 +297,17 @@ await_on initial id a b c k w =
     )
 
 -- A call by which nothing comes and nothing is read: the course goes on.
-pub call_follows : (initial id : ℕ) (call : Call) (a : Shown) (h : History) (c : Course) → BringsAndReadsNothing call
-    → call_refusal call a ≡ None → (carried_out call a).0.lost ≡ false → Follows initial id a h c
+pub call_follows : (P : ChunkPayloadData → Type 0) (initial id : ℕ) (call : Call) (a : Shown) (h : History) (c : Course)
+    → BringsAndReadsNothing call
+    → call_refusal call a ≡ None → (carried_out call a).0.lost ≡ false → Follows P initial id a h c
     → (d : Course) × GoesOn c d × (d.told ≡ c.told)
-    × ((k : History) × Follows initial id (carried_out call a).0 k d)
-call_follows initial id call a h c quiet accepted lost f =
-    follow_on initial id a (carried_out call a).0 h c (keeps_call initial id call a quiet accepted lost) f
+    × ((k : History) × Follows P initial id (carried_out call a).0 k d)
+call_follows P initial id call a h c quiet accepted lost f =
+    follow_on P initial id a (carried_out call a).0 h c (keeps_call P initial id call a quiet accepted lost) f
 
-pub call_awaits : (initial id : ℕ) (call : Call) (a : Shown) (c : Course) → BringsAndReadsNothing call
-    → call_refusal call a ≡ None → (carried_out call a).0.lost ≡ false → AwaitsIts initial id a c
-    → (d : Course) × GoesOn c d × (d.told ≡ c.told) × AwaitsIts initial id (carried_out call a).0 d
-call_awaits initial id call a c quiet accepted lost w =
-    await_on initial id a (carried_out call a).0 c (keeps_call initial id call a quiet accepted lost) w
+pub call_awaits : (P : ChunkPayloadData → Type 0) (initial id : ℕ) (call : Call) (a : Shown) (c : Course)
+    → BringsAndReadsNothing call
+    → call_refusal call a ≡ None → (carried_out call a).0.lost ≡ false → AwaitsIts P initial id a c
+    → (d : Course) × GoesOn c d × (d.told ≡ c.told) × AwaitsIts P initial id (carried_out call a).0 d
+call_awaits P initial id call a c quiet accepted lost w =
+    await_on P initial id a (carried_out call a).0 c (keeps_call P initial id call a quiet accepted lost) w

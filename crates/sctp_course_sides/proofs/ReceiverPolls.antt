@@ -3,6 +3,7 @@
 use Rattle.std.proofs.Common.{◌≡◌, refl, sym, ap, ◌∙◌, subst, ℕ, Bool, true, false, if◌then◌else◌, List, [], ◌∷◌}
 use Rattle.std.proofs.Common.{Option, Some, None}
 use Rattle.std.proofs.lemmas.Bool.{true≢false}
+use Rattle.sctp_wire_types.specs.declared.chunk.ChunkPayloadData.{ChunkPayloadData}
 use Rattle.sctp_wire_types.specs.declared.chunk.Chunk.{Chunk}
 use Rattle.sctp_wire_types.specs.declared.error.Error.TheVariants as errors
 use Rattle.sctp_parts.specs.declared.timer.Timer.TheVariants as names
@@ -48,13 +49,13 @@ use Rattle.sctp_sides.proofs.PollsLeave.{PolledFrom, after_requests, control_lea
 use Rattle.sctp_sides.proofs.PollsLeave.{silent_is}
 
 -- The streams of a side, and what it keeps of resets, keep to the course of a stream; the peer's requests stay.
-pub record KeepsTo (initial id : ℕ) (a b : Shown) : Type 0 where
-  pub course : KeepsCourse initial id a.resets a.streams b.resets b.streams
+pub record KeepsTo (P : ChunkPayloadData → Type 0) (initial id : ℕ) (a b : Shown) : Type 0 where
+  pub course : KeepsCourse P initial id a.resets a.streams b.resets b.streams
   pub peer : b.resets.peer ≡ a.resets.peer
 
 -- And the side stands on what came before.
-pub record KeepsOn (initial id : ℕ) (a b : Shown) : Type 0 where
-  pub keeps : KeepsTo initial id a b
+pub record KeepsOn (P : ChunkPayloadData → Type 0) (initial id : ℕ) (a b : Shown) : Type 0 where
+  pub keeps : KeepsTo P initial id a b
   pub past : (h : History) → Binds a h → Binds b h
 
 -- the peer's requests, what is in flight, and what came
@@ -104,24 +105,24 @@ front_binds a now h binds =
 
 -- What a poll does to live streams
 
-module _ (initial id : ℕ) (r : ResetsView) (m : StreamMap) where
+module _ (P : ChunkPayloadData → Type 0) (initial id : ℕ) (r : ResetsView) (m : StreamMap) where
   -- the streams beside a sender keep to the course
   abbrev KeepBeside : Sender × StreamMap → Type 0
-  KeepBeside x = KeepsCourse initial id r m r x.1
+  KeepBeside x = KeepsCourse P initial id r m r x.1
 
-  released_course : (o : Option Released) (n : StreamMap) → KeepsCourse initial id r m r n
-      → KeepsCourse initial id r m r (released_at o n)
+  released_course : (o : Option Released) (n : StreamMap) → KeepsCourse P initial id r m r n
+      → KeepsCourse P initial id r m r (released_at o n)
   released_course None n h = h
   released_course (Some x) n h =
-      keeps_then initial id r r r m n (released_at (Some x) n) h
-      (released_keeps initial id r n x.message.stream_identifier x.message.generation x.bytes)
+      keeps_then P initial id r r r m n (released_at (Some x) n) h
+      (released_keeps P initial id r n x.message.stream_identifier x.message.generation x.bytes)
 
-  given_back_course : (o : Option Released) (n : StreamMap) → KeepsCourse initial id r m r n
-      → KeepsCourse initial id r m r (given_back_of o n)
+  given_back_course : (o : Option Released) (n : StreamMap) → KeepsCourse P initial id r m r n
+      → KeepsCourse P initial id r m r (given_back_of o n)
   given_back_course None n h = h
   given_back_course (Some x) n h =
-      keeps_then initial id r r r m n (given_back_of (Some x) n) h
-      (given_back_keeps initial id r n x.message.stream_identifier x.message.generation x.message.unordered x.bytes)
+      keeps_then P initial id r r r m n (given_back_of (Some x) n) h
+      (given_back_keeps P initial id r n x.message.stream_identifier x.message.generation x.message.unordered x.bytes)
 
   abandoned_course : (index : ℕ) (x : Sender × StreamMap) → KeepBeside x → KeepBeside (abandoned_of index x)
   unfolding abandoned_of
@@ -149,136 +150,136 @@ module _ (initial id : ℕ) (r : ResetsView) (m : StreamMap) where
   }
 
 -- a poll of DATA keeps to the course
-data_course : (initial id : ℕ) (a : Shown) (now : ℕ)
-    → KeepsCourse initial id a.resets a.streams a.resets (data_polled a now).0.streams
-data_course initial id a now =
-    data_poll_kept (λ (x : Sender × StreamMap). KeepsCourse initial id a.resets a.streams a.resets x.1) now a
-    (kept_by_polls initial id a.resets a.streams (uses_forward_tsn a) now)
-    (keeps_same initial id a.resets a.streams)
+data_course : (P : ChunkPayloadData → Type 0) (initial id : ℕ) (a : Shown) (now : ℕ)
+    → KeepsCourse P initial id a.resets a.streams a.resets (data_polled a now).0.streams
+data_course P initial id a now =
+    data_poll_kept (λ (x : Sender × StreamMap). KeepsCourse P initial id a.resets a.streams a.resets x.1) now a
+    (kept_by_polls P initial id a.resets a.streams (uses_forward_tsn a) now)
+    (keeps_same P initial id a.resets a.streams)
 
 -- The stream of a course, and the initial TSN.
-module _ (initial id : ℕ) where
+module _ (P : ChunkPayloadData → Type 0) (initial id : ℕ) where
   -- no step, and two steps
 
   same_to : (a b : Shown) → b.streams ≡ a.streams → b.resets.generations ≡ a.resets.generations
-      → b.resets.peer ≡ a.resets.peer → KeepsTo initial id a b
+      → b.resets.peer ≡ a.resets.peer → KeepsTo P initial id a b
   same_to a b streams kept peer = record {
-    course = subst (λ (n : StreamMap). KeepsCourse initial id a.resets a.streams b.resets n) (sym streams)
-        (own_alone_keeps initial id a.resets a.streams b.resets kept (ap (λ (p : PeerView). p.in_progress) peer));
+    course = subst (λ (n : StreamMap). KeepsCourse P initial id a.resets a.streams b.resets n) (sym streams)
+        (own_alone_keeps P initial id a.resets a.streams b.resets kept (ap (λ (p : PeerView). p.in_progress) peer));
     peer = peer;
   }
 
-  then_to : {a b c : Shown} → KeepsTo initial id a b → KeepsTo initial id b c → KeepsTo initial id a c
+  then_to : {a b c : Shown} → KeepsTo P initial id a b → KeepsTo P initial id b c → KeepsTo P initial id a c
   then_to {a} {b} {c} first later = record {
-    course = keeps_then initial id a.resets b.resets c.resets a.streams b.streams c.streams first.course later.course;
+    course = keeps_then P initial id a.resets b.resets c.resets a.streams b.streams c.streams first.course later.course;
     peer = later.peer ∙ first.peer;
   }
 
   pub same_on : (a b : Shown) → b.streams ≡ a.streams → b.resets.generations ≡ a.resets.generations
-      → rest_of b ≡ rest_of a → KeepsOn initial id a b
+      → rest_of b ≡ rest_of a → KeepsOn P initial id a b
   same_on a b streams kept rest = record {
     keeps = same_to a b streams kept (ap (λ (x : RestOf). x.0) rest);
     past = stands_on a b rest;
   }
 
-  pub stays_on : (a : Shown) → KeepsOn initial id a a
+  pub stays_on : (a : Shown) → KeepsOn P initial id a a
   stays_on a = same_on a a refl refl refl
 
-  pub then_on : {a b c : Shown} → KeepsOn initial id a b → KeepsOn initial id b c → KeepsOn initial id a c
+  pub then_on : {a b c : Shown} → KeepsOn P initial id a b → KeepsOn P initial id b c → KeepsOn P initial id a c
   then_on {a} {b} {c} first later = record {
     keeps = then_to first.keeps later.keeps;
     past = λ h binds. later.past h (first.past h binds);
   }
 
   -- where streams or generations change
-  pub course_on : (a b : Shown) → KeepsCourse initial id a.resets a.streams b.resets b.streams
-      → rest_of b ≡ rest_of a → KeepsOn initial id a b
+  pub course_on : (a b : Shown) → KeepsCourse P initial id a.resets a.streams b.resets b.streams
+      → rest_of b ≡ rest_of a → KeepsOn P initial id a b
   course_on a b course rest = record {
     keeps = record { course = course; peer = ap (λ (x : RestOf). x.0) rest };
     past = stands_on a b rest;
   }
 
   -- what resets leave of them
-  pub beside_on : (a : Shown) (x : Beside) → KeepsCourse initial id a.resets a.streams x.0 x.1
-      → x.0.peer ≡ a.resets.peer → KeepsOn initial id a (with_beside a x)
+  pub beside_on : (a : Shown) (x : Beside) → KeepsCourse P initial id a.resets a.streams x.0 x.1
+      → x.0.peer ≡ a.resets.peer → KeepsOn P initial id a (with_beside a x)
   beside_on a (r, m, told) course peer =
       course_on a (with_beside a (r, m, told)) course (ap (with_peer_of a) peer)
 
   -- Polls
 
   -- requests of this side, and what waits to go out, are of no stream that it receives
-  control_to : (a b : Shown) → ChangesControl a b → KeepsTo initial id a b
+  control_to : (a b : Shown) → ChangesControl a b → KeepsTo P initial id a b
   control_to a b e =
-      subst (KeepsTo initial id a) (sym e) (same_to a (with_own_control a b.resets.own b.control) refl refl refl)
+      subst (KeepsTo P initial id a) (sym e) (same_to a (with_own_control a b.resets.own b.control) refl refl refl)
 
-  data_to : (a : Shown) (now : ℕ) → KeepsTo initial id a (data_after a now).0
+  data_to : (a : Shown) (now : ℕ) → KeepsTo P initial id a (data_after a now).0
   unfolding data_polled
-  data_to a now = record { course = data_course initial id a now; peer = refl }
+  data_to a now = record { course = data_course P initial id a now; peer = refl }
 
   run_to_if : (starts : Bool) (a : Shown) (now : ℕ)
-      → KeepsTo initial id a
+      → KeepsTo P initial id a
       (if starts then record a { timers = started names.Reconfig now a.estimate.rto a.timers } else a)
   run_to_if true a now = same_to a _ refl refl refl
   run_to_if false a now = same_to a a refl refl refl
 
-  run_to : (a : Shown) (now : ℕ) → KeepsTo initial id a (with_reconfig_run a now)
+  run_to : (a : Shown) (now : ℕ) → KeepsTo P initial id a (with_reconfig_run a now)
   run_to a now = run_to_if _ a now
 
   front_to_if : (exchanges : Bool) (a : Shown) (now : ℕ) → exchanges_data a.state ≡ exchanges
-      → KeepsTo initial id a (open_polled a now).0
+      → KeepsTo P initial id a (open_polled a now).0
   front_to_if true a now e =
       let p : PolledFrom a now = polled_from a now e in
       let b : Shown = after_requests p.asked in
-      subst (KeepsTo initial id a) (sym p.there)
+      subst (KeepsTo P initial id a) (sym p.there)
       (then_to (data_to a now)
       (then_to (control_to (data_after a now).0 p.asked p.requests)
       (then_to (same_to p.asked b refl refl refl) (run_to b now))))
   front_to_if false a now e =
       let b : Shown = (control_polled a).0 in
-      subst (KeepsTo initial id a) (sym (silent_is a now e))
+      subst (KeepsTo P initial id a) (sym (silent_is a now e))
       (then_to (control_to a b (control_leaves a)) (run_to b now))
 
-  front_on : (a : Shown) (now : ℕ) → KeepsOn initial id a (open_polled a now).0
+  front_on : (a : Shown) (now : ℕ) → KeepsOn P initial id a (open_polled a now).0
   front_on a now = record {
     keeps = front_to_if (exchanges_data a.state) a now refl;
     past = front_binds a now;
   }
 
   -- its end changes nothing of this, or closes
-  pub polled_on : (a : Shown) (now : ℕ) → (polled a now).0.lost ≡ false → KeepsOn initial id a (polled a now).0
+  pub polled_on : (a : Shown) (now : ℕ) → (polled a now).0.lost ≡ false → KeepsOn P initial id a (polled a now).0
   polled_on a now =
       let m : Shown = (open_polled a now).0 in
-      by_poll_end (λ (z : Shown). z.lost ≡ false → KeepsOn initial id a z) a now
+      by_poll_end (λ (z : Shown). z.lost ≡ false → KeepsOn P initial id a z) a now
       (λ e due timer lost. then_on (front_on a now) (same_on m (with_answer_timed m due timer) refl refl refl))
       (λ e open_still lost. absurd (true≢false lost))
 
   -- Timers
 
-  queued_on : (a : Shown) (chunk : Chunk) → KeepsOn initial id a (queued a chunk)
+  queued_on : (a : Shown) (chunk : Chunk) → KeepsOn P initial id a (queued a chunk)
   queued_on a chunk = same_on a (queued a chunk) refl refl refl
 
-  offered_on : (o : Option Offer) (a : Shown) → KeepsOn initial id a (init_queued o a)
+  offered_on : (o : Option Offer) (a : Shown) → KeepsOn P initial id a (init_queued o a)
   offered_on None a = stays_on a
   offered_on (Some offer) a = queued_on a _
 
-  sends_init_on : (a : Shown) (now : ℕ) → KeepsOn initial id a (sends_init a now)
+  sends_init_on : (a : Shown) (now : ℕ) → KeepsOn P initial id a (sends_init a now)
   unfolding sends_init
   sends_init_on a now =
       then_on (offered_on a.handshake.offer a)
       (same_on (init_queued a.handshake.offer a) (sends_init a now) refl refl refl)
 
-  echoed_on : (o : Option (List ℕ)) (a : Shown) → KeepsOn initial id a (cookie_queued o a)
+  echoed_on : (o : Option (List ℕ)) (a : Shown) → KeepsOn P initial id a (cookie_queued o a)
   echoed_on None a = stays_on a
   echoed_on (Some cookie) a = queued_on a _
 
-  sends_cookie_on : (a : Shown) (now : ℕ) → KeepsOn initial id a (sends_cookie a now)
+  sends_cookie_on : (a : Shown) (now : ℕ) → KeepsOn P initial id a (sends_cookie a now)
   unfolding sends_cookie
   sends_cookie_on a now =
       then_on (echoed_on a.handshake.echo a)
       (same_on (cookie_queued a.handshake.echo a) (sends_cookie a now) refl refl refl)
 
   t1_init_on : (expired failure : Bool) (a : Shown) (now : ℕ)
-      → KeepsOn initial id a
+      → KeepsOn P initial id a
       (if expired then
       (if failure then (let b = t1_init_expired a now in record b { handshake_fault = Some errors.ErrHandshakeInitAck })
       else sends_init (t1_init_expired a now) now) else a)
@@ -288,7 +289,7 @@ module _ (initial id : ℕ) where
       let b : Shown = t1_init_expired a now in then_on (same_on a b refl refl refl) (sends_init_on b now)
 
   t1_cookie_on : (expired failure : Bool) (a : Shown) (now : ℕ)
-      → KeepsOn initial id a
+      → KeepsOn P initial id a
       (if expired then
       (if failure then (let b =
       t1_cookie_expired a now in record b { handshake_fault = Some errors.ErrHandshakeCookieEcho }) else
@@ -299,7 +300,7 @@ module _ (initial id : ℕ) where
       let b : Shown = t1_cookie_expired a now in then_on (same_on a b refl refl refl) (sends_cookie_on b now)
 
   -- all that is in flight is marked, which changes nothing that comes
-  retransmits_on : (a : Shown) (now : ℕ) → KeepsOn initial id a (retransmits (t3_expired a now) now)
+  retransmits_on : (a : Shown) (now : ℕ) → KeepsOn P initial id a (retransmits (t3_expired a now) now)
   retransmits_on a now = record {
     keeps = same_to a (retransmits (t3_expired a now) now) refl refl refl;
     past = λ h binds.
@@ -308,22 +309,22 @@ module _ (initial id : ℕ) where
   }
 
   t3_on : (expired failure : Bool) (a : Shown) (now : ℕ)
-      → KeepsOn initial id a
+      → KeepsOn P initial id a
       (if expired then (if failure then t3_expired a now else retransmits (t3_expired a now) now) else a)
   t3_on false failure a now = stays_on a
   t3_on true true a now = same_on a _ refl refl refl
   t3_on true false a now = retransmits_on a now
 
-  gives_up_on : (a : Shown) → KeepsOn initial id a (gives_up a)
+  gives_up_on : (a : Shown) → KeepsOn P initial id a (gives_up a)
   gives_up_on a =
       let x : Beside = given_up a.resets a.streams a.events in
       then_on
-      (beside_on a x (given_up_keeps initial id a.resets a.streams a.events)
+      (beside_on a x (given_up_keeps P initial id a.resets a.streams a.events)
       (given_up_peer a.resets a.streams a.events))
       (same_on (with_beside a x) (gives_up a) refl refl refl)
 
   reconfig_on : (expired failure : Bool) (a : Shown) (now : ℕ)
-      → KeepsOn initial id a
+      → KeepsOn P initial id a
       (if expired then (if failure then gives_up (reconfig_expired a now) else asks_again (reconfig_expired a now) now)
       else a)
   reconfig_on false failure a now = stays_on a
@@ -332,11 +333,11 @@ module _ (initial id : ℕ) where
   reconfig_on true false a now = same_on a _ refl refl refl
 
   delay_on : (expired : Bool) (a : Shown) (now : ℕ) → (expiry_of names.Ack now a.timers).expired ≡ expired
-      → KeepsOn initial id a (after_ack_delay a now)
+      → KeepsOn P initial id a (after_ack_delay a now)
   delay_on false a now e = rw e (stays_on a)
   delay_on true a now e = rw e (same_on a _ refl refl refl)
 
-  pub timeouts_on : (a : Shown) (now : ℕ) → KeepsOn initial id a (after_timeouts a now)
+  pub timeouts_on : (a : Shown) (now : ℕ) → KeepsOn P initial id a (after_timeouts a now)
   timeouts_on a now =
       let b : Shown = after_t1_init a now in
       let c : Shown = after_t1_cookie b now in

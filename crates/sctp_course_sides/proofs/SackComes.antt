@@ -1,6 +1,7 @@
 -- A SACK that comes keeps a side on the course of a stream that it receives.
 use Rattle.std.proofs.Common.{◌≡◌, ◌⊎◌, inl, inr, refl, sym, ap, subst, ℕ, zero, suc, ◌+◌, Bool, true, false}
 use Rattle.std.proofs.Common.{if◌then◌else◌, List, [], ◌∷◌, slice_get, Option, Some, None, Result, Ok, Err}
+use Rattle.sctp_wire_types.specs.declared.chunk.ChunkPayloadData.{ChunkPayloadData}
 use Rattle.sctp_wire_types.specs.Checks.{checked_chunk}
 use Rattle.sctp_wire_types.specs.declared.chunk.Chunk.TheVariants as chunks
 use Rattle.sctp_wire_types.specs.declared.chunk.ChunkSelectiveAck.{ChunkSelectiveAck}
@@ -41,24 +42,24 @@ use Rattle.sctp_course_sides.specs.Follows.{Follows}
 use Rattle.sctp_course_sides.proofs.Reaching.{keeps_following}
 
 -- Bytes that are released keep the courses of streams
-module _ (initial id : ℕ) (r : ResetsView) where
+module _ (P : ChunkPayloadData → Type 0) (initial id : ℕ) (r : ResetsView) where
   -- from these streams to those
   abbrev Keeps : StreamMap → StreamMap → Type 0
-  Keeps m n = KeepsCourse initial id r m r n
+  Keeps m n = KeepsCourse P initial id r m r n
 
   keeps_on : (m n k : StreamMap) → Keeps m n → Keeps n k → Keeps m k
-  keeps_on m n k first later = keeps_then initial id r r r m n k first later
+  keeps_on m n k first later = keeps_then P initial id r r r m n k first later
 
   after_keeps : (o : Option InFlight) (m : StreamMap) → Keeps m (streams_after o m)
-  after_keeps None m = keeps_same initial id r m
-  after_keeps (Some p) m = released_keeps initial id r m p.message.stream_identifier p.message.generation _
+  after_keeps None m = keeps_same P initial id r m
+  after_keeps (Some p) m = released_keeps P initial id r m p.message.stream_identifier p.message.generation _
 
   first_keeps : (now : ℕ) (x : Sender × Estimate × StreamMap) → Keeps x.2 (after_first now x).2
   unfolding after_first
   first_keeps now (s, e, m) = after_keeps (slice_get s.queue.in_flight 0) m
 
   acknowledged_keeps : (n now : ℕ) (x : Sender × Estimate × StreamMap) → Keeps x.2 (acknowledged n now x).2
-  acknowledged_keeps zero now x = keeps_same initial id r x.2
+  acknowledged_keeps zero now x = keeps_same P initial id r x.2
   acknowledged_keeps (suc n) now x =
       keeps_on x.2 (after_first now x).2 (acknowledged n now (after_first now x)).2 (first_keeps now x)
       (acknowledged_keeps n now (after_first now x))
@@ -66,11 +67,11 @@ module _ (initial id : ℕ) (r : ResetsView) where
   named_keeps : (named : Bool) (p : InFlight) (m : StreamMap)
       → Keeps m (if named then streams_after (Some p) m else m)
   named_keeps true p m = after_keeps (Some p) m
-  named_keeps false p m = keeps_same initial id r m
+  named_keeps false p m = keeps_same P initial id r m
 
   among_keeps : (named : ℕ → Bool) (j : ℕ) (ps : List InFlight) (m : StreamMap)
       → Keeps m (released_among named j ps m)
-  among_keeps named j [] m = keeps_same initial id r m
+  among_keeps named j [] m = keeps_same P initial id r m
   among_keeps named j (p ∷ ps) m =
       let n : StreamMap = if named j then streams_after (Some p) m else m in
       keeps_on m n (released_among named (suc j) ps n) (named_keeps (named j) p m) (among_keeps named (suc j) ps n)
@@ -88,26 +89,26 @@ module _ (initial id : ℕ) (r : ResetsView) where
       (blocks_keep now blocks (acknowledged n now x))
 
 -- What a SACK leaves: the resets, and streams that keep to the course.
-record LeavesCourse (initial id : ℕ) (a b : Shown) : Type 0 where
+record LeavesCourse (P : ChunkPayloadData → Type 0) (initial id : ℕ) (a b : Shown) : Type 0 where
   resets : b.resets ≡ a.resets
-  streams : KeepsCourse initial id a.resets a.streams a.resets b.streams
+  streams : KeepsCourse P initial id a.resets a.streams a.resets b.streams
 
-module _ (initial id : ℕ) where
+module _ (P : ChunkPayloadData → Type 0) (initial id : ℕ) where
   leaves : (a b : Shown) → b.resets ≡ a.resets
-      → KeepsCourse initial id a.resets a.streams a.resets b.streams → LeavesCourse initial id a b
+      → KeepsCourse P initial id a.resets a.streams a.resets b.streams → LeavesCourse P initial id a b
   leaves a b same keeps = record { resets = same; streams = keeps }
 
-  same_leaves : (a : Shown) → LeavesCourse initial id a a
-  same_leaves a = leaves a a refl (keeps_same initial id a.resets a.streams)
+  same_leaves : (a : Shown) → LeavesCourse P initial id a a
+  same_leaves a = leaves a a refl (keeps_same P initial id a.resets a.streams)
 
   acknowledged_leaves : (a : Shown) (progress : Progress) (now : ℕ) (x : Sender × Estimate × StreamMap)
-      → KeepsCourse initial id a.resets a.streams a.resets x.2
-      → LeavesCourse initial id a (with_acknowledged a progress now x)
+      → KeepsCourse P initial id a.resets a.streams a.resets x.2
+      → LeavesCourse P initial id a (with_acknowledged a progress now x)
   acknowledged_leaves a progress now (s, e, m) keeps = leaves a _ refl keeps
 
   outcome_leaves : (o : SackOutcome) (b : Shown) (cumulative_tsn_ack : ℕ) (blocks : List GapAckBlock) (window : ℕ)
       (trigger : AckTrigger) (now : ℕ)
-      → LeavesCourse initial id b (on_counted_sack o b cumulative_tsn_ack blocks window trigger now).0
+      → LeavesCourse P initial id b (on_counted_sack o b cumulative_tsn_ack blocks window trigger now).0
   outcome_leaves outcomes.Older b cumulative_tsn_ack blocks window trigger now = same_leaves b
   outcome_leaves outcomes.NotInFlight b cumulative_tsn_ack blocks window trigger now = same_leaves b
   outcome_leaves outcomes.NamesTheUnsent b cumulative_tsn_ack blocks window trigger now = same_leaves b
@@ -115,12 +116,12 @@ module _ (initial id : ℕ) where
       let x = sack_taken cumulative_tsn_ack blocks window now b.sender b.estimate b.streams in
       let l =
       acknowledged_leaves b (progress_of b.sender cumulative_tsn_ack blocks) now x
-      (sack_keeps initial id b.resets cumulative_tsn_ack blocks window now b.sender b.estimate b.streams) in
+      (sack_keeps P initial id b.resets cumulative_tsn_ack blocks window now b.sender b.estimate b.streams) in
       leaves b _ l.resets l.streams
 
   sack_leaves_if : (c : Bool) (a : Shown) (cumulative_tsn_ack : ℕ) (blocks : List GapAckBlock) (window : ℕ)
       (trigger : AckTrigger) (now : ℕ)
-      → LeavesCourse initial id a
+      → LeavesCourse P initial id a
       (if◌then◌else◌ {A = Shown × Flow} c
       (on_counted_sack (sack_outcome a.sender cumulative_tsn_ack blocks) (counted_sack a) cumulative_tsn_ack blocks
       window trigger now)
@@ -133,20 +134,20 @@ module _ (initial id : ℕ) where
   sack_leaves_if false a cumulative_tsn_ack blocks window trigger now = same_leaves a
 
   sack_leaves : (a : Shown) (cumulative_tsn_ack : ℕ) (blocks : List GapAckBlock) (window : ℕ) (trigger : AckTrigger)
-      (now : ℕ) → LeavesCourse initial id a (on_sack a cumulative_tsn_ack blocks window trigger now).0
+      (now : ℕ) → LeavesCourse P initial id a (on_sack a cumulative_tsn_ack blocks window trigger now).0
   unfolding on_sack
   sack_leaves a cumulative_tsn_ack blocks window trigger now =
       sack_leaves_if (sends_data a.state) a cumulative_tsn_ack blocks window trigger now
 
   checked_leaves : (r : Result (Unit {0}) Error) (a : Shown) (header : CommonHeader) (sack : ChunkSelectiveAck)
       (trigger : AckTrigger) (now : ℕ)
-      → LeavesCourse initial id a (checked_first r a header (chunks.SelectiveAck sack) trigger now).0
+      → LeavesCourse P initial id a (checked_first r a header (chunks.SelectiveAck sack) trigger now).0
   checked_leaves (Err fault) a header sack trigger now = same_leaves a
   checked_leaves (Ok done) a header sack trigger now =
       sack_leaves a sack.cumulative_tsn_ack sack.gap_ack_blocks sack.advertised_receiver_window_credit trigger now
 
   chunk_leaves : (a : Shown) (header : CommonHeader) (sack : ChunkSelectiveAck) (trigger : AckTrigger) (now : ℕ)
-      → LeavesCourse initial id a (on_chunk a header (chunks.SelectiveAck sack) trigger now).0
+      → LeavesCourse P initial id a (on_chunk a header (chunks.SelectiveAck sack) trigger now).0
   unfolding on_chunk
   chunk_leaves a header sack trigger now =
       checked_leaves (checked_chunk (chunks.SelectiveAck sack)) a header sack trigger now
@@ -161,10 +162,11 @@ acked_past xs n blocks missing p (inr e) =
     (record { peer = refl; taken = refl; passed = refl })
 
 -- A SACK keeps to the course.
-pub sack_follows : (initial id : ℕ) (a : Shown) (h : History) (c : Course) (header : CommonHeader)
-    (sack : ChunkSelectiveAck) (trigger : AckTrigger) (now : ℕ) → Follows initial id a h c
-    → LeadsFollowing initial id (on_chunk a header (chunks.SelectiveAck sack) trigger now).0 c
-sack_follows initial id a h c header sack trigger now f =
+pub sack_follows : (P : ChunkPayloadData → Type 0) (initial id : ℕ) (a : Shown) (h : History) (c : Course)
+    (header : CommonHeader)
+    (sack : ChunkSelectiveAck) (trigger : AckTrigger) (now : ℕ) → Follows P initial id a h c
+    → LeadsFollowing P initial id (on_chunk a header (chunks.SelectiveAck sack) trigger now).0 c
+sack_follows P initial id a h c header sack trigger now f =
     let b : Shown = (on_chunk a header (chunks.SelectiveAck sack) trigger now).0 in
     let leads = chunk_leads header (chunks.SelectiveAck sack) a trigger now h f.binds in
     let is : leads.0 ≡ (done_all (acts_of_chunk a header (chunks.SelectiveAck sack)) (parts a h)).history =
@@ -174,7 +176,7 @@ sack_follows initial id a h c header sack trigger now f =
     (acked_past (acts_of_chunk a header (chunks.SelectiveAck sack)) (tsns_up_to a.sender sack.cumulative_tsn_ack)
     sack.gap_ack_blocks (reports_of a.sender sack.cumulative_tsn_ack sack.gap_ack_blocks) (parts a h)
     (checked_sack (checked_chunk (chunks.SelectiveAck sack)) a header sack)) in
-    let left = chunk_leaves initial id a header sack trigger now in
-    keeps_following initial id a b h leads.0 c f leads.1.binds past
-    (subst (λ (r : ResetsView). KeepsCourse initial id a.resets a.streams r b.streams) (sym left.resets) left.streams)
+    let left = chunk_leaves P initial id a header sack trigger now in
+    keeps_following P initial id a b h leads.0 c f leads.1.binds past
+    (subst (λ (r : ResetsView). KeepsCourse P initial id a.resets a.streams r b.streams) (sym left.resets) left.streams)
     (ap (λ (r : ResetsView). r.peer) left.resets)

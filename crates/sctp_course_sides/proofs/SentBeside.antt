@@ -3,6 +3,7 @@ use Rattle.std.proofs.Common.{◌≡◌, refl, sym, ap, ◌∙◌, subst, ℕ, s
 use Rattle.std.proofs.Common.{if◌then◌else◌, List, [], ◌∷◌, ◌++◌, length, Option, Some, None}
 use Rattle.std.proofs.lemmas.Bool.{false≢true}
 use Rattle.std.proofs.lemmas.List.{get_or_append_left}
+use Rattle.sctp_wire_types.specs.declared.chunk.ChunkPayloadData.{ChunkPayloadData}
 use Rattle.sctp_reset_requests.specs.Request.{PeerRequestView}
 use Rattle.sctp_courses.specs.Course.{Course, Request, no_request, request_at}
 use Rattle.sctp_courses.specs.Events.{Event, assigned_mine, happens, is_to_be_reset, run}
@@ -92,11 +93,12 @@ waits_still initial id (Some q) asked more qs performed waits is w =
     )
 
 -- A side follows the course with more requests and more offsets.
-more_sent : (initial id : ℕ) (a : Shown) (h : History) (c : Course) (qs more : List Request) (assigned : ℕ)
+more_sent : (P : ChunkPayloadData → Type 0) (initial id : ℕ) (a : Shown) (h : History) (c : Course)
+    (qs more : List Request) (assigned : ℕ)
     (mine : List ℕ) → qs ≡ c.asked ++ more → c.assigned ≤ assigned → length qs < 2 ^ 31 → assigned < 2 ^ 31
-    → Invariant (with_sent c qs assigned mine) → Follows initial id a h c
-    → Follows initial id a h (with_sent c qs assigned mine)
-more_sent initial id a h c qs more assigned mine is grown few near kept f = record {
+    → Invariant (with_sent c qs assigned mine) → Follows P initial id a h c
+    → Follows P initial id a h (with_sent c qs assigned mine)
+more_sent P initial id a h c qs more assigned mine is grown few near kept f = record {
   small = f.small;
   few = few;
   binds = f.binds;
@@ -131,13 +133,14 @@ more_sent initial id a h c qs more assigned mine is grown few near kept f = reco
 }
 
 -- So a side follows a course on which its sender did more.
-pub sent_beside : (initial id : ℕ) (a : Shown) (h : History) (c : Course) (events : List Event) → AreSent events
-    → IsFew (run events c) → Follows initial id a h c → Follows initial id a h (run events c)
-sent_beside initial id a h c events sent few f =
+pub sent_beside : (P : ChunkPayloadData → Type 0) (initial id : ℕ) (a : Shown) (h : History) (c : Course)
+    (events : List Event) → AreSent events
+    → IsFew (run events c) → Follows P initial id a h c → Follows P initial id a h (run events c)
+sent_beside P initial id a h c events sent few f =
     let d : Course = run events c in
     let grows : Grows c d = sends_grow c d (record { events = events; sent = sent; is = refl }) in
     let alone : d ≡ sent_as c d = events_alone events c sent in
     let kept : Invariant (sent_as c d) = subst Invariant alone (events_kept events c f.stands.kept) in
-    subst (Follows initial id a h) (sym alone)
-    (more_sent initial id a h c d.asked grows.more d.assigned d.mine grows.asked grows.assigned few.requests
+    subst (Follows P initial id a h) (sym alone)
+    (more_sent P initial id a h c d.asked grows.more d.assigned d.mine grows.asked grows.assigned few.requests
     few.offsets kept f)

@@ -60,7 +60,8 @@ module _ (initial : ℕ) (c : Course) where
   pub speaks_by : (a b : Shown) → b.resets.own ≡ a.resets.own → b.resets.peer ≡ a.resets.peer
       → b.control ≡ a.control → SpeaksOn a b
   speaks_by a b own peer control h =
-      speaks_with a b (subst (λ (o : OwnView). OwnIsTrue (IsOfPerformed initial c) o) (sym own) h.truth.own) peer control
+      speaks_with a b (subst (λ (o : OwnView). OwnIsTrue (IsOfPerformed initial c) o) (sym own) h.truth.own) peer
+      control
       h
 
   pub queued_speaks : (a : Shown) (chunk : Chunk) → ChunkIsTrue initial c chunk → SpeaksOn a (queued a chunk)

@@ -1,6 +1,7 @@
 -- What a receiver does leads the course of a stream on, and it follows that.
 use Rattle.std.specs.Prelude.{◌≡◌, ⊤, ℕ, false, List, Option, Some, None}
 use Rattle.std.specs.List.{AllByRecursion}
+use Rattle.sctp_wire_types.specs.declared.chunk.ChunkPayloadData.{ChunkPayloadData}
 use Rattle.sctp_wire_types.specs.declared.chunk.Chunk.{Chunk}
 use Rattle.sctp_wire_types.specs.declared.chunk.Chunk.TheVariants as chunks
 use Rattle.sctp_wire.specs.declared.packet.Packet.{Packet}
@@ -11,19 +12,19 @@ use Rattle.sctp_assoc.specs.Shown.{Shown}
 use Rattle.sctp_course_sides.specs.Follows.{ChunkComes, Follows}
 
 -- The course goes on to one that the side follows, with what came until then; nothing is read.
-pub record LeadsFollowing (initial id : ℕ) (b : Shown) (c : Course) : Type 0 where
+pub record LeadsFollowing (P : ChunkPayloadData → Type 0) (initial id : ℕ) (b : Shown) (c : Course) : Type 0 where
   pub after : Course
   pub past : History
   pub goes : GoesOn c after
   pub told : after.told ≡ c.told
-  pub follows : Follows initial id b past after
+  pub follows : Follows P initial id b past after
 
 -- So it does unless the association was lost.
-pub record LeadsUnlessLost (initial id : ℕ) (b : Shown) (c : Course) : Type 0 where
+pub record LeadsUnlessLost (P : ChunkPayloadData → Type 0) (initial id : ℕ) (b : Shown) (c : Course) : Type 0 where
   pub after : Course
   pub goes : GoesOn c after
   pub told : after.told ≡ c.told
-  pub follows : b.lost ≡ false → (past : History) × Follows initial id b past after
+  pub follows : b.lost ≡ false → (past : History) × Follows P initial id b past after
 
 -- a chunk tells no initial TSN: it is neither INIT nor INIT ACK
 abbrev pub IsNoGreeting : Chunk → Type 0

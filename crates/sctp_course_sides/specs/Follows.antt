@@ -68,11 +68,12 @@ pub record HasReached (initial : ℕ) (h : History) (c : Course) : Type 0 where
   pub passed : h.passed ≤ c.assigned
 
 -- A side that knows its peer's initial TSN follows the course of a stream.
-pub record Follows (initial id : ℕ) (a : Shown) (h : History) (c : Course) : Type 0 where
+pub record Follows (P : ChunkPayloadData → Type 0) (initial id : ℕ) (a : Shown) (h : History)
+    (c : Course) : Type 0 where
   pub small : initial < 2 ^ 32
   pub few : length c.asked < 2 ^ 31
   pub binds : Binds a h
-  pub stands : StandsBeside initial id a.resets a.streams c
+  pub stands : StandsBeside P initial id a.resets a.streams c
   pub reached : HasReached initial h c
 
 -- Nothing was sent, and nothing came.
@@ -84,9 +85,9 @@ pub record IsUntouched (c : Course) : Type 0 where
   pub taken : c.taken ≡ []
 
 -- A side that does not know its peer yet: nothing was sent to it.
-pub record AwaitsIts (initial id : ℕ) (a : Shown) (c : Course) : Type 0 where
+pub record AwaitsIts (P : ChunkPayloadData → Type 0) (initial id : ℕ) (a : Shown) (c : Course) : Type 0 where
   pub kept : Invariant c
-  pub stands : Stands initial id a.resets.generations a.streams a.resets.peer.in_progress c
+  pub stands : Stands P initial id a.resets.generations a.streams a.resets.peer.in_progress c
   pub read_on : IsReadOn c
   pub unknown : a.resets.peer.last_completed ≡ None
   pub untouched : IsUntouched c

@@ -8,3 +8,4 @@ pub mod Laws
 pub mod Honest
 pub mod Spelled
 pub mod Over
+pub mod Meets

@@ -12,15 +12,15 @@ use Rattle.sctp_assoc.specs.Shown.{Shown}
 use Rattle.sctp_sides.specs.NoReset.{HasNoReset}
 use Rattle.sctp_sides.specs.SideLaws.{HoldsNothing}
 
--- A chunk says nothing of DATA, of requests to reset streams or of the begin of an association.
+-- A chunk says nothing of DATA, of requests to reset streams or of a handshake: it ends an association, or tells of an
+-- error.
 abbrev pub SaysNothing : Chunk → Type 0
-SaysNothing (chunks.Data piece) = ⊥
-SaysNothing (chunks.Init init) = ⊥
-SaysNothing (chunks.InitAck init) = ⊥
-SaysNothing (chunks.ForwardTsn forward) = ⊥
-SaysNothing (chunks.IForwardTsn forward) = ⊥
-SaysNothing (chunks.Reconfig reconfig) = ⊥
-SaysNothing chunk = ⊤
+SaysNothing (chunks.Abort abort) = ⊤
+SaysNothing (chunks.Error error) = ⊤
+SaysNothing (chunks.Shutdown cumulative_tsn_ack) = ⊤
+SaysNothing chunks.ShutdownAck = ⊤
+SaysNothing chunks.ShutdownComplete = ⊤
+SaysNothing chunk = ⊥
 
 -- so does what waits to go out
 abbrev pub ControlSaysNothing : Control → Type 0

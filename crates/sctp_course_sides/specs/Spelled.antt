@@ -13,7 +13,7 @@ use Rattle.sctp_assoc.specs.declared.control.Control.{Control}
 use Rattle.sctp_assoc.specs.declared.control.Control.TheVariants as controls
 use Rattle.sctp_assoc.specs.Calls.{exchanges_data, is_established}
 use Rattle.sctp_assoc.specs.Gather.{control_polled, data_after, listed, requests_of, with_control_given}
-use Rattle.sctp_assoc.specs.Gather.{WaitPlainly, without_control}
+use Rattle.sctp_assoc.specs.Gather.{without_control}
 use Rattle.sctp_assoc.specs.Happened.{IsOfShutdown, acts_of_poll, forwards_of_poll}
 use Rattle.sctp_assoc.specs.Resets.{reconfig_of}
 use Rattle.sctp_assoc.specs.Shown.{Shown}
@@ -59,8 +59,8 @@ IsOfAsked a now chunk =
     (request : ParamOutgoingResetRequest) × IsAskedBy a now request
     × (chunk ≡ reconfig_of (params.OutgoingResetRequest (carried request)))
 
--- Chunks that say nothing of what their side sends on streams, and begin no association: neither DATA nor FORWARD TSN,
--- no request to reset streams, and neither INIT nor INIT ACK.
+-- Chunks that say nothing of what their side sends on streams: neither DATA nor FORWARD TSN, and no request to reset
+-- streams.
 
 abbrev pub IsNoRequest : Param → Type 0
 IsNoRequest (params.OutgoingResetRequest request) = ⊥
@@ -74,8 +74,6 @@ abbrev pub IsBesideStreams : Chunk → Type 0
 IsBesideStreams (chunks.Data piece) = ⊥
 IsBesideStreams (chunks.ForwardTsn forward) = ⊥
 IsBesideStreams (chunks.IForwardTsn forward) = ⊥
-IsBesideStreams (chunks.Init init) = ⊥
-IsBesideStreams (chunks.InitAck init) = ⊥
 IsBesideStreams (chunks.Reconfig reconfig) = IsNoRequest reconfig.first × IsNoRequestIf reconfig.second
 IsBesideStreams chunk = ⊤
 
@@ -86,11 +84,6 @@ ControlIsBeside controls.OwnRequest = ⊤
 -- all packets that wait to go out are of such chunks
 abbrev pub WaitsBeside : Shown → Type 0
 WaitsBeside a = AllByRecursion ControlIsBeside a.control
-
--- so it stays where no INIT is kept for its timer, either; nothing that waits is kept under `Other` whose type has a
--- variant of its own
-abbrev pub StaysBeside : Shown → Type 0
-StaysBeside a = WaitsBeside a × WaitPlainly a × (a.handshake.offer ≡ None)
 
 -- A chunk that a poll gives, which left b: one that waited to go out in a packet of its own; while DATA is exchanged
 -- DATA of its acts, a SACK that says what came, or the FORWARD TSN of what is in flight then; a request of this side

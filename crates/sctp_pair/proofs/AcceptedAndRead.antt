@@ -2,13 +2,14 @@
 use Rattle.std.proofs.Common.{◌≡◌, refl, sym, subst, ℕ, List, [], Option, Some, None}
 use Rattle.sctp_assoc.specs.declared.call.Reply.{Reply}
 use Rattle.sctp_assoc.specs.declared.call.Reply.TheVariants as replies
-use Rattle.sctp_pair.specs.declared.step.Side2.{Side2}
-use Rattle.sctp_pair.specs.declared.step.Side2.TheVariants as sides
-use Rattle.sctp_pair.specs.declared.step.Step.{Step}
-use Rattle.sctp_pair.specs.Ends.{end_of}
+use Rattle.sctp_steps.specs.declared.step.Side2.{Side2}
+use Rattle.sctp_steps.specs.declared.step.Side2.TheVariants as sides
+use Rattle.sctp_steps.specs.declared.step.Step.{Step}
+use Rattle.sctp_steps.specs.Ends.{end_of}
 use Rattle.sctp_wire_types.specs.declared.ids.PayloadProtocolIdentifier.{PayloadProtocolIdentifier}
-use Rattle.sctp_pair.specs.Steps.{Writing, reading_of, writing_of}
-use Rattle.sctp_pair.specs.World.{World, accepted_at, accepted_of, message_answered, message_read, other_side}
+use Rattle.sctp_steps.specs.Steps.{Writing, reading_of, writing_of}
+use Rattle.sctp_steps.specs.Seen.{message_answered, message_read, other_side}
+use Rattle.sctp_pair.specs.World.{World, accepted_at, accepted_of}
 use Rattle.sctp_pair.proofs.BetweenDirections.{None_brought, nothing_added, nothing_read}
 use Rattle.sctp_pair.proofs.CallsAreSteps.{IsCallAt}
 use Rattle.sctp_pair.proofs.ReadCall.{read_by}

@@ -14,15 +14,16 @@ use Rattle.sctp_assoc.specs.Shown.{Shown}
 use Rattle.sctp_sides.proofs.Proved.{accepted_writes_fit, established_is_not_closed}
 use Rattle.sctp_assoc.specs.declared.call.Reply.{Reply}
 use Rattle.sctp_assoc.specs.declared.call.Reply.TheVariants as replies
-use Rattle.sctp_pair.specs.declared.step.Side2.{Side2}
-use Rattle.sctp_pair.specs.declared.step.Side2.TheVariants as sides
-use Rattle.sctp_pair.specs.declared.step.Step.{Step}
-use Rattle.sctp_pair.specs.declared.step.Step.TheVariants as steps
-use Rattle.sctp_pair.specs.Ends.{Ends}
+use Rattle.sctp_steps.specs.declared.step.Side2.{Side2}
+use Rattle.sctp_steps.specs.declared.step.Side2.TheVariants as sides
+use Rattle.sctp_steps.specs.declared.step.Step.{Step}
+use Rattle.sctp_steps.specs.declared.step.Step.TheVariants as steps
+use Rattle.sctp_steps.specs.Ends.{Ends}
 use Rattle.sctp_pair.specs.Fits.{Fits, Stands}
 use Rattle.sctp_assoc.specs.Replies.{Writes}
-use Rattle.sctp_pair.specs.Steps.{AtSide, Steps, Writing}
-use Rattle.sctp_pair.specs.World.{IsOpen, IsOrderedAndReliable, World, accepted_at, accepted_of, loose_of, messages_on}
+use Rattle.sctp_steps.specs.Steps.{AtSide, Steps, Writing}
+use Rattle.sctp_steps.specs.Seen.{IsOpen}
+use Rattle.sctp_pair.specs.World.{IsOrderedAndReliable, World, accepted_at, accepted_of, loose_of, messages_on}
 use Rattle.sctp_pair.proofs.Promised.{stands_open}
 use Rattle.sctp_pair.proofs.WriteCall.{first_none, message_in_order}
 

@@ -20,10 +20,10 @@ use Rattle.sctp_assoc.specs.Shown.{Shown}
 use Rattle.sctp_sides.proofs.Proved.{accepted_writes_fit}
 use Rattle.sctp_assoc.specs.declared.call.Reply.{Reply}
 use Rattle.sctp_assoc.specs.declared.call.Reply.TheVariants as replies
-use Rattle.sctp_pair.specs.declared.step.Side2.{Side2}
-use Rattle.sctp_pair.specs.declared.step.Side2.TheVariants as sides
-use Rattle.sctp_pair.specs.declared.step.Step.{Step}
-use Rattle.sctp_pair.specs.declared.step.Step.TheVariants as steps
+use Rattle.sctp_steps.specs.declared.step.Side2.{Side2}
+use Rattle.sctp_steps.specs.declared.step.Side2.TheVariants as sides
+use Rattle.sctp_steps.specs.declared.step.Step.{Step}
+use Rattle.sctp_steps.specs.declared.step.Step.TheVariants as steps
 use Rattle.sctp_pair.specs.Callers.{CameBy, ComesOn, HoldsOn, IsFrontOf, LedSafely, Made, NothingIsReadBeforeADelivery}
 use Rattle.sctp_pair.specs.Callers.{ReadsAreFronts, bytes_answered, bytes_of, bytes_read, bytes_written, delivers_to}
 use Rattle.sctp_pair.specs.Callers.{tallied_by, tally_of, world_of}
@@ -38,12 +38,13 @@ use Rattle.std.proofs.lemmas.Bool.{and_parts}
 use Rattle.std.specs.Prelude.{◌||◌, not, map}
 use Rattle.sctp_pair.specs.Callers.{read_in, read_undelivered, written_in}
 use Rattle.sctp_pair.specs.Counted.{FitsCounted, Tally, nothing_tallied}
-use Rattle.sctp_pair.specs.Ends.{Ends}
+use Rattle.sctp_steps.specs.Ends.{Ends}
 use Rattle.sctp_assoc.specs.Replies.{Writes}
-use Rattle.sctp_pair.specs.Steps.{AtSide, Runs, Steps, reading_of, writing_of}
+use Rattle.sctp_steps.specs.Steps.{AtSide, Runs, Steps, reading_of, writing_of}
 use Rattle.sctp_pair.specs.World.{EndsSpan, HasData, IsDirectionStep, IsWorldStep, World, accepted_at, empty_world}
 use Rattle.sctp_pair.specs.World.{ends_span}
-use Rattle.sctp_pair.specs.World.{accepted_of, is_side, message_answered, message_read, messages_on, other_side}
+use Rattle.sctp_steps.specs.Seen.{is_side, message_answered, message_read, other_side}
+use Rattle.sctp_pair.specs.World.{accepted_of, messages_on}
 use Rattle.sctp_pair.specs.World.{packet_brought}
 use Rattle.sctp_pair.proofs.AcceptedAndRead.{writes}
 use Rattle.sctp_pair.proofs.AcceptedInOrder.{from}
@@ -426,7 +427,7 @@ module _ {m : Made} {ss : List Step} {rs : List Reply} {p : Ends} (c : CameBy m 
 -- These steps lead on from p to q.
 module _ (more : List Step) (answers : List Reply) (p q : Ends) (led : Runs more answers p q) where
   -- they follow those that led to p
-  pub comes_on : ComesOn more answers p q
+  unfoldable pub comes_on : ComesOn more answers p q
   comes_on m ss rs c few = record {
     begin = c.begin;
     new = c.new;

@@ -20,17 +20,18 @@ use Rattle.sctp_sides.proofs.Proved.{established_sides_talk}
 use Rattle.sctp_reassembly.specs.Stands.{IsReadAs}
 use Rattle.sctp_directions.specs.Between.{IsSound}
 use Rattle.sctp_assoc.specs.declared.call.Reply.{Reply}
-use Rattle.sctp_pair.specs.declared.step.Side2.{Side2}
-use Rattle.sctp_pair.specs.declared.step.Side2.TheVariants as sides
-use Rattle.sctp_pair.specs.declared.step.Step.{Step}
-use Rattle.sctp_pair.specs.Ends.{Ends, end_of}
+use Rattle.sctp_steps.specs.declared.step.Side2.{Side2}
+use Rattle.sctp_steps.specs.declared.step.Side2.TheVariants as sides
+use Rattle.sctp_steps.specs.declared.step.Step.{Step}
+use Rattle.sctp_steps.specs.Ends.{Ends, end_of}
 use Rattle.sctp_assoc.specs.Replies.{packet_in}
-use Rattle.sctp_pair.specs.Steps.{Steps}
+use Rattle.sctp_steps.specs.Steps.{Steps}
 use Rattle.sctp_fit.specs.Incoming.{tsn_before}
-use Rattle.sctp_pair.specs.World.{EndsReset, EndsSpan, HasData, HasForward, HasRestarted, IsDirectionStep, IsOpen}
+use Rattle.sctp_steps.specs.Seen.{EndsReset, IsOpen}
+use Rattle.sctp_pair.specs.World.{EndsSpan, HasData, HasForward, HasRestarted, IsDirectionStep}
 use Rattle.sctp_pair.specs.World.{World, accepted_at}
-use Rattle.sctp_pair.specs.World.{message_read}
-use Rattle.sctp_pair.specs.World.{other_side}
+use Rattle.sctp_steps.specs.Seen.{message_read}
+use Rattle.sctp_steps.specs.Seen.{other_side}
 use Rattle.sctp_pair.specs.World.{IsOrderedAndReliable, loose_after, loose_of, loosens, packet_brought}
 use Rattle.sctp_pair.specs.Fits.{AreSaid, Fits, IsAt, IsSaidBy, IsSilent, LeadsSafely, ResetsQuietly, Stands, StandsIn}
 use Rattle.sctp_pair.proofs.BetweenDirections.{By, DoesEnding, Faces, None_ended, OpenAt, SettlesEnding, Surroundings}
@@ -39,6 +40,7 @@ use Rattle.sctp_pair.proofs.AcceptedInOrder.{accepted_in_order}
 use Rattle.sctp_pair.proofs.NeverTakenBack.{runs_are_onward}
 use Rattle.sctp_pair.proofs.Promised.{receives_or_stopped, safe_world}
 use Rattle.sctp_pair.proofs.SaidStaysSaid.{StageGoesOn, said_grows}
+use Rattle.sctp_pair.proofs.GrowingPlans.{plan_grew}
 use Rattle.sctp_pair.proofs.HandshakeStages.{stays_put, turned}
 use Rattle.sctp_pair.proofs.QuietCalls.{closed_is_beginning}
 use Rattle.sctp_pair.proofs.QuietSteps.{steps_stay_quiet}
@@ -185,6 +187,7 @@ module _ {Ended : ℕ → Type 0} {x : Surroundings} {b : Shown} {Added : ℕ �
     forwards = s.does_out.forwards;
     sacks = s.does_coming.sacks;
     spans = s.does_out.spans;
+    plan = plan_grew s.does_out.events x.out s.out2 s.does_out.is;
   }
 
   other_goes_on : StageGoesOn x.there x.there x.coming x.out s.coming2 s.out2
@@ -194,6 +197,7 @@ module _ {Ended : ℕ → Type 0} {x : Surroundings} {b : Shown} {Added : ℕ �
     forwards = s.does_coming.forwards;
     sacks = s.does_out.sacks;
     spans = s.does_coming.spans;
+    plan = plan_grew s.does_coming.events x.coming s.coming2 s.does_coming.is;
   }
 
 -- a receiver that is closed before a call is closed after it

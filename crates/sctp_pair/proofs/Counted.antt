@@ -21,12 +21,13 @@ use Rattle.sctp_directions.proofs.Proved.{accepted_messages_are_counted, nothing
 use Rattle.sctp_assoc.specs.Shown.{Shown}
 use Rattle.sctp_assoc.specs.declared.call.Reply.{Reply}
 use Rattle.sctp_assoc.specs.declared.call.Reply.TheVariants as replies
-use Rattle.sctp_pair.specs.declared.step.Side2.{Side2}
-use Rattle.sctp_pair.specs.declared.step.Step.{Step}
-use Rattle.sctp_pair.specs.Ends.{Ends, end_of}
-use Rattle.sctp_pair.specs.Steps.{Runs, Steps, Writing, writing_of}
+use Rattle.sctp_steps.specs.declared.step.Side2.{Side2}
+use Rattle.sctp_steps.specs.declared.step.Step.{Step}
+use Rattle.sctp_steps.specs.Ends.{Ends, end_of}
+use Rattle.sctp_steps.specs.Steps.{Runs, Steps, Writing, writing_of}
 use Rattle.sctp_pair.specs.World.{IsDirectionStep, IsSafeWorld, IsWithinLimits, IsWorldStep, World, accepted_at}
-use Rattle.sctp_pair.specs.World.{accepted_of, empty_world, is_side, message_read, messages_on, other_side}
+use Rattle.sctp_steps.specs.Seen.{is_side, message_read, other_side}
+use Rattle.sctp_pair.specs.World.{accepted_of, empty_world, messages_on}
 use Rattle.sctp_pair.specs.Counted.{AreFew, FitsCounted, IsFew, LeadsCounted, RunsCounted, Tally, nothing_tallied}
 use Rattle.sctp_pair.specs.Counted.{one_accepted, one_read, one_written, pieces_accepted, pieces_of, tallied_in}
 use Rattle.sctp_pair.specs.Fits.{Fits, Stands}

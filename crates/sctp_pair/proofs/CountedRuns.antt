@@ -2,10 +2,10 @@
 -- goes on so.
 use Rattle.std.proofs.Common.{◌≡◌, refl, sym, ap, ◌∙◌, subst, ℕ, List, [], ◌∷◌, ◌++◌}
 use Rattle.sctp_assoc.specs.declared.call.Reply.{Reply}
-use Rattle.sctp_pair.specs.declared.step.Step.{Step}
+use Rattle.sctp_steps.specs.declared.step.Step.{Step}
 use Rattle.sctp_pair.specs.Callers.{LedSafely, Made, StaysFew, tallied_by, tally_from, world_of}
 use Rattle.sctp_pair.specs.Counted.{AreFew, FitsCounted, RunsCounted, Tally, tallied, tallied_in}
-use Rattle.sctp_pair.specs.Ends.{Ends}
+use Rattle.sctp_steps.specs.Ends.{Ends}
 use Rattle.sctp_pair.specs.World.{IsWorldStep, World}
 
 -- The world is one of a pair that was made so.
@@ -18,7 +18,7 @@ pub record IsMade (m : Made) (w : World) : Type 0 where
 pub begun_made : (m : Made) (p : Ends) → IsMade m (world_of m p)
 begun_made m p = record { size_a = refl; size_b = refl; initial_a = refl; initial_b = refl }
 
-stays_made : {m : Made} {step : Step} {r : Reply} {w v : World} → IsWorldStep step w r v → IsMade m w → IsMade m v
+pub stays_made : {m : Made} {step : Step} {r : Reply} {w v : World} → IsWorldStep step w r v → IsMade m w → IsMade m v
 stays_made h made = record {
   size_a = h.ab_step.size ∙ made.size_a;
   size_b = h.ba_step.size ∙ made.size_b;

@@ -9,17 +9,17 @@ use Rattle.sctp_fit.specs.FewPieces.{pieces_in}
 use Rattle.sctp_fit.proofs.PlacesCounted.{piece_counted}
 use Rattle.sctp_assoc.specs.declared.call.Reply.{Reply}
 use Rattle.sctp_assoc.specs.declared.call.Reply.TheVariants as replies
-use Rattle.sctp_pair.specs.declared.step.Side2.{Side2}
-use Rattle.sctp_pair.specs.declared.step.Side2.TheVariants as sides
-use Rattle.sctp_pair.specs.declared.step.Step.{Step}
-use Rattle.sctp_pair.specs.declared.step.Step.TheVariants as steps
+use Rattle.sctp_steps.specs.declared.step.Side2.{Side2}
+use Rattle.sctp_steps.specs.declared.step.Side2.TheVariants as sides
+use Rattle.sctp_steps.specs.declared.step.Step.{Step}
+use Rattle.sctp_steps.specs.declared.step.Step.TheVariants as steps
 use Rattle.sctp_pair.specs.Callers.{AcceptFew, FewStayFew, Made, StaysFew, accepted_in, tallied_by, tally_from}
 use Rattle.sctp_pair.specs.Callers.{tally_of}
 use Rattle.sctp_pair.specs.Counted.{Tally, nothing_tallied, one_accepted, one_written, pieces_accepted, pieces_of}
-use Rattle.sctp_pair.specs.Ends.{Ends}
+use Rattle.sctp_steps.specs.Ends.{Ends}
 use Rattle.sctp_assoc.specs.Replies.{Writes}
-use Rattle.sctp_pair.specs.Steps.{AtSide, Runs, Steps}
-use Rattle.sctp_pair.specs.World.{is_side}
+use Rattle.sctp_steps.specs.Steps.{AtSide, Runs, Steps}
+use Rattle.sctp_steps.specs.Seen.{is_side}
 use Rattle.sctp_pair.proofs.AcceptedAndRead.{writes}
 use Rattle.sctp_pair.proofs.WriteCall.{first_none}
 

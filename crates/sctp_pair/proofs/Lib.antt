@@ -1,7 +1,9 @@
 pub mod AcceptedAndRead
 pub mod AcceptedInOrder
+pub mod AcrossResets
 pub mod AnsweredValues
 pub mod BetweenChunks
+pub mod BetweenCourses
 pub mod BetweenDirections
 pub mod Callers
 pub mod CallsAreSteps
@@ -13,6 +15,8 @@ pub mod PastSpans
 pub mod ComingData
 pub mod FewInAll
 mod ForwardsMade
+pub mod GivenAndAccepted
+pub mod GrowingPlans
 pub mod HandshakeChunk
 pub mod HandshakeStages
 pub mod CountedRuns
@@ -24,8 +28,10 @@ pub mod NoReset
 pub mod NumbersCounted
 pub mod PacketCall
 pub mod PacketChunks
+pub mod PiecesGiven
 pub mod PollCall
 pub mod Promised
+pub mod ReadAcross
 pub mod ReadCall
 pub mod RunsJoined
 pub mod RunsOfWorlds

@@ -24,7 +24,7 @@ use Rattle.sctp_assoc.specs.Shown.{Shown}
 use Rattle.sctp_sides.specs.Ending.{IsInOrder}
 use Rattle.sctp_sides.specs.Meeting.{stage_of}
 use Rattle.sctp_sides.specs.Restarts.{ActiveIsQuiet}
-use Rattle.sctp_pair.specs.Ends.{Ends}
+use Rattle.sctp_steps.specs.Ends.{Ends}
 use Rattle.sctp_pair.specs.World.{empty_world, none_loose}
 use Rattle.sctp_pair.specs.Fits.{Fits, StagesAgree, StandsOpen}
 

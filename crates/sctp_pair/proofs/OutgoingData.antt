@@ -18,7 +18,7 @@ use Rattle.sctp_model.specs.Machine.{Direction, Event, happens, run}
 use Rattle.sctp_model.specs.Safe.{IsWithin}
 use Rattle.sctp_model.proofs.Lists.{all_join, all_weaker}
 use Rattle.sctp_fit.specs.Outgoing.{FitsOutgoing}
-use Rattle.sctp_fit.specs.Sendings.{IsGiven, SendsNext}
+use Rattle.sctp_fit.specs.Sendings.{SendsNext}
 use Rattle.sctp_fit.proofs.NextPiece.{sent_pieces_are_events}
 use Rattle.sctp_directions.specs.Acts.{Act, Can, CanAll, IsOfItsOwn, IsNotPeerKnown, Parts, all_data_given, can_abandon}
 use Rattle.sctp_directions.specs.Acts.{can_abandon_tail, can_drop, can_go_again, data_given, done, done_all, sending}
@@ -35,7 +35,10 @@ use Rattle.sctp_sides.specs.SideLaws.{GivesNew, GivesUpOrAgain}
 use Rattle.sctp_pair.proofs.BetweenDirections.{Goes, Holds, IsOrderly, None_brought, OtherStands, Surroundings}
 use Rattle.sctp_pair.proofs.BetweenDirections.{goes_by_sender, goes_nowhere, goes_on, other_by_sender, sound_after}
 use Rattle.sctp_pair.proofs.BetweenDirections.{spans_of}
+use Rattle.sctp_plans.proofs.GrownPlans.{accepted_pieces_stay}
 use Rattle.sctp_pair.proofs.SaidStaysSaid.{data_stays_said}
+use Rattle.sctp_pair.proofs.GrowingPlans.{plan_grew}
+use Rattle.sctp_pair.proofs.PiecesGiven.{IsGivenPiece, next_pieces_given, pieces_given_again}
 use Rattle.sctp_pair.proofs.ForwardsMade.{abandonments_take_no_room, drops_take_no_room, resends_take_no_room, room}
 
 -- What was done at the sender of the own direction, and the DATA that it gave out.
@@ -43,7 +46,7 @@ pub record AfterOut (x : Surroundings) (p : Parts) (given : List ChunkPayloadDat
   pub out2 : Direction
   pub goes : Goes None_brought x.out out2
   pub holds : Holds (record x { out = out2 }) p
-  pub said : AllByRecursion (IsGiven x.own out2) given
+  pub said : AllByRecursion (IsGivenPiece x.own out2) given
 
 -- All that was accepted was sent, and is acknowledged.
 pub record IsAllSent (p : Parts) : Type 0 where
@@ -131,7 +134,7 @@ module _ (x : Surroundings) (p : Parts) (h : Holds x p) where
   -- the act is what these events are at the sender of its own direction
   act_at_sender : (act : Act) (out2 : Direction) (given : List ChunkPayloadData) → IsOfItsOwn act → IsNotPeerKnown act
       → IsOrderly act → IsAfterEvents x out2 → FitsOutgoing (sending (done act p)) out2
-      → AllByRecursion (IsGiven p.history.own out2) given → AfterOut x (done act p) given
+      → AllByRecursion (IsGivenPiece p.history.own out2) given → AfterOut x (done act p) given
   act_at_sender act out2 given its_own nobody orderly after fits said = record {
     out2 = out2;
     goes = after.goes;
@@ -148,7 +151,7 @@ module _ (x : Surroundings) (p : Parts) (h : Holds x p) where
           (h.in_order s (spans_of after.goes s within) tight);
       other = after.other;
     };
-    said = subst (λ o. AllByRecursion (IsGiven o out2) given) h.own_is said;
+    said = subst (λ o. AllByRecursion (IsGivenPiece o out2) given) h.own_is said;
   }
 
   act_sent : (now : ℕ) → Can (Act.Sent now) p → AfterOut x (done (Act.Sent now) p) (data_given (Act.Sent now) p)
@@ -156,9 +159,11 @@ module _ (x : Surroundings) (p : Parts) (h : Holds x p) where
       let sent =
       sent_pieces_are_events p.history.own (sending p) now x.out can h.sound_out.invariant h.sound_out.counts
       h.between.outgoing in
+      let after = after_sendings sent.0 x sent.1.sends h.sound_out h.other in
       act_at_sender (Act.Sent now) (run sent.0 x.out) (data_given (Act.Sent now) p) tt tt
-      (λ s n. n)
-      (after_sendings sent.0 x sent.1.sends h.sound_out h.other) sent.1.fits sent.1.given
+      (λ s n. n) after sent.1.fits
+      (next_pieces_given p.history.own (sending p) now (run sent.0 x.out) after.sound.invariant sent.1.fits
+      sent.1.given)
 
   -- an act by which a message is given up, or a piece goes out again
   one_old : (act : Act) → GivesUpOrAgain act → Can act p → AfterOld x p (done act p) (data_given act p)
@@ -207,7 +212,9 @@ module _ (x : Surroundings) (p : Parts) (h : Holds x p) where
         after =
             act_at_sender (Act.SentAgain by index) (happens x.out e) (data_given (Act.SentAgain by index) p) tt tt
             (λ s n. n)
-            (after_event x e tt (λ n. n) tt h.sound_out h.other) resent.0 resent.1;
+            (after_event x e tt (λ n. n) tt h.sound_out h.other) resent.0
+            (pieces_given_again p.history.own (sending p) index x.out (happens x.out e) h.sound_out.invariant
+            h.between.outgoing (plan_grew (e ∷ []) x.out (happens x.out e) refl) can resent.1);
         room_is = resends_take_no_room x.out o;
         still = λ d. absurd (no_piece can_go_again refl p index d can);
       }
@@ -251,21 +258,28 @@ act_acknowledged {x} {p} n k missing c sack h e says at can = (
   only_beginnings_assign x.out (Event.SackComes k) tt (λ n. n),
 )
 
+-- what is given out, and a piece of what was accepted, stays so
+given_piece_grows : (own : ℕ) (w v : Direction) (c : ChunkPayloadData) → Goes None_brought w v → IsGivenPiece own w c
+    → IsGivenPiece own v c
+given_piece_grows own w v c g ((k, d, there, said), piece) = (
+  (k, d, g.datas k d there, data_stays_said own c d (spans_of g) said),
+  accepted_pieces_stay own w.sender.plan v.sender.plan c (plan_grew g.events w v g.is) piece,
+)
+
 pub given_grows : (own : ℕ) (w v : Direction) (ds : List ChunkPayloadData) → Goes None_brought w v
-    → AllByRecursion (IsGiven own w) ds → AllByRecursion (IsGiven own v) ds
+    → AllByRecursion (IsGivenPiece own w) ds → AllByRecursion (IsGivenPiece own v) ds
 given_grows own w v ds g h =
-    all_weaker (IsGiven own w) (IsGiven own v) ds
-    (λ c given. (given.0, given.1, g.datas given.0 given.1 given.2, data_stays_said own c given.1 (spans_of g) given.3)) h
+    all_weaker (IsGivenPiece own w) (IsGivenPiece own v) ds (λ c given. given_piece_grows own w v c g given) h
 
 -- what was given out first, and then more
 after_both : (x : Surroundings) (p : Parts) (mid : Direction) (first second : List ChunkPayloadData)
-    → Goes None_brought x.out mid → AllByRecursion (IsGiven x.own mid) first
+    → Goes None_brought x.out mid → AllByRecursion (IsGivenPiece x.own mid) first
     → AfterOut (record x { out = mid }) p second → AfterOut x p (first ++ second)
 after_both x p mid first second goes said more = record {
   out2 = more.out2;
   goes = goes_on None_brought x.out mid more.out2 goes more.goes;
   holds = more.holds;
-  said = all_join (IsGiven x.own more.out2) first second
+  said = all_join (IsGivenPiece x.own more.out2) first second
       (given_grows x.own mid more.out2 first more.goes said) more.said;
 }
 

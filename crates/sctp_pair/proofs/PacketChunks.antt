@@ -426,10 +426,10 @@ said_cases : (x : Surroundings) (packet : Option Packet) (P : Chunk → Type 0)
 said_cases x packet P gives acks forwards greets resets c (inr (inl said), here) = greets c said
 said_cases x packet P gives acks forwards greets resets c (inr (inr said), here) =
     resets_by_reconfig x.coming.over P resets c said
-said_cases x packet P gives acks forwards greets resets (chunks.Data piece) (inl said, here) = gives piece said here
-said_cases x packet P gives acks forwards greets resets (chunks.SelectiveAck s) (inl said, here) = acks s said
-said_cases x packet P gives acks forwards greets resets (chunks.ForwardTsn c) (inl said, here) = forwards c said here
-said_cases x packet P gives acks forwards greets resets c (inl said, here) = absurd said
+said_cases x packet P gives acks forwards greets resets (chunks.Data piece) (inl said, here) = gives piece said.0 here
+said_cases x packet P gives acks forwards greets resets (chunks.SelectiveAck s) (inl said, here) = acks s said.0
+said_cases x packet P gives acks forwards greets resets (chunks.ForwardTsn c) (inl said, here) = forwards c said.0 here
+said_cases x packet P gives acks forwards greets resets c (inl said, here) = absurd said.0
 
 -- and so, if it is a RE-CONFIG, it names streams past their span alone
 pub said_resets_past : (x : Surroundings) (packet : Option Packet) (c : Chunk) → SaidIn x packet c

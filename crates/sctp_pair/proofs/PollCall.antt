@@ -39,7 +39,8 @@ use Rattle.sctp_sides.proofs.Proved.{given_append, more_are_past, more_is_asked_
 use Rattle.sctp_sides.proofs.Proved.{polls_give_and_report, polls_reset_no_more}
 use Rattle.sctp_sides.proofs.Proved.{polls_outside_an_exchange_give_what_waits, the_same_handshake_is_the_same_stage}
 use Rattle.sctp_sides.proofs.Proved.{polls_say_their_acts, reports_are_silent, what_waits_goes_out_as_it_is}
-use Rattle.sctp_fit.specs.Sendings.{IsGiven}
+use Rattle.sctp_pair.proofs.PiecesGiven.{IsGivenPiece}
+use Rattle.sctp_pair.proofs.GrowingPlans.{same_plan}
 use Rattle.sctp_serial.specs.Serial.{tsn}
 use Rattle.sctp_outbound_queue.specs.Outbound.{Outbound, abandoned_in_front_of}
 use Rattle.sctp_outbound.specs.declared.sender.Sender.{Sender}
@@ -49,7 +50,7 @@ use Rattle.sctp_directions.specs.Said.{IsForwardMade, Says}
 use Rattle.sctp_directions.proofs.Proved.{closed_receivers_are_not_open, receivers_events_are_received}
 use Rattle.sctp_assoc.specs.declared.call.Reply.{Reply}
 use Rattle.sctp_assoc.specs.declared.call.Reply.TheVariants as replies
-use Rattle.sctp_pair.specs.Fits.{AreSaid, IsSaidBy}
+use Rattle.sctp_pair.specs.Fits.{AreSaid, IsPieceIfData, IsSaidBy}
 use Rattle.sctp_assoc.specs.Replies.{Fails, GivesOut, HadFailed, LosesSome, packet_in}
 use Rattle.sctp_pair.proofs.SaidStaysSaid.{StageGoesOn, forward_stays_said, said_grows}
 use Rattle.sctp_pair.proofs.BetweenDirections.{ClosedAt, Faces, Goes, Holds, None_brought, OpenAt, SettlesQuietly}
@@ -77,14 +78,16 @@ SaidAt x packets = AreSaid x.own x.peer x.here x.out x.coming packets
 -- The association gave out what these acts give of its direction; a report, where one is due, is of what came, and a
 -- FORWARD TSN, where one is given, is one that was made.
 module _ (x : Surroundings) (a b : Shown) (h : History) (acts : List Act) (forwards : Bool)
-    (given : AllByRecursion (IsGiven x.own x.out) (all_data_given acts (parts a h)))
+    (given : AllByRecursion (IsGivenPiece x.own x.out) (all_data_given acts (parts a h)))
     (made : reports a ≡ true → ReportsSaid x.peer h x.coming)
     (forwarded : forwards ≡ true → IsForwardMade x.own x.out (forward_of b.sender)) where
-  exchanged_said : (c : Chunk) → IsExchanged acts forwards a b h c → Says x.own x.peer x.out x.coming c
+  exchanged_said : (c : Chunk) → IsExchanged acts forwards a b h c
+      → Says x.own x.peer x.out x.coming c × IsPieceIfData x.own x.out c
   exchanged_said (chunks.Data piece) (k, e) =
-      all_get (IsGiven x.own x.out) (all_data_given acts (parts a h)) k piece e given
-  exchanged_said (chunks.SelectiveAck sack) (due, says) = made due sack says
-  exchanged_said (chunks.ForwardTsn c) (e, is) = subst (IsForwardMade x.own x.out) (sym is) (forwarded e)
+      all_get (IsGivenPiece x.own x.out) (all_data_given acts (parts a h)) k piece e given
+  exchanged_said (chunks.SelectiveAck sack) (due, says) = (made due sack says, tt)
+  exchanged_said (chunks.ForwardTsn c) (e, is) =
+      (subst (IsForwardMade x.own x.out) (sym is) (forwarded e), tt)
   exchanged_said c n = absurd n
 
 -- what waits to go out is of a handshake, or resets streams past their span
@@ -211,7 +214,7 @@ no_forward forwards p d could = ⊎_elim
 given_said : {x : Surroundings} {a : Shown} (f : Faces x a) (b : Shown) (out coming : Direction) (h : History)
     (acts : List Act) (forwards : Bool) → ((t : ℕ) → x.coming.over t ≡ true → out.over t ≡ true) → (s : OpenAt x a)
     → ((exchanges_data a.state ≡ true) → (c : Chunk) → IsExchanged acts forwards a b h c
-    → Says x.own x.peer out coming c)
+    → Says x.own x.peer out coming c × IsPieceIfData x.own out c)
     → (c : Chunk) → IsGivenBy x.coming.over acts forwards a b h c → SaysAt (moved x out coming) c
 given_said {x} {a} f b out coming h acts forwards gone s exchanged c (inl w) =
     waiting_said (moved x out coming) a x.coming.over gone (f.at s.working) s.truthful s.resets.control c w
@@ -283,8 +286,8 @@ module _ {x : Surroundings} {a b : Shown} {packets : List (List ℕ)} (f : Faces
       let report = report_if (reports a) out p2 met f.within_coming new.holds in
       let now : Surroundings = moved x new.out2 report.0.coming2 in
       let holds : Holds now (parts b h) = subst (Holds now) (sym there) report.0.holds in
-      let given : AllByRecursion (IsGiven x.own new.out2) (all_data_given os p ++ all_data_given ns p1) =
-      all_join (IsGiven x.own new.out2) (all_data_given os p) (all_data_given ns p1)
+      let given : AllByRecursion (IsGivenPiece x.own new.out2) (all_data_given os p ++ all_data_given ns p1) =
+      all_join (IsGivenPiece x.own new.out2) (all_data_given os p) (all_data_given ns p1)
       (given_grows x.own old.after.out2 new.out2 (all_data_given os p) to_new old.after.said) new.said in
       let data_is : all_data_given acts p ≡ all_data_given os p ++ all_data_given ns p1 =
       ap (λ zs. all_data_given zs p) polling.are ∙ given_append (os ++ ns ++ ks) fs p
@@ -306,7 +309,7 @@ module _ {x : Surroundings} {a b : Shown} {packets : List (List ℕ)} (f : Faces
       let gone : (t : ℕ) → x.coming.over t ≡ true → new.out2.over t ≡ true =
       λ t o. goes.same_spans t ∙ f.both t ∙ o in
       let exchanged = exchanged_said now a b h acts forwards
-      (subst (λ z. AllByRecursion (IsGiven x.own new.out2) z) (sym data_is) given)
+      (subst (λ z. AllByRecursion (IsGivenPiece x.own new.out2) z) (sym data_is) given)
       (λ due. subst (λ (z : History). ReportsSaid x.peer z report.0.coming2) (sym past_is) (report.1 due)) forwarded in
       record {
         out2 = new.out2;
@@ -433,6 +436,7 @@ closes_last {x} {a} {m} {b} {packets} f front closes ended none s all gave =
       forwards = λ k g e. e;
       sacks = received.sacks;
       spans = spans_stay_put gave.out2;
+      plan = same_plan gave.out2.sender.plan;
     } in
     record {
       settles = record {

@@ -23,8 +23,9 @@ use Rattle.sctp_directions.specs.Between.{IsSound}
 use Rattle.sctp_assoc.specs.Leads.{parts}
 use Rattle.sctp_assoc.specs.Calls.{ready_of, value_at}
 use Rattle.sctp_assoc.specs.Shown.{Shown}
-use Rattle.sctp_pair.specs.Ends.{Ends}
-use Rattle.sctp_pair.specs.World.{IsOpen, IsPromised, IsSafeWorld, World}
+use Rattle.sctp_steps.specs.Ends.{Ends}
+use Rattle.sctp_steps.specs.Seen.{IsOpen}
+use Rattle.sctp_pair.specs.World.{IsPromised, IsSafeWorld, World}
 use Rattle.sctp_pair.specs.Fits.{Fits, Stands, StandsClosed, StandsFailed, StandsOpen}
 
 -- an open association stands open

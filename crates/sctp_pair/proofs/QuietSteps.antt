@@ -35,12 +35,12 @@ use Rattle.sctp_sides.proofs.Proved.{limit_leads_on, listed, open_leads_on, pack
 use Rattle.sctp_sides.proofs.Proved.{poll_writes_nothing, read_leads_on, read_writes_nothing, setting_leads_on}
 use Rattle.sctp_sides.proofs.Proved.{shutdown_leads_on, stop_writes_nothing, timeouts_lead_on, timeouts_write_nothing}
 use Rattle.sctp_sides.proofs.Proved.{write_leads_on}
-use Rattle.sctp_pair.specs.declared.step.Side2.{Side2}
-use Rattle.sctp_pair.specs.declared.step.Side2.TheVariants as sides
-use Rattle.sctp_pair.specs.declared.step.Step.{Step}
-use Rattle.sctp_pair.specs.declared.step.Step.TheVariants as steps
-use Rattle.sctp_pair.specs.Ends.{Ends, end_of}
-use Rattle.sctp_pair.specs.Steps.{AtSide, ComesTo, Delivers, SendsAt, Steps}
+use Rattle.sctp_steps.specs.declared.step.Side2.{Side2}
+use Rattle.sctp_steps.specs.declared.step.Side2.TheVariants as sides
+use Rattle.sctp_steps.specs.declared.step.Step.{Step}
+use Rattle.sctp_steps.specs.declared.step.Step.TheVariants as steps
+use Rattle.sctp_steps.specs.Ends.{Ends, end_of}
+use Rattle.sctp_steps.specs.Steps.{AtSide, ComesTo, Delivers, SendsAt, Steps}
 use Rattle.sctp_pair.proofs.RequestsWait.{requests_wait}
 
 -- From a to b what is being reset stays quiet, unless the association fails; and so does a stream whose reset is over

@@ -18,7 +18,8 @@ use Rattle.sctp_assoc.specs.Closing.{is_closed_state}
 use Rattle.sctp_assoc.specs.Leads.{parts}
 use Rattle.sctp_assoc.specs.Shown.{Shown}
 use Rattle.sctp_sides.specs.Restarts.{is_being_reset, is_reset_by}
-use Rattle.sctp_pair.specs.World.{EndsReset, HasRestarted}
+use Rattle.sctp_steps.specs.Seen.{EndsReset}
+use Rattle.sctp_pair.specs.World.{HasRestarted}
 use Rattle.sctp_pair.specs.Fits.{AreSaid, ResetsQuietly, Stands, StandsClosed, StandsFailed, StandsOpen}
 use Rattle.sctp_pair.proofs.BetweenDirections.{By, DoesEnding, None_brought, OpenAt, OtherStands, SettlesEnding}
 use Rattle.sctp_pair.proofs.BetweenDirections.{StandsAt, Surroundings, moved, nothing_read, run_append}
@@ -30,6 +31,7 @@ use Rattle.sctp_pair.proofs.NumbersAnew.{restarts_of, within_stay}
 use Rattle.sctp_pair.proofs.Promised.{stands_open}
 use Rattle.sctp_pair.proofs.QuietSteps.{StaysQuiet}
 use Rattle.sctp_pair.proofs.SaidStaysSaid.{StageGoesOn, said_grows}
+use Rattle.sctp_pair.proofs.GrowingPlans.{same_plan}
 
 -- Which streams
 
@@ -232,5 +234,6 @@ module _ {Ended : ℕ → Type 0} {x : Surroundings} {b : Shown} {Added : ℕ �
         forwards = λ k f e. e;
         sacks = λ k z e. e;
         spans = same_spans_go_on s.out2 out3 refl;
+        plan = same_plan s.out2.sender.plan;
       } in
       said_grows x.own x.peer g given said

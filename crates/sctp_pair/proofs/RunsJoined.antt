@@ -1,10 +1,10 @@
 -- A run goes on by one step, or by another run.
 use Rattle.std.proofs.Common.{◌≡◌, refl, subst, ℕ, ◌<◌, ◌+◌, List, [], ◌∷◌, ◌++◌, length, take, get_or}
 use Rattle.std.proofs.lemmas.List.{take_more}
-use Rattle.sctp_pair.specs.Ends.{Ends}
-use Rattle.sctp_pair.specs.Steps.{Runs, Steps}
+use Rattle.sctp_steps.specs.Ends.{Ends}
+use Rattle.sctp_steps.specs.Steps.{Runs, Steps}
 use Rattle.sctp_assoc.specs.declared.call.Reply.{Reply}
-use Rattle.sctp_pair.specs.declared.step.Step.{Step}
+use Rattle.sctp_steps.specs.declared.step.Step.{Step}
 
 pub run_more : (ss : List Step) (rs : List Reply) (p u q : Ends) (s : Step) (r : Reply)
     → Runs ss rs p u → Steps s u r q → Runs (ss ++ s ∷ []) (rs ++ r ∷ []) p q

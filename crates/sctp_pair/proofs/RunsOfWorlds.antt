@@ -1,9 +1,9 @@
 -- Runs of a pair are runs of worlds.
 use Rattle.std.proofs.Common.{sym, subst, List, [], ◌∷◌}
 use Rattle.sctp_assoc.specs.declared.call.Reply.{Reply}
-use Rattle.sctp_pair.specs.declared.step.Step.{Step}
-use Rattle.sctp_pair.specs.Ends.{Ends}
-use Rattle.sctp_pair.specs.Steps.{Runs}
+use Rattle.sctp_steps.specs.declared.step.Step.{Step}
+use Rattle.sctp_steps.specs.Ends.{Ends}
+use Rattle.sctp_steps.specs.Steps.{Runs}
 use Rattle.sctp_pair.specs.World.{World}
 use Rattle.sctp_pair.specs.Fits.{Fits, RunsSafely, StandsIn}
 use Rattle.sctp_pair.proofs.StepsLead.{step_leads}

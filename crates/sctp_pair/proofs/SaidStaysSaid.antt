@@ -16,7 +16,9 @@ use Rattle.sctp_fit.specs.Forwards.{IsForwardSaid}
 use Rattle.sctp_fit.specs.Incoming.{IsSaid}
 use Rattle.sctp_directions.specs.Said.{Says}
 use Rattle.sctp_assoc.specs.Replies.{packet_in}
-use Rattle.sctp_pair.specs.Fits.{AreSaid, IsSaidBy}
+use Rattle.sctp_plans.specs.Plans.{IsGrown}
+use Rattle.sctp_plans.proofs.GrownPlans.{accepted_pieces_stay}
+use Rattle.sctp_pair.specs.Fits.{AreSaid, IsPieceIfData, IsSaidBy}
 use Rattle.sctp_pair.proofs.BetweenDirections.{SpansGoOn}
 
 -- whatever DATA was given out in a direction stays given out
@@ -38,6 +40,7 @@ pub record StageGoesOn (s t : Stage) (out coming out2 coming2 : Direction) : Typ
   pub forwards : KeepsForwards out out2
   pub sacks : KeepsSacks coming coming2
   pub spans : SpansGoOn out out2
+  pub plan : IsGrown out.sender.plan out2.sender.plan
 
 -- what DATA and FORWARD TSNs say is said of streams within their span, and stays said of those that still are
 pub data_stays_said : (initial : ℕ) {over over2 : ℕ → Bool} (c : ChunkPayloadData) (d : Data)
@@ -65,9 +68,14 @@ module _ (own peer : ℕ) {s t : Stage} {out coming out2 coming2 : Direction}
       (k, f, g.forwards k f there, forward_stays_said own c f g.spans.within said)
   chunk_grows c h = absurd h
 
+  -- DATA is still a piece of what was accepted
+  piece_stays : (c : Chunk) → IsPieceIfData own out c → IsPieceIfData own out2 c
+  piece_stays (chunks.Data c) piece = accepted_pieces_stay own out.sender.plan out2.sender.plan c g.plan piece
+  piece_stays c piece = tt
+
   -- a chunk of the handshake says it of a later stage, too, and one that resets streams of more that are past their span
   said_by_grows : (c : Chunk) → IsSaidBy own peer s out coming c → IsSaidBy own peer t out2 coming2 c
-  said_by_grows c (inl said) = inl (chunk_grows c said)
+  said_by_grows c (inl said) = inl (chunk_grows c said.0, piece_stays c said.1)
   said_by_grows c (inr (inl greets)) = inr (inl (greetings_stay_true own s t c g.goes greets))
   said_by_grows c (inr (inr resets)) = inr (inr (more_is_asked_past out.over out2.over c g.spans.over resets))
 

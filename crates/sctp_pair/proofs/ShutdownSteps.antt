@@ -18,17 +18,17 @@ use Rattle.sctp_sides.proofs.Proved.{shutdowns_keep_the_stage, shutdowns_stay_in
 use Rattle.sctp_assoc.specs.declared.call.Reply.{Reply}
 use Rattle.sctp_assoc.specs.declared.call.Reply.TheVariants as replies
 use Rattle.sctp_assoc.proofs.Replied.{buffers_same, finds_same, lists_same, measures_same, shows_same}
-use Rattle.sctp_pair.specs.declared.step.Side2.{Side2}
-use Rattle.sctp_pair.specs.declared.step.Side2.TheVariants as sides
-use Rattle.sctp_pair.specs.declared.step.Step.{Step}
-use Rattle.sctp_pair.specs.declared.step.Step.TheVariants as steps
-use Rattle.sctp_pair.specs.Ends.{Ends, end_of}
+use Rattle.sctp_steps.specs.declared.step.Side2.{Side2}
+use Rattle.sctp_steps.specs.declared.step.Side2.TheVariants as sides
+use Rattle.sctp_steps.specs.declared.step.Step.{Step}
+use Rattle.sctp_steps.specs.declared.step.Step.TheVariants as steps
+use Rattle.sctp_steps.specs.Ends.{Ends, end_of}
 use Rattle.sctp_pair.specs.Fits.{EndsInOrder}
 use Rattle.sctp_assoc.specs.Replies.{AcceptsStream, Buffers, ClosesOne, ClosesStream, Expires, Finds}
-use Rattle.sctp_pair.specs.Steps.{AtSide, ComesTo, Delivers}
+use Rattle.sctp_steps.specs.Steps.{AtSide, ComesTo, Delivers}
 use Rattle.sctp_assoc.specs.Replies.{GivesOut, Limits, Lists, Measures, Opens, PollsEndpointEvent, PollsEvent, Reads}
 use Rattle.sctp_assoc.specs.Replies.{Sets, ShowsOrRefuses, ShutsDown, Stops, TakesIn, Writes, WritesFirst, packet_in}
-use Rattle.sctp_pair.specs.Steps.{SendsAt, Steps}
+use Rattle.sctp_steps.specs.Steps.{SendsAt, Steps}
 use Rattle.sctp_pair.proofs.ReadCall.{found_none}
 use Rattle.sctp_pair.proofs.WriteCall.{first_none}
 

@@ -20,17 +20,17 @@ use Rattle.sctp_assoc.proofs.AbstractRuns.{no_run}
 use Rattle.sctp_assoc.proofs.AbstractSteps.{steps_on}
 use Rattle.sctp_sides.specs.OneSide.{IsFresh}
 use Rattle.sctp_sides.proofs.Proved.{runs_keep_retries, runs_send_nothing_late}
-use Rattle.sctp_pair.specs.declared.step.Side2.{Side2}
-use Rattle.sctp_pair.specs.declared.step.Side2.TheVariants as sides
-use Rattle.sctp_pair.specs.declared.step.Step.{Step}
-use Rattle.sctp_pair.specs.declared.step.Step.TheVariants as steps
-use Rattle.sctp_pair.specs.Ends.{Ends, end_of, packets_of}
+use Rattle.sctp_steps.specs.declared.step.Side2.{Side2}
+use Rattle.sctp_steps.specs.declared.step.Side2.TheVariants as sides
+use Rattle.sctp_steps.specs.declared.step.Step.{Step}
+use Rattle.sctp_steps.specs.declared.step.Step.TheVariants as steps
+use Rattle.sctp_steps.specs.Ends.{Ends, end_of, packets_of}
 use Rattle.sctp_pair.specs.Fits.{Stands}
 use Rattle.sctp_pair.specs.Sides.{FreshSidesStand, SidesKeepRetries, SidesRunByTheirCalls, SidesSendNothingLate}
 use Rattle.sctp_pair.specs.Sides.{answered, calls_at, calls_in, calls_of, calls_until, delivery, replies_in}
 use Rattle.sctp_pair.specs.Sides.{replies_until}
-use Rattle.sctp_pair.specs.Steps.{AtSide, ComesTo, Delivers, Runs, SendsAt, Steps}
-use Rattle.sctp_pair.specs.World.{other_side}
+use Rattle.sctp_steps.specs.Steps.{AtSide, ComesTo, Delivers, Runs, SendsAt, Steps}
+use Rattle.sctp_steps.specs.Seen.{other_side}
 
 -- Runs one after the other
 

@@ -9,12 +9,13 @@ use Rattle.sctp_model.specs.Messages.{Place}
 use Rattle.sctp_model.specs.Machine.{Direction}
 use Rattle.sctp_assoc.specs.Shown.{Shown}
 use Rattle.sctp_assoc.specs.declared.call.Reply.{Reply}
-use Rattle.sctp_pair.specs.declared.step.Side2.{Side2}
-use Rattle.sctp_pair.specs.declared.step.Step.{Step}
+use Rattle.sctp_steps.specs.declared.step.Side2.{Side2}
+use Rattle.sctp_steps.specs.declared.step.Step.{Step}
 use Rattle.sctp_pair.specs.Counted.{IsPresent, acknowledged_of}
-use Rattle.sctp_pair.specs.Ends.{Ends, end_of}
+use Rattle.sctp_steps.specs.Ends.{Ends, end_of}
 use Rattle.sctp_pair.specs.Fits.{Stands, StandsClosed, StandsFailed, StandsOpen}
-use Rattle.sctp_pair.specs.World.{IsDirectionStep, IsOpen, World, other_side}
+use Rattle.sctp_steps.specs.Seen.{IsOpen, other_side}
+use Rattle.sctp_pair.specs.World.{IsDirectionStep, World}
 use Rattle.sctp_pair.proofs.Promised.{stands_open}
 
 -- Of a side that was a when a call began, now between these directions; `initial` is its initial TSN.

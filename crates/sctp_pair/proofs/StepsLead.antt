@@ -15,24 +15,26 @@ use Rattle.sctp_assoc.specs.Shown.{Shown}
 use Rattle.sctp_assoc.specs.declared.call.Reply.{Reply}
 use Rattle.sctp_assoc.specs.declared.call.Reply.TheVariants as replies
 use Rattle.sctp_assoc.proofs.Replied.{buffers_same, finds_same, lists_same, measures_same, shows_same}
-use Rattle.sctp_pair.specs.declared.step.Side2.{Side2}
-use Rattle.sctp_pair.specs.declared.step.Side2.TheVariants as sides
-use Rattle.sctp_pair.specs.declared.step.Step.{Step}
-use Rattle.sctp_pair.specs.declared.step.Step.TheVariants as steps
-use Rattle.sctp_pair.specs.Ends.{Ends, end_of, packets_of}
+use Rattle.sctp_steps.specs.declared.step.Side2.{Side2}
+use Rattle.sctp_steps.specs.declared.step.Side2.TheVariants as sides
+use Rattle.sctp_steps.specs.declared.step.Step.{Step}
+use Rattle.sctp_steps.specs.declared.step.Step.TheVariants as steps
+use Rattle.sctp_steps.specs.Ends.{Ends, end_of, packets_of}
 use Rattle.sctp_assoc.specs.Replies.{Buffers, Expires, Finds, Measures, Opens, Reads}
-use Rattle.sctp_pair.specs.Steps.{AtSide, ComesTo, Delivers, SendsAt}
+use Rattle.sctp_steps.specs.Steps.{AtSide, ComesTo, Delivers, SendsAt}
 use Rattle.sctp_assoc.specs.Replies.{AcceptsStream, ClosesOne, ClosesStream, Limits, Lists, Sets, ShowsOrRefuses}
 use Rattle.sctp_assoc.specs.Replies.{PollsEvent}
-use Rattle.sctp_pair.specs.Steps.{Steps}
+use Rattle.sctp_steps.specs.Steps.{Steps}
 use Rattle.sctp_assoc.specs.Replies.{PollsEndpointEvent, ShutsDown, Stops, Writes}
 use Rattle.sctp_assoc.specs.Replies.{WritesFirst}
 use Rattle.sctp_assoc.specs.Replies.{packet_in}
 use Rattle.sctp_streams.specs.declared.setting.Setting.TheVariants as settings
 use Rattle.sctp_streams.specs.Stream.{is_read_half_open, ordered_and_reliable, params_of}
-use Rattle.sctp_pair.specs.World.{EndsSpan, is_loose, is_side, loose_after, loose_of}
+use Rattle.sctp_steps.specs.Seen.{is_side}
+use Rattle.sctp_pair.specs.World.{EndsSpan, is_loose, loose_after, loose_of}
 use Rattle.sctp_fit.specs.Incoming.{tsn_before}
-use Rattle.sctp_pair.specs.World.{HasData, HasForward, World, other_side, packet_brought, packet_of_bytes}
+use Rattle.sctp_steps.specs.Seen.{other_side}
+use Rattle.sctp_pair.specs.World.{HasData, HasForward, World, packet_brought, packet_of_bytes}
 use Rattle.sctp_pair.specs.Fits.{AreSaid, Fits, LeadsSafely}
 use Rattle.sctp_pair.proofs.BetweenDirections.{Faces, None_brought, None_ended, Settles, SettlesEnding}
 use Rattle.sctp_pair.proofs.BetweenDirections.{SettlesQuietly, Surroundings}

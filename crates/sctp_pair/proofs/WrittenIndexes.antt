@@ -18,14 +18,14 @@ use Rattle.sctp_assoc.specs.Shown.{Shown}
 use Rattle.sctp_sides.proofs.Proved.{accepted_writes_fit}
 use Rattle.sctp_assoc.specs.declared.call.Reply.{Reply}
 use Rattle.sctp_assoc.specs.declared.call.Reply.TheVariants as replies
-use Rattle.sctp_pair.specs.declared.step.Side2.{Side2}
-use Rattle.sctp_pair.specs.declared.step.Side2.TheVariants as sides
-use Rattle.sctp_pair.specs.declared.step.Step.{Step}
-use Rattle.sctp_pair.specs.declared.step.Step.TheVariants as steps
+use Rattle.sctp_steps.specs.declared.step.Side2.{Side2}
+use Rattle.sctp_steps.specs.declared.step.Side2.TheVariants as sides
+use Rattle.sctp_steps.specs.declared.step.Step.{Step}
+use Rattle.sctp_steps.specs.declared.step.Step.TheVariants as steps
 use Rattle.sctp_pair.specs.Callers.{AreAt, IsNamed, IsAsWritten, WrittenMessage, message_accepted, messages_of}
-use Rattle.sctp_pair.specs.Ends.{Ends}
+use Rattle.sctp_steps.specs.Ends.{Ends}
 use Rattle.sctp_assoc.specs.Replies.{Writes}
-use Rattle.sctp_pair.specs.Steps.{AtSide, Steps, writing_of}
+use Rattle.sctp_steps.specs.Steps.{AtSide, Steps, writing_of}
 use Rattle.sctp_pair.specs.World.{World, accepted_at, accepted_of, messages_on}
 use Rattle.sctp_pair.proofs.AcceptedAndRead.{writes}
 use Rattle.sctp_pair.proofs.WriteCall.{first_none}
@@ -118,12 +118,12 @@ same_kind kinds.StringEmpty = refl
 same_kind kinds.BinaryEmpty = refl
 same_kind kinds.Unknown = refl
 
-named_of : (named : Option PayloadProtocolIdentifier) (kind : PayloadProtocolIdentifier) (number : ℕ)
+pub named_of : (named : Option PayloadProtocolIdentifier) (kind : PayloadProtocolIdentifier) (number : ℕ)
     → number_of kind ≡ number → IsNumbered named number → IsNamed named kind
 named_of None kind number e h = tt
 named_of (Some named) kind number e h = sym (same_kind kind) ∙ ap identifier_of (e ∙ h) ∙ same_kind named
 
-told_index : (ms : List Message) (ws : List WrittenMessage) (i : ℕ) → AreTold ms ws → i < length ms
+pub told_index : (ms : List Message) (ws : List WrittenMessage) (i : ℕ) → AreTold ms ws → i < length ms
     → (w : WrittenMessage) × (slice_get ws i ≡ Some w) × IsTold (get_or ms i no_message) w
 told_index [] ws i h b = absurd (omega arith)
 told_index (m ∷ ms) [] i h b = absurd h

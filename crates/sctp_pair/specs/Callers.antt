@@ -7,16 +7,17 @@ use Rattle.sctp_wire_types.specs.declared.ids.PayloadProtocolIdentifier.{Payload
 use Rattle.sctp_receive_queues.specs.Messages.{ReceivedMessage, bytes_left}
 use Rattle.sctp_assoc.specs.declared.call.Reply.{Reply}
 use Rattle.sctp_assoc.specs.declared.call.Reply.TheVariants as replies
-use Rattle.sctp_pair.specs.declared.step.Side2.{Side2}
-use Rattle.sctp_pair.specs.declared.step.Side2.TheVariants as sides
-use Rattle.sctp_pair.specs.declared.step.Step.{Step}
-use Rattle.sctp_pair.specs.declared.step.Step.TheVariants as steps
+use Rattle.sctp_steps.specs.declared.step.Side2.{Side2}
+use Rattle.sctp_steps.specs.declared.step.Side2.TheVariants as sides
+use Rattle.sctp_steps.specs.declared.step.Step.{Step}
+use Rattle.sctp_steps.specs.declared.step.Step.TheVariants as steps
 use Rattle.sctp_pair.specs.Counted.{AreFew, FitsCounted, Tally, nothing_tallied, pieces_of, tallied}
-use Rattle.sctp_pair.specs.Ends.{Ends}
-use Rattle.sctp_pair.specs.Steps.{Runs, Writing, reading_of, writing_of}
-use Rattle.sctp_pair.specs.World.{IsSafeWorld, IsWorldStep, World, empty_world, ends_span, is_side, loosens}
-use Rattle.sctp_pair.specs.World.{message_read}
-use Rattle.sctp_pair.specs.World.{other_side}
+use Rattle.sctp_steps.specs.Ends.{Ends}
+use Rattle.sctp_steps.specs.Steps.{Runs, Writing, reading_of, writing_of}
+use Rattle.sctp_steps.specs.Seen.{is_side}
+use Rattle.sctp_pair.specs.World.{IsSafeWorld, IsWorldStep, World, empty_world, ends_span, loosens}
+use Rattle.sctp_steps.specs.Seen.{message_read}
+use Rattle.sctp_steps.specs.Seen.{other_side}
 
 -- One step and its reply
 

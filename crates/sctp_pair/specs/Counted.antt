@@ -7,12 +7,13 @@ use Rattle.sctp_fit.specs.FewPieces.{HasAccepted, pieces_in}
 use Rattle.sctp_assoc.specs.Shown.{Shown}
 use Rattle.sctp_assoc.specs.declared.call.Reply.{Reply}
 use Rattle.sctp_assoc.specs.declared.call.Reply.TheVariants as replies
-use Rattle.sctp_pair.specs.declared.step.Side2.{Side2}
-use Rattle.sctp_pair.specs.declared.step.Side2.TheVariants as sides
-use Rattle.sctp_pair.specs.declared.step.Step.{Step}
-use Rattle.sctp_pair.specs.Ends.{Ends}
-use Rattle.sctp_pair.specs.Steps.{Writing, writing_of}
-use Rattle.sctp_pair.specs.World.{IsSafeWorld, IsWorldStep, World, is_side, message_read}
+use Rattle.sctp_steps.specs.declared.step.Side2.{Side2}
+use Rattle.sctp_steps.specs.declared.step.Side2.TheVariants as sides
+use Rattle.sctp_steps.specs.declared.step.Step.{Step}
+use Rattle.sctp_steps.specs.Ends.{Ends}
+use Rattle.sctp_steps.specs.Steps.{Writing, writing_of}
+use Rattle.sctp_steps.specs.Seen.{is_side, message_read}
+use Rattle.sctp_pair.specs.World.{IsSafeWorld, IsWorldStep, World}
 use Rattle.sctp_pair.specs.Fits.{Fits}
 
 -- What a step and its reply tell

@@ -1,7 +1,8 @@
 -- Which worlds a pair may stand in, and the promise of its steps.
-use Rattle.std.specs.Prelude.{◌≡◌, ℕ, Bool, true, false, ◌⊎◌, List, [], ◌∷◌, is_some}
+use Rattle.std.specs.Prelude.{◌≡◌, ℕ, Bool, true, false, ◌⊎◌, List, [], ◌∷◌, is_some, ⊤}
 use Rattle.std.specs.List.{AllByRecursion}
 use Rattle.sctp_wire_types.specs.declared.chunk.Chunk.{Chunk}
+use Rattle.sctp_wire_types.specs.declared.chunk.Chunk.TheVariants as chunks
 use Rattle.sctp_model.specs.Machine.{Direction}
 use Rattle.sctp_assoc.specs.Leads.{Binds, parts}
 use Rattle.sctp_directions.specs.Acts.{History, IsKeptInOrder}
@@ -17,9 +18,10 @@ use Rattle.sctp_assoc.specs.Shown.{Shown}
 use Rattle.sctp_directions.specs.Said.{Says}
 use Rattle.sctp_directions.specs.Between.{FitsBetween, IsSound}
 use Rattle.sctp_assoc.specs.declared.call.Reply.{Reply}
-use Rattle.sctp_pair.specs.declared.step.Step.{Step}
-use Rattle.sctp_pair.specs.Ends.{Ends}
+use Rattle.sctp_steps.specs.declared.step.Step.{Step}
+use Rattle.sctp_steps.specs.Ends.{Ends}
 use Rattle.sctp_assoc.specs.Replies.{packet_in}
+use Rattle.sctp_plans.specs.Plans.{IsAcceptedPiece}
 use Rattle.sctp_pair.specs.World.{IsSafeWorld, IsWithinLimits, IsWorldStep, World}
 
 -- An association that was neither lost nor failed (a server that listens, in state Closed, is one, too) stands between
@@ -78,11 +80,17 @@ pub record StagesAgree (s t : Stage) : Type 0 where
 abbrev pub IsSilent : Stage → Direction → Type 0
 IsSilent s w = s.completed ≡ false → w.sender.plan.places ≡ []
 
+-- DATA is a piece of a message that the sender of its direction accepted, also past the stream's span
+abbrev pub IsPieceIfData : ℕ → Direction → Chunk → Type 0
+IsPieceIfData own out (chunks.Data piece) = IsAcceptedPiece own out.sender.plan piece
+IsPieceIfData own out chunk = ⊤
+
 -- a chunk that a side in this stage gives out: DATA or FORWARD TSN of its own direction, a SACK for the one that comes
 -- to it, its handshake's, an ABORT, an ERROR, a shutdown's, or a RE-CONFIG that resets streams past their span or
 -- responds to one
 abbrev pub IsSaidBy : ℕ → ℕ → Stage → Direction → Direction → Chunk → Type 0
-IsSaidBy own peer s out coming chunk = Says own peer out coming chunk ⊎ (Greets own s chunk ⊎ ResetsPast out.over chunk)
+IsSaidBy own peer s out coming chunk =
+    (Says own peer out coming chunk × IsPieceIfData own out chunk) ⊎ (Greets own s chunk ⊎ ResetsPast out.over chunk)
 
 -- each datagram that a side gave out, if it spells a packet, is of such chunks
 abbrev pub AreSaid : ℕ → ℕ → Stage → Direction → Direction → List (List ℕ) → Type 0

@@ -14,13 +14,14 @@ use Rattle.sctp_assoc.specs.Shown.{uses_forward_tsn}
 use Rattle.sctp_sides.specs.Lifetimes.{HasNothingToSend}
 use Rattle.sctp_sides.specs.OneSide.{IsFresh}
 use Rattle.sctp_sides.specs.Runs.{ComesToAPoll, KeepRetries, PollsInTime, RanByActs}
-use Rattle.sctp_pair.specs.declared.step.Side2.{Side2}
-use Rattle.sctp_pair.specs.declared.step.Step.{Step}
-use Rattle.sctp_pair.specs.declared.step.Step.TheVariants as steps
-use Rattle.sctp_pair.specs.Ends.{Ends, end_of, packets_of}
+use Rattle.sctp_steps.specs.declared.step.Side2.{Side2}
+use Rattle.sctp_steps.specs.declared.step.Step.{Step}
+use Rattle.sctp_steps.specs.declared.step.Step.TheVariants as steps
+use Rattle.sctp_steps.specs.Ends.{Ends, end_of, packets_of}
 use Rattle.sctp_pair.specs.Fits.{Fits}
-use Rattle.sctp_pair.specs.Steps.{Runs}
-use Rattle.sctp_pair.specs.World.{World, is_side, other_side}
+use Rattle.sctp_steps.specs.Steps.{Runs}
+use Rattle.sctp_steps.specs.Seen.{is_side, other_side}
+use Rattle.sctp_pair.specs.World.{World}
 
 -- The calls of a step
 

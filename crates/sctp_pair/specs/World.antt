@@ -32,13 +32,14 @@ use Rattle.std.specs.List.{AllByRecursion}
 use Rattle.sctp_directions.specs.Acts.{type_on}
 use Rattle.sctp_assoc.specs.declared.call.Reply.{Reply}
 use Rattle.sctp_assoc.specs.declared.call.Reply.TheVariants as replies
-use Rattle.sctp_pair.specs.declared.step.Side2.{Side2}
-use Rattle.sctp_pair.specs.declared.step.Side2.TheVariants as sides
-use Rattle.sctp_pair.specs.declared.step.Step.{Step}
-use Rattle.sctp_pair.specs.declared.step.Step.TheVariants as steps
-use Rattle.sctp_pair.specs.Ends.{Ends, end_of, packets_of}
+use Rattle.sctp_steps.specs.declared.step.Side2.{Side2}
+use Rattle.sctp_steps.specs.declared.step.Side2.TheVariants as sides
+use Rattle.sctp_steps.specs.declared.step.Step.{Step}
+use Rattle.sctp_steps.specs.declared.step.Step.TheVariants as steps
+use Rattle.sctp_steps.specs.Ends.{Ends, end_of, packets_of}
 use Rattle.sctp_assoc.specs.Replies.{packet_in}
-use Rattle.sctp_pair.specs.Steps.{Steps, Writing, reading_of, writing_of}
+use Rattle.sctp_steps.specs.Seen.{EndsReset, IsOpen, is_side, message_read, other_side}
+use Rattle.sctp_steps.specs.Steps.{Steps, Writing, writing_of}
 
 -- Both associations with every packet that they gave out, their initial TSNs, and the two directions: what was accepted
 -- on each stream and on which offsets it stands, what was given out, what was taken in, and what was read. A stream is
@@ -68,16 +69,6 @@ empty_world ends initial_a initial_b size_a size_b =
       loose_a = none_loose;
       loose_b = none_loose;
     }
-
-abbrev pub other_side : Side2 → Side2
-other_side sides.A = sides.B
-other_side sides.B = sides.A
-
-abbrev pub is_side : Side2 → Side2 → Bool
-is_side sides.A sides.A = true
-is_side sides.A sides.B = false
-is_side sides.B sides.A = false
-is_side sides.B sides.B = true
 
 -- other than ordered and reliable
 abbrev pub is_loose : Bool → ReliabilityType → Bool
@@ -120,15 +111,6 @@ accepted_of writing reply side s w = []
 abbrev pub accepted_at : Step → Reply → Side2 → ℕ → World → List model.Message
 accepted_at step reply x s w = accepted_of (writing_of step) reply x s w
 
-abbrev pub message_answered : Option (Side2 × ℕ) → Reply → Side2 → ℕ → Option ReceivedMessage
-message_answered (Some reading) (replies.Read message) x s =
-    if is_side reading.0 x && (reading.1 == s) then message else None
-message_answered reading reply x s = None
-
--- the message that a step's read answers at side x on stream s
-abbrev pub message_read : Step → Reply → Side2 → ℕ → Option ReceivedMessage
-message_read step reply x s = message_answered (reading_of step) reply x s
-
 abbrev pub packet_of_bytes : Option (List ℕ) → Option Packet
 packet_of_bytes None = None
 packet_of_bytes (Some bytes) = packet_in bytes
@@ -164,20 +146,6 @@ ends_span step reply s = false
 
 abbrev pub EndsSpan : Step → Reply → ℕ → Type 0
 EndsSpan step reply s = ends_span step reply s ≡ true
-
--- neither closed nor failed
-abbrev pub IsOpen : Shown → Type 0
-IsOpen a = (a.failed ≡ false) × (is_closed_state a.state ≡ false)
-
--- A request of a side to reset stream s ended in success between before and after: it was sent and not answered before,
--- and is over after; the reset of the stream did not fail, and the side is neither closed nor failed. A response of the
--- peer ends it (RFC 6525 section 5.2.7), or a request of the peer that confirms it (section 5.2.2). Of a request that
--- names all streams, which no side of a pair makes, the failure of each stream is not marked.
-pub record EndsReset (before after : Shown) (s : ℕ) : Type 0 where
-  pub active : is_being_reset before s ≡ true
-  pub ended : is_being_reset after s ≡ false
-  pub unfailed : has_id s after.resets.debts.failed ≡ false
-  pub stays_open : IsOpen after
 
 -- The machine's sequence numbers of stream s began again at the sender. The stream is past its span, and nothing of it
 -- is outstanding: each of its offsets lies below the acknowledged reach, no message of it goes on, and none that was

@@ -4,9 +4,8 @@
 
 mod pair;
 mod sides;
-mod step;
 
 pub use pair::Pair;
 pub use sctp_assoc::Reply;
+pub use sctp_steps::{Side2, Step};
 pub use sides::sides_run_by_their_calls;
-pub use step::{Side2, Step};

@@ -4,20 +4,23 @@ ghost use Rattle.std.specs.Option.{option_copied};
 ghost use Rattle.sctp_assoc.specs.Created.{client, create_refusal, join_refusal, joined, server};
 ghost use Rattle.sctp_pair.specs.Callers.{CameBy, ComesOn, HoldsOn, NothingIsReadBeforeADelivery, ReadsAreFronts};
 ghost use Rattle.sctp_pair.specs.Callers.{ReadsWereWritten};
+ghost use Rattle.sctp_pair.specs.Across.{CameFresh, ReadsOn};
 ghost use Rattle.std.specs.Borrow.{Lends, sem};
 ghost use Rattle.sctp_assoc.specs.contracts.association.Association as association;
 ghost use Rattle.sctp_pair.specs.contracts.pair.Pair.{the_row};
-ghost use Rattle.sctp_pair.specs.Ends.{JoinRefuses, packets_of, end_of, with_end};
+ghost use Rattle.sctp_steps.specs.Ends.{JoinRefuses, packets_of, end_of, with_end};
+ghost use Rattle.sctp_steps.specs.Steps.{ComesTo, Delivers, Runs, SendsAt, Steps};
+ghost use Rattle.sctp_boundaries.specs.Laws.{RunKeepsBoundaries, StandsFresh, StepKeepsBoundaries};
 ghost use Rattle.sctp_pair.specs.World.{World, empty_world};
 ghost use Rattle.sctp_pair.specs.Counted.{FitsCounted, LeadsCounted, RunsCounted, Tally, nothing_tallied};
 ghost use Rattle.sctp_pair.specs.Fits.{Fits, LeadsSafely, RunsSafely};
-ghost use Rattle.sctp_pair.specs.Steps.{ComesTo, Delivers, Runs, SendsAt, Steps};
 
 use crate::{Reply, Side2, Step};
 use bytes::Bytes;
 use sctp_assoc::{
     Association, AssociationId, ChunkInit, Error, Instant, ServerConfig, TransportConfig, calls,
 };
+use sctp_boundaries::boundaries_are_kept;
 use std::alloc::Global;
 use std::marker::Model;
 use std::net::SocketAddr;
@@ -54,7 +57,7 @@ impl Drop for Pair {
 }
 
 impl Model for Pair {
-    ghost use Rattle.sctp_pair.specs.Ends.{Ends};
+    ghost use Rattle.sctp_steps.specs.Ends.{Ends};
 
     ghost Value = { Ends };
 
@@ -74,7 +77,8 @@ impl Pair {
     ///
     /// Refused where A would be refused by `Association::new_with_out_of_band_init`, or else B. Nothing is left then.
     ///
-    /// It stands in the world in which nothing happened yet.
+    /// It stands in the world in which nothing happened yet, and between courses in which nothing was sent on any
+    /// stream (`boundaries`).
     pub fn snap(
         alloc: Global,
         config_a: &TransportConfig,
@@ -105,7 +109,15 @@ impl Pair {
           initial_a = token_a.now.initial_tsn;
           initial_b = token_b.now.initial_tsn;
         }) [] [] p) }
+        ensures boundaries { IfOk result (λ p. StandsFresh token_a.now.initial_tsn token_b.now.initial_tsn p) }
+        ensures fresh { IfOk result (λ p. CameFresh (record {
+          size_a = max_payload_size_a;
+          size_b = max_payload_size_b;
+          initial_a = token_a.now.initial_tsn;
+          initial_b = token_b.now.initial_tsn;
+        }) [] [] p) }
     {
+        boundaries_are_kept();
         let a = Association::new_with_out_of_band_init(
             alloc,
             config_a,
@@ -142,7 +154,8 @@ impl Pair {
     ///
     /// Refused where A would be refused by `Association::new`, or else B. Nothing is left then.
     ///
-    /// It stands in the world in which nothing happened yet.
+    /// It stands in the world in which nothing happened yet, and between courses in which nothing was sent on any
+    /// stream (`boundaries`).
     pub fn client_server(
         alloc: Global,
         config_a: &TransportConfig,
@@ -177,7 +190,15 @@ impl Pair {
           initial_a = tsn_a;
           initial_b = tsn_b;
         }) [] [] p) }
+        ensures boundaries { IfOk result (λ p. StandsFresh tsn_a tsn_b p) }
+        ensures fresh { IfOk result (λ p. CameFresh (record {
+          size_a = max_payload_size_a;
+          size_b = max_payload_size_b;
+          initial_a = tsn_a;
+          initial_b = tsn_b;
+        }) [] [] p) }
     {
+        boundaries_are_kept();
         let a = Association::new(
             alloc,
             None,
@@ -254,6 +275,16 @@ impl Pair {
     /// (`written`). Nothing is read on them at a side before the first delivery to it that is answered `Done`
     /// (`undelivered`).
     ///
+    /// Of a pair that `snap` or `client_server` made, every stream's resets divide what is read (`boundaries`): each
+    /// message that is read is made of DATA that the other side gave out and that is in no other message, and each
+    /// request that the other side performed divides what is read on the stream by generations: what was sent before it
+    /// is read in earlier ones, what was sent after it in later ones (docs/MODEL.md, courses). It holds as long as fewer
+    /// than 2^31 offsets and requests were sent in either direction.
+    ///
+    /// Of such a pair each message that is read on any stream is one that the other side's accepted writes gave, whole,
+    /// and none comes twice, whether a `Stop` or a `CloseStream` reset the stream in between or not (`across`). It holds
+    /// as long as both is so: few pieces unacknowledged and few messages unread, few offsets and requests sent.
+    ///
     /// More is said over worlds, which docs/MODEL.md has in words. From each world that the pair fits, the steps lead
     /// from world to world, in each of which the pair stands. As long as each so far is within the limits, it is safe
     /// (`headline`). As long as few pieces stay unacknowledged and few messages unread, each of these worlds is safe
@@ -271,15 +302,19 @@ impl Pair {
         ensures written { IfOk result (λ replies. HoldsOn ReadsWereWritten steps.now replies.items self.old) }
         ensures undelivered { IfOk result
             (λ replies. HoldsOn NothingIsReadBeforeADelivery steps.now replies.items self.old) }
+        ensures boundaries { IfOk result
+            (λ replies. RunKeepsBoundaries steps.now replies.items self.old self.new) }
+        ensures across { IfOk result (λ replies. ReadsOn steps.now replies.items self.old self.new) }
     {
+        boundaries_are_kept();
         self.carry_out_all(steps)
     }
 
     /// Carries out one step and answers what came of it; a refusal is a reply, too.
     ///
-    /// The promise of delivery is that of `run`, for this one step: the clauses `came`, `front`, `written` and
-    /// `undelivered`. What was acknowledged is looked at before each step, so that a caller that goes step by step may
-    /// write on as acknowledgements come.
+    /// The promise of delivery is that of `run`, for this one step: the clauses `came`, `front`, `written`,
+    /// `undelivered`, `boundaries` and `across`. What was acknowledged is looked at before each step, so that a caller
+    /// that goes step by step may write on as acknowledgements come.
     ///
     /// From each world that the pair fits, the step leads to a next one, in which the pair stands. Where that is
     /// within the limits, it is safe (`headline`). Where few pieces are unacknowledged and few messages unread, this
@@ -294,7 +329,10 @@ impl Pair {
         ensures front { HoldsOn ReadsAreFronts (step.now ∷ []) (result ∷ []) self.old }
         ensures written { HoldsOn ReadsWereWritten (step.now ∷ []) (result ∷ []) self.old }
         ensures undelivered { HoldsOn NothingIsReadBeforeADelivery (step.now ∷ []) (result ∷ []) self.old }
+        ensures boundaries { StepKeepsBoundaries step.now self.old result self.new }
+        ensures across { ReadsOn (step.now ∷ []) (result ∷ []) self.old self.new }
     {
+        boundaries_are_kept();
         self.carry_out(step)
     }
 

@@ -1,6 +1,7 @@
 -- The end of a request of this side keeps to the course of each stream.
 use Rattle.std.proofs.Common.{◌≡◌, refl, sym, ap, ◌∙◌, ℕ, Bool, true, false, not, cond, List, [], ◌∷◌, fold}
 use Rattle.std.proofs.Common.{Option, Some, None, Result, Ok, Err}
+use Rattle.sctp_wire_types.specs.declared.chunk.ChunkPayloadData.{ChunkPayloadData}
 use Rattle.sctp_wire_types.specs.declared.event.StreamResetError.{StreamResetError}
 use Rattle.sctp_wire_types.specs.declared.event.StreamResetError.TheVariants as reasons
 use Rattle.sctp_wire_types.specs.declared.param.ParamReconfigResponse.{ParamReconfigResponse}
@@ -36,76 +37,84 @@ closed_at : (m : StreamMap) (k : ℕ) → is_read_half_closed m k ≡ true → (
 closed_at m k closed t is = false_of (is_read_half_open t.halves) (sym (ap read_half_closed_at is) ∙ closed)
 
 -- one of two answerings keeps to the course where each does
-either_keeps : (initial id : ℕ) (r : ResetsView) (m : StreamMap) (b : Bool) (x y : Answering)
-    → (b ≡ true → KeepsCourse initial id r m r x.streams) → KeepsCourse initial id r m r y.streams
-    → KeepsCourse initial id r m r (cond b x y).streams
-either_keeps initial id r m true x y first second = first refl
-either_keeps initial id r m false x y first second = second
+either_keeps : (P : ChunkPayloadData → Type 0) (initial id : ℕ) (r : ResetsView) (m : StreamMap) (b : Bool)
+    (x y : Answering)
+    → (b ≡ true → KeepsCourse P initial id r m r x.streams) → KeepsCourse P initial id r m r y.streams
+    → KeepsCourse P initial id r m r (cond b x y).streams
+either_keeps P initial id r m true x y first second = first refl
+either_keeps P initial id r m false x y first second = second
 
 -- it ends where its read half is closed and that was owed, and else its SSNs begin at 0 again
-one_keeps : (initial id : ℕ) (r : ResetsView) (owed : Bool) (d : DebtsView) (a : Answering) (k : ℕ)
-    → KeepsCourse initial id r a.streams r (completed_with (d, owed) a k).streams
-one_keeps initial id r false d a k = restarted_keeps initial id r a.streams k
-one_keeps initial id r true d a k =
-    either_keeps initial id r a.streams (is_read_half_closed a.streams k)
+one_keeps : (P : ChunkPayloadData → Type 0) (initial id : ℕ) (r : ResetsView) (owed : Bool) (d : DebtsView)
+    (a : Answering) (k : ℕ)
+    → KeepsCourse P initial id r a.streams r (completed_with (d, owed) a k).streams
+one_keeps P initial id r false d a k = restarted_keeps P initial id r a.streams k
+one_keeps P initial id r true d a k =
+    either_keeps P initial id r a.streams (is_read_half_closed a.streams k)
     (record a { debts = d; streams = without_stream a.streams k; events = final_told a.streams k a.events })
     (record a { debts = d; streams = changed_stream with_restarted_ssn a.streams k })
-    (λ closed. gone_keeps initial id r a.streams k (closed_at a.streams k closed))
-    (restarted_keeps initial id r a.streams k)
+    (λ closed. gone_keeps P initial id r a.streams k (closed_at a.streams k closed))
+    (restarted_keeps P initial id r a.streams k)
 
 -- All streams of a request
 
-all_keep : (initial id : ℕ) (r : ResetsView) (ids : List ℕ) (a : Answering)
-    → KeepsCourse initial id r a.streams r (fold completed_one a ids).streams
-all_keep initial id r [] a = keeps_same initial id r a.streams
-all_keep initial id r (k ∷ ids) a =
-    keeps_then initial id r r r a.streams (completed_one a k).streams
+all_keep : (P : ChunkPayloadData → Type 0) (initial id : ℕ) (r : ResetsView) (ids : List ℕ) (a : Answering)
+    → KeepsCourse P initial id r a.streams r (fold completed_one a ids).streams
+all_keep P initial id r [] a = keeps_same P initial id r a.streams
+all_keep P initial id r (k ∷ ids) a =
+    keeps_then P initial id r r r a.streams (completed_one a k).streams
     (fold completed_one (completed_one a k) ids).streams
-    (one_keeps initial id r (debts.settled a.debts k).1 (debts.settled a.debts k).0 a k)
-    (all_keep initial id r ids (completed_one a k))
+    (one_keeps P initial id r (debts.settled a.debts k).1 (debts.settled a.debts k).0 a k)
+    (all_keep P initial id r ids (completed_one a k))
 
 -- A request of this side ended: the course of each stream is kept to.
-pub over_keeps : (initial id : ℕ) (r : ResetsView) (m : StreamMap) (told : List Event)
+pub over_keeps : (P : ChunkPayloadData → Type 0) (initial id : ℕ) (r : ResetsView) (m : StreamMap) (told : List Event)
     (outcome : Result (Unit {0}) StreamResetError) (q : OwnRequest)
-    → KeepsCourse initial id r m (request_over outcome q r m told).0 (request_over outcome q r m told).1
-over_keeps initial id r m told (Ok done) q = all_keep initial id r q.ids (answering r.debts m told)
-over_keeps initial id r m told (Err reason) q = keeps_same initial id r m
+    → KeepsCourse P initial id r m (request_over outcome q r m told).0 (request_over outcome q r m told).1
+over_keeps P initial id r m told (Ok done) q = all_keep P initial id r q.ids (answering r.debts m told)
+over_keeps P initial id r m told (Err reason) q = keeps_same P initial id r m
 
 -- By what it ended
 
-confirmed_as : (initial id : ℕ) (r : ResetsView) (m : StreamMap) (told : List Event) (x : OwnView × Option OwnRequest)
-    → KeepsCourse initial id r m (confirmed_where x r m told).0.0 (confirmed_where x r m told).0.1
-confirmed_as initial id r m told (o, None) = keeps_same initial id r m
-confirmed_as initial id r m told (o, Some q) = over_keeps initial id (record r { own = o }) m told (Ok tt) q
+confirmed_as : (P : ChunkPayloadData → Type 0) (initial id : ℕ) (r : ResetsView) (m : StreamMap) (told : List Event)
+    (x : OwnView × Option OwnRequest)
+    → KeepsCourse P initial id r m (confirmed_where x r m told).0.0 (confirmed_where x r m told).0.1
+confirmed_as P initial id r m told (o, None) = keeps_same P initial id r m
+confirmed_as P initial id r m told (o, Some q) = over_keeps P initial id (record r { own = o }) m told (Ok tt) q
 
 -- A request of the peer confirmed the active request.
-pub confirmed_keeps : (initial id : ℕ) (r : ResetsView) (m : StreamMap) (told : List Event) (number : ℕ)
-    → KeepsCourse initial id r m (confirmed_by number r m told).0.0 (confirmed_by number r m told).0.1
-confirmed_keeps initial id r m told number = confirmed_as initial id r m told (own.confirmed r.own number)
+pub confirmed_keeps : (P : ChunkPayloadData → Type 0) (initial id : ℕ) (r : ResetsView) (m : StreamMap)
+    (told : List Event) (number : ℕ)
+    → KeepsCourse P initial id r m (confirmed_by number r m told).0.0 (confirmed_by number r m told).0.1
+confirmed_keeps P initial id r m told number = confirmed_as P initial id r m told (own.confirmed r.own number)
 
-responded_as : (initial id : ℕ) (r : ResetsView) (m : StreamMap) (told : List Event) (x : OwnView × Answered)
-    → KeepsCourse initial id r m (ended_as_answered x r m told).0.0 (ended_as_answered x r m told).0.1
-responded_as initial id r m told (o, answers.Ignored) = keeps_same initial id r m
-responded_as initial id r m told (o, answers.InProgress) = keeps_same initial id r m
-responded_as initial id r m told (o, answers.Ended q outcome) =
-    over_keeps initial id (record r { own = o }) m told outcome q
+responded_as : (P : ChunkPayloadData → Type 0) (initial id : ℕ) (r : ResetsView) (m : StreamMap) (told : List Event)
+    (x : OwnView × Answered)
+    → KeepsCourse P initial id r m (ended_as_answered x r m told).0.0 (ended_as_answered x r m told).0.1
+responded_as P initial id r m told (o, answers.Ignored) = keeps_same P initial id r m
+responded_as P initial id r m told (o, answers.InProgress) = keeps_same P initial id r m
+responded_as P initial id r m told (o, answers.Ended q outcome) =
+    over_keeps P initial id (record r { own = o }) m told outcome q
 
 -- A response of the peer came.
-pub responded_keeps : (initial id : ℕ) (r : ResetsView) (m : StreamMap) (told : List Event)
+pub responded_keeps : (P : ChunkPayloadData → Type 0) (initial id : ℕ) (r : ResetsView) (m : StreamMap)
+    (told : List Event)
     (response : ParamReconfigResponse)
-    → KeepsCourse initial id r m (responded response r m told).0.0 (responded response r m told).0.1
-responded_keeps initial id r m told response = responded_as initial id r m told (own.answered r.own response)
+    → KeepsCourse P initial id r m (responded response r m told).0.0 (responded response r m told).0.1
+responded_keeps P initial id r m told response = responded_as P initial id r m told (own.answered r.own response)
 
-given_up_as : (initial id : ℕ) (r : ResetsView) (m : StreamMap) (told : List Event) (x : OwnView × Option OwnRequest)
-    → KeepsCourse initial id r m (given_up_where x r m told).0 (given_up_where x r m told).1
-given_up_as initial id r m told (o, None) = keeps_same initial id r m
-given_up_as initial id r m told (o, Some q) =
-    over_keeps initial id (record r { own = o }) m told (Err reasons.Failed) q
+given_up_as : (P : ChunkPayloadData → Type 0) (initial id : ℕ) (r : ResetsView) (m : StreamMap) (told : List Event)
+    (x : OwnView × Option OwnRequest)
+    → KeepsCourse P initial id r m (given_up_where x r m told).0 (given_up_where x r m told).1
+given_up_as P initial id r m told (o, None) = keeps_same P initial id r m
+given_up_as P initial id r m told (o, Some q) =
+    over_keeps P initial id (record r { own = o }) m told (Err reasons.Failed) q
 
 -- The active request was given up.
-pub given_up_keeps : (initial id : ℕ) (r : ResetsView) (m : StreamMap) (told : List Event)
-    → KeepsCourse initial id r m (given_up r m told).0 (given_up r m told).1
-given_up_keeps initial id r m told = given_up_as initial id r m told (own.ended r.own)
+pub given_up_keeps : (P : ChunkPayloadData → Type 0) (initial id : ℕ) (r : ResetsView) (m : StreamMap)
+    (told : List Event)
+    → KeepsCourse P initial id r m (given_up r m told).0 (given_up r m told).1
+given_up_keeps P initial id r m told = given_up_as P initial id r m told (own.ended r.own)
 
 -- The peer's requests, and what is kept of generations, stay as they are.
 

@@ -8,6 +8,7 @@ use Rattle.std.specs.List.{AllByRecursion}
 use Rattle.std.specs.List.Sorted.{IsStrictlySortedBy}
 use Rattle.std.proofs.lemmas.Bool.{eqb-true, lt-ltb}
 use Rattle.sctp_serial.specs.Serial.{tsn, tsn_after}
+use Rattle.sctp_wire_types.specs.declared.chunk.ChunkPayloadData.{ChunkPayloadData}
 use Rattle.sctp_wire_types.specs.declared.param.ParamOutgoingResetRequest.{ParamOutgoingResetRequest}
 use Rattle.sctp_streams.specs.Streams.{StreamMap}
 use Rattle.sctp_streams.proofs.LowMarks.{found_as}
@@ -79,22 +80,24 @@ same_index : (initial a b : ℕ) → a < 2 ^ 31 → b < 2 ^ 31 → tsn initial a
 same_index initial a b small little e = omega arith
 
 -- it comes in the course
-comes_is : (initial id : ℕ) (r : ResetsView) (m : StreamMap) (c : Course) → StandsBeside initial id r m c
+comes_is : (P : ChunkPayloadData → Type 0) (initial id : ℕ) (r : ResetsView) (m : StreamMap) (c : Course)
+    → StandsBeside P initial id r m c
     → c.performed < length c.asked → happens c Event.Comes ≡ record c { waits = true }
-comes_is initial id r m c h some =
+comes_is P initial id r m c h some =
     let there : nat_lt c.performed (length c.asked) ≡ true = lt-ltb c.performed (length c.asked) some in
     let allowed : (is_idle c && nat_lt c.performed (length c.asked)) ≡ true =
     rw (h.stands.still.1, h.stands.still.2, there) refl in ap (λ z. cond z (record c { waits = true }) c) allowed
 
 -- and then it waits there
-comes_beside : (initial id : ℕ) (q : PeerRequestView) (r : ResetsView) (m : StreamMap) (c : Course)
+comes_beside : (P : ChunkPayloadData → Type 0) (initial id : ℕ) (q : PeerRequestView) (r : ResetsView) (m : StreamMap)
+    (c : Course)
     → q.number ≡ tsn initial c.performed → q.last_tsn ≡ last_below initial (boundary_at c.asked c.performed)
     → names q id ≡ is_named c.asked c.performed → times id q.ids ≤ 1 → c.performed < length c.asked
-    → StandsBeside initial id r m c
-    → StandsBeside initial id (record r { peer = record r.peer { in_progress = Some q } }) m
+    → StandsBeside P initial id r m c
+    → StandsBeside P initial id (record r { peer = record r.peer { in_progress = Some q } }) m
     (record c { waits = true })
-comes_beside initial id q r m c number last named once some h = record {
-  kept = subst Invariant (comes_is initial id r m c h some) (each_event_keeps_the_invariant c Event.Comes h.kept);
+comes_beside P initial id q r m c number last named once some h = record {
+  kept = subst Invariant (comes_is P initial id r m c h some) (each_event_keeps_the_invariant c Event.Comes h.kept);
   stands = record {
     live = h.stands.live;
     next = h.stands.next;
@@ -114,28 +117,31 @@ comes_beside initial id q r m c number last named once some h = record {
 }
 
 -- A request that waits is performed if it is due, with the skips that were kept behind it, and else it waits on.
-taken_up_beside : (initial id cumulative first limit : ℕ) (confirms : Bool) (q : PeerRequestView) (p : PeerView)
+taken_up_beside : (P : ChunkPayloadData → Type 0) (initial id cumulative first limit : ℕ) (confirms : Bool)
+    (q : PeerRequestView) (p : PeerView)
     (r : ResetsView) (x : Channels) (c : Course) → p.in_progress ≡ Some q
-    → StandsBeside initial id (record r { peer = p }) x.streams c → c.point < 2 ^ 31
+    → StandsBeside P initial id (record r { peer = p }) x.streams c → c.point < 2 ^ 31
     → cumulative ≡ last_below initial c.point
-    → GoesOnBeside initial id
+    → GoesOnBeside P initial id
     (arrived_with confirms first limit (taken_up (advanced_with (Some q) p cumulative)) r x).0.0
     (arrived_with confirms first limit (taken_up (advanced_with (Some q) p cumulative)) r x).0.1.streams c
-taken_up_beside initial id cumulative first limit confirms q p r x c waits h small here = by (is_due q cumulative) refl
+taken_up_beside P initial id cumulative first limit confirms q p r x c waits h small here =
+    by (is_due q cumulative) refl
   where
     by : (due : Bool) → is_due q cumulative ≡ due
-        → GoesOnBeside initial id
+        → GoesOnBeside P initial id
         (arrived_with confirms first limit
         (taken_up (cond {A = PeerView × Option PeerRequestView} due (completed q, Some q) (p, None))) r x).0.0
         (arrived_with confirms first limit
         (taken_up (cond {A = PeerView × Option PeerRequestView} due (completed q, Some q) (p, None))) r
         x).0.1.streams c
-    by false d = beside_still initial id (record r { peer = p }) x.streams c h
+    by false d = beside_still P initial id (record r { peer = p }) x.streams c h
     by true d =
         let y : Resetting = (performed q first limit (record r { peer = completed q }) x).0 in
-        skips_behind initial id y.0 y.1.streams y.1.events c
-        (performs_beside initial id first limit q r x c h.kept
-        (subst (λ (o : Option PeerRequestView). Stands initial id r.generations x.streams o c) waits h.stands) h.read_on
+        skips_behind P initial id y.0 y.1.streams y.1.events c
+        (performs_beside P initial id first limit q r x c h.kept
+        (subst (λ (o : Option PeerRequestView). Stands P initial id r.generations x.streams o c) waits h.stands)
+        h.read_on
         (subst (λ (o : Option PeerRequestView). HasNumber o (tsn initial c.performed)) waits h.numbered.current) small
         (subst (λ t. is_due q t ≡ true) here d))
 
@@ -148,16 +154,17 @@ standing_by current done busy next =
 
 -- A request of the course arrives, where the last TSN in order is that below the course's cumulative reach. It is the
 -- one with this index; only the next one is taken up, and only one that waits can be performed.
-pub arrives : (initial id cumulative first limit : ℕ) (r : ResetsView) (x : Channels) (c : Course)
+pub arrives : (P : ChunkPayloadData → Type 0) (initial id cumulative first limit : ℕ) (r : ResetsView) (x : Channels)
+    (c : Course)
     (param : ParamOutgoingResetRequest) (index : ℕ) → index < length c.asked
     → param.reconfig_request_sequence_number ≡ tsn initial index
     → param.sender_last_tsn ≡ last_below initial (boundary_at c.asked index)
     → names (request_of param) id ≡ is_named c.asked index → initial < 2 ^ 32 → length c.asked < 2 ^ 31
-    → c.point < 2 ^ 31 → cumulative ≡ last_below initial c.point → StandsBeside initial id r x.streams c
+    → c.point < 2 ^ 31 → cumulative ≡ last_below initial c.point → StandsBeside P initial id r x.streams c
     → (confirms : Bool)
-    → GoesOnBeside initial id (handled_after param cumulative first limit confirms (r, x)).0.0
+    → GoesOnBeside P initial id (handled_after param cumulative first limit confirms (r, x)).0.0
     (handled_after param cumulative first limit confirms (r, x)).0.1.streams c
-arrives initial id cumulative first limit r x c param index asked number last named low few small here h confirms =
+arrives P initial id cumulative first limit r x c param index asked number last named low few small here h confirms =
     by (is_current r.peer.in_progress param.reconfig_request_sequence_number)
     (is_completed r.peer.last_completed param.reconfig_request_sequence_number) (is_some r.peer.in_progress)
     (is_next r.peer.last_completed param.reconfig_request_sequence_number) refl
@@ -165,17 +172,17 @@ arrives initial id cumulative first limit r x c param index asked number last na
     q : PeerRequestView
     q = request_of param
 
-    still : GoesOnBeside initial id r x.streams c
-    still = beside_still initial id r x.streams c h
+    still : GoesOnBeside P initial id r x.streams c
+    still = beside_still P initial id r x.streams c h
 
     -- the one in progress, if there is one, is performed if it is due
     goes_again : (o : Option PeerRequestView) → r.peer.in_progress ≡ o
-        → GoesOnBeside initial id
+        → GoesOnBeside P initial id
         (arrived_with confirms first limit (taken_up (advanced_with o r.peer cumulative)) r x).0.0
         (arrived_with confirms first limit (taken_up (advanced_with o r.peer cumulative)) r x).0.1.streams c
     goes_again None e = still
     goes_again (Some w) e =
-        taken_up_beside initial id cumulative first limit confirms w r.peer r x c e h small here
+        taken_up_beside P initial id cumulative first limit confirms w r.peer r x c e h small here
 
     next_one : is_next r.peer.last_completed param.reconfig_request_sequence_number ≡ true → index ≡ c.performed
     next_one e =
@@ -187,7 +194,7 @@ arrives initial id cumulative first limit r x c param index asked number last na
 
     -- the next one comes
     goes_next : index ≡ c.performed
-        → GoesOnBeside initial id
+        → GoesOnBeside P initial id
         (arrived_with confirms first limit
         (taken_up (advanced_with (Some q) (record r.peer { in_progress = Some q }) cumulative)) r x).0.0
         (arrived_with confirms first limit
@@ -195,23 +202,23 @@ arrives initial id cumulative first limit r x c param index asked number last na
     goes_next is =
         let some : c.performed < length c.asked = subst (λ n. n < length c.asked) is asked in
         let goes : GoesOn c (record c { waits = true }) =
-        subst (GoesOn c) (comes_is initial id r x.streams c h some) (goes_by c Event.Comes refl) in
+        subst (GoesOn c) (comes_is P initial id r x.streams c h some) (goes_by c Event.Comes refl) in
         let beside =
-        comes_beside initial id q r x.streams c (number ∙ ap (tsn initial) is)
+        comes_beside P initial id q r x.streams c (number ∙ ap (tsn initial) is)
         (last ∙ ap (λ n. last_below initial (boundary_at c.asked n)) is) (named ∙ ap (is_named c.asked) is)
         (set_has_once id param.stream_identifiers) some h in
-        beside_on initial id
+        beside_on P initial id
         (arrived_with confirms first limit
         (taken_up (advanced_with (Some q) (record r.peer { in_progress = Some q }) cumulative)) r x).0.0
         (arrived_with confirms first limit
         (taken_up (advanced_with (Some q) (record r.peer { in_progress = Some q }) cumulative)) r x).0.1.streams c
         (record c { waits = true }) goes refl refl refl
-        (taken_up_beside initial id cumulative first limit confirms q (record r.peer { in_progress = Some q }) r x
+        (taken_up_beside P initial id cumulative first limit confirms q (record r.peer { in_progress = Some q }) r x
         (record c { waits = true }) refl beside small here)
 
     by : (current done busy next : Bool)
         → is_next r.peer.last_completed param.reconfig_request_sequence_number ≡ next
-        → GoesOnBeside initial id
+        → GoesOnBeside P initial id
         (arrived_with confirms first limit
         (arrived_as (standing_by current done busy next) r.peer q cumulative) r x).0.0
         (arrived_with confirms first limit
@@ -223,25 +230,26 @@ arrives initial id cumulative first limit r x c param index asked number last na
     by false false false true e = goes_next (next_one e)
 
 -- It ends the active request of this side that it names before.
-pub request_arrives : (initial id cumulative first limit : ℕ) (r : ResetsView) (x : Channels) (c : Course)
+pub request_arrives : (P : ChunkPayloadData → Type 0) (initial id cumulative first limit : ℕ) (r : ResetsView)
+    (x : Channels) (c : Course)
     (param : ParamOutgoingResetRequest) (index : ℕ) → index < length c.asked
     → param.reconfig_request_sequence_number ≡ tsn initial index
     → param.sender_last_tsn ≡ last_below initial (boundary_at c.asked index)
     → names (request_of param) id ≡ is_named c.asked index → initial < 2 ^ 32 → length c.asked < 2 ^ 31
-    → c.point < 2 ^ 31 → cumulative ≡ last_below initial c.point → StandsBeside initial id r x.streams c
-    → GoesOnBeside initial id (handled param cumulative first limit r x).0.0
+    → c.point < 2 ^ 31 → cumulative ≡ last_below initial c.point → StandsBeside P initial id r x.streams c
+    → GoesOnBeside P initial id (handled param cumulative first limit r x).0.0
     (handled param cumulative first limit r x).0.1.streams c
-request_arrives initial id cumulative first limit r x c param index asked number last named low few small here h =
+request_arrives P initial id cumulative first limit r x c param index asked number last named low few small here h =
     let response : ℕ = param.reconfig_response_sequence_number in
     let b = confirmed_by response r x.streams x.events in
-    let g : GoesOnBeside initial id b.0.0 b.0.1 c =
-    (beside_keeps initial id r b.0.0 x.streams b.0.1 c (confirmed_keeps initial id r x.streams x.events response)
+    let g : GoesOnBeside P initial id b.0.0 b.0.1 c =
+    (beside_keeps P initial id r b.0.0 x.streams b.0.1 c (confirmed_keeps P initial id r x.streams x.events response)
     (confirmed_peer r x.streams x.events response) h).0 in
     let d : Course = g.after in
     let same : c.asked ≡ d.asked = sym (goes_leaves c d g.goes).0 in
-    beside_on initial id (handled param cumulative first limit r x).0.0
+    beside_on P initial id (handled param cumulative first limit r x).0.0
     (handled param cumulative first limit r x).0.1.streams c d g.goes g.told g.point g.taken
-    (arrives initial id cumulative first limit b.0.0 (record x { streams = b.0.1; events = b.0.2 }) d param index
+    (arrives P initial id cumulative first limit b.0.0 (record x { streams = b.0.1; events = b.0.2 }) d param index
     (subst (λ qs. index < length qs) same asked) number
     (subst (λ qs. param.sender_last_tsn ≡ last_below initial (boundary_at qs index)) same last)
     (subst (λ qs. names (request_of param) id ≡ is_named qs index) same named) low

@@ -47,7 +47,8 @@ module _ (initial id : ℕ) (P : ChunkPayloadData → Type 0) (IsHeld : Reassemb
     (tells : TellsHeld initial id P IsHeld) where
   -- a stream that holds no more than what is given and what it held is that of the course
   given_as : (t : StreamView) (l : Live) (os hand : List ℕ) (live : Option Live) (o : Option StreamView)
-      → live ≡ Some l → IsLiveAs IsHeld t l → ((n : ℕ) → times n os ≤ times n hand) → IsGrown initial id P IsHeld tells t os o
+      → live ≡ Some l → IsLiveAs IsHeld t l → ((n : ℕ) → times n os ≤ times n hand)
+      → IsGrown initial id P IsHeld tells t os o
       → LiveAs IsHeld o (with_all_held live hand)
   given_as t l os hand live o is was few g =
       let all = holds_them live hand l is in
@@ -156,7 +157,8 @@ module _ (initial id : ℕ) (P : ChunkPayloadData → Type 0) (IsHeld : Reassemb
           (given_as (fresh_stream id generation first kinds.Unknown)
           (record { generation = generation; is_open = true; held = [] }) (offsets_of initial id ds) c.hand
           (opened c generation).live here refl
-          (record { generation = refl; is_open = refl; held = tells.empty }) few g) (λ e. absurd (false≢true (sym (ap is_readable none) ∙ e))) (λ gone l e. fresh_opens generation l e)
+          (record { generation = refl; is_open = refl; held = tells.empty }) few g)
+          (λ e. absurd (false≢true (sym (ap is_readable none) ∙ e))) (λ gone l e. fresh_opens generation l e)
 
       by : (o : Option StreamView) → stream_at x.streams id ≡ o → (live : Option Live) → c.live ≡ live
           → LiveAs IsHeld o live → AreGiven IsHeld c here last

@@ -33,12 +33,14 @@ twice false = refl
 -- offsets with one more, wherever it is put in
 offsets_inserted : (initial id : ℕ) (p : ChunkPayloadData) (ds : List ChunkPayloadData) (at o : ℕ)
     → times o (offsets_of initial id (insert ds at p))
-    ≤ (if is_of id p then (if eqb (offset_of initial p.tsn) o then 1 else 0) else 0) + times o (offsets_of initial id ds)
+    ≤ (if is_of id p then (if eqb (offset_of initial p.tsn) o then 1 else 0) else 0) + times o
+    (offsets_of initial id ds)
 offsets_inserted initial id p [] at o = by (is_of id p) refl at
   where
     by : (m : Bool) → is_of id p ≡ m → (at : ℕ)
         → times o (offsets_of initial id (insert [] at p))
-        ≤ (if is_of id p then (if eqb (offset_of initial p.tsn) o then 1 else 0) else 0) + times o (offsets_of initial id [])
+        ≤ (if is_of id p then (if eqb (offset_of initial p.tsn) o then 1 else 0) else 0) + times o
+        (offsets_of initial id [])
     by true e zero = rw e (omega arith)
     by true e (suc at) = rw e (omega arith)
     by false e zero = rw e (omega arith)
@@ -47,7 +49,8 @@ offsets_inserted initial id p (d ∷ ds) zero o = by (is_of id p) refl
   where
     by : (m : Bool) → is_of id p ≡ m
         → times o (offsets_of initial id (p ∷ d ∷ ds))
-        ≤ (if is_of id p then (if eqb (offset_of initial p.tsn) o then 1 else 0) else 0) + times o (offsets_of initial id (d ∷ ds))
+        ≤ (if is_of id p then (if eqb (offset_of initial p.tsn) o then 1 else 0) else 0) + times o
+        (offsets_of initial id (d ∷ ds))
     by true e = rw e (omega arith)
     by false e = rw e (omega arith)
 offsets_inserted initial id p (d ∷ ds) (suc at) o =
@@ -154,7 +157,8 @@ module _ (initial id : ℕ) (P : ChunkPayloadData → Type 0) (IsHeld : Reassemb
       live = h.live;
       next = h.next;
       marks = h.marks;
-      kept = all_inserted (λ (q : ChunkPayloadData). P q × IsNear initial q.tsn) g.deferred (place_of p.tsn g.deferred) p
+      kept =
+          all_inserted (λ (q : ChunkPayloadData). P q × IsNear initial q.tsn) g.deferred (place_of p.tsn g.deferred) p
           h.kept (so, near);
       deferred = λ n.
           one_more n (is_of id p) (eq-eqb p.stream_identifier id mine)

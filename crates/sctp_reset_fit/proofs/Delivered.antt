@@ -289,7 +289,8 @@ module _ (initial id : ℕ) (P : ChunkPayloadData → Type 0) (IsHeld : Reassemb
       by true e =
           let g = given_there initial P IsHeld d told so limit new
           (fresh_stream d.stream_identifier c.streams.next_generation first kinds.Unknown) fresh in
-          Comes c.streams.next_generation (omega arith) (rw (here, e) (let n = g.next in omega arith)) (rw (here, e) (record {
+          Comes c.streams.next_generation (omega arith) (rw (here, e) (let n = g.next in omega arith))
+          (rw (here, e) (record {
             after = g.after;
             is = ap (λ i. stream_at (given_where limit (new, true) d).streams i) (sym same) ∙ g.is;
             stats = g.generation

@@ -1,5 +1,6 @@
 -- A read on one stream keeps the course of every stream.
-use Rattle.std.proofs.Common.{◌≡◌, refl, sym, ap, ◌∙◌, subst, ℕ, zero, suc, ◌≤◌, Bool, true, false, not, ◌&&◌, cond, eqb}
+use Rattle.std.proofs.Common.{◌≡◌, refl, sym, ap, ◌∙◌, subst, ℕ, zero, suc, ◌≤◌, Bool, true, false, not, ◌&&◌, cond}
+use Rattle.std.proofs.Common.{eqb}
 use Rattle.std.proofs.Common.{List, [], ◌∷◌, fold, map, filter, Option, Some, None, is_some, is_eq, nat_cmp, arith}
 use Rattle.std.specs.List.{AllByRecursion}
 use Rattle.std.specs.BTreeMap.{is_at}
@@ -36,7 +37,7 @@ use Rattle.sctp_courses.specs.Course.{Course, times}
 use Rattle.sctp_courses.specs.Invariants.{Invariant}
 use Rattle.sctp_reset_fit.specs.Keeping.{KeepsCourse}
 use Rattle.sctp_reset_fit.specs.Held.{IsHeldOn}
-use Rattle.sctp_reset_fit.specs.Laws.{IsPiece, ReadsIt, Stands}
+use Rattle.sctp_reset_fit.specs.Laws.{ReadsIt, Stands}
 use Rattle.sctp_reset_fit.specs.Stands.{IsNear, IsOnce, IsReadOn, LiveAs, MarksAs, offset_of}
 use Rattle.sctp_reset_fit.proofs.Delivered.{all_next, all_once}
 use Rattle.sctp_reset_fit.proofs.Keeping.{tells}
@@ -114,15 +115,16 @@ module _ (id : ℕ) (Q : ChunkPayloadData → Type 0) where
           same (r, Some n) left f = absurd (true≢false (ap is_some f))
 
 -- what is so of each piece that waits
-abbrev pub IsKeptNear : ℕ → ChunkPayloadData → Type 0
-IsKeptNear initial p = IsPiece p × IsNear initial p.tsn
+abbrev pub IsKeptNear : (ChunkPayloadData → Type 0) → ℕ → ChunkPayloadData → Type 0
+IsKeptNear P initial p = P p × IsNear initial p.tsn
 
 -- what stands for a course stands for it then
-pub stays_stand : (initial id : ℕ) {g h : GenerationsView} {m n : StreamMap} (in_progress : Option PeerRequestView)
-    (c : Course) → StaysOf id (IsKeptNear initial) g m h n → Stands initial id g m in_progress c
-    → Stands initial id h n in_progress c
-stays_stand initial id in_progress c s a = record {
-  live = subst (λ o. LiveAs (IsHeldOn initial) o c.live) (sym s.live) a.live;
+pub stays_stand : (P : ChunkPayloadData → Type 0) (initial id : ℕ) {g h : GenerationsView} {m n : StreamMap}
+    (in_progress : Option PeerRequestView)
+    (c : Course) → StaysOf id (IsKeptNear P initial) g m h n → Stands P initial id g m in_progress c
+    → Stands P initial id h n in_progress c
+stays_stand P initial id in_progress c s a = record {
+  live = subst (λ o. LiveAs (IsHeldOn P initial id) o c.live) (sym s.live) a.live;
   next = (let x = a.next in let y = s.next in omega arith);
   marks = subst (λ o. MarksAs initial o c.marks) (sym s.marks) a.marks;
   kept = s.kept a.kept;
@@ -139,13 +141,14 @@ stays_stand initial id in_progress c s a = record {
 }
 
 -- where all stays that its course has, the course of the stream is kept
-pub stays_keeps : (initial id : ℕ) (r : ResetsView) {m n : StreamMap} {h : GenerationsView}
-    → StaysOf id (IsKeptNear initial) r.generations m h n → KeepsCourse initial id r m (with_generations r h) n
-stays_keeps initial id r s c inv a read_on = (
+pub stays_keeps : (P : ChunkPayloadData → Type 0) (initial id : ℕ)
+    (r : ResetsView) {m n : StreamMap} {h : GenerationsView}
+    → StaysOf id (IsKeptNear P initial) r.generations m h n → KeepsCourse P initial id r m (with_generations r h) n
+stays_keeps P initial id r s c inv a read_on = (
   record {
     after = c;
     leads = leads_nowhere c;
-    stands = stays_stand initial id r.peer.in_progress c s a;
+    stands = stays_stand P initial id r.peer.in_progress c s a;
     told = refl;
   },
   read_on,
@@ -160,7 +163,8 @@ module _ (id k : ℕ) (Q : ChunkPayloadData → Type 0) (other : k ≡ id → �
   -- a piece of the one is none of the other
   of_other : (d : ChunkPayloadData) → is_of id d ≡ true → is_of k d ≡ false
   of_other d mine =
-      ne_eqb d.stream_identifier k (λ (e : d.stream_identifier ≡ k). other (sym e ∙ eqb-true d.stream_identifier id mine))
+      ne_eqb d.stream_identifier k
+      (λ (e : d.stream_identifier ≡ k). other (sym e ∙ eqb-true d.stream_identifier id mine))
 
   -- what a test finds to be of the one names no other
   pub chosen_apart : {X : Type 0} (f : X → ℕ) (test : X → Bool) → ((x : X) → test x ≡ true → f x ≡ k) → (xs : List X)
@@ -196,7 +200,8 @@ module _ (id k : ℕ) (Q : ChunkPayloadData → Type 0) (other : k ≡ id → �
       by : (o : Option StreamView) → StaysOf id Q g m g (read_at o m k).0
       by None = stays_itself id Q g m
       by (Some t) =
-          streams_stay id Q g m (with_stream m k (stream_read t).0) (stream_set_apart id k apart m (stream_read t).0) refl
+          streams_stay id Q g m (with_stream m k (stream_read t).0)
+          (stream_set_apart id k apart m (stream_read t).0) refl
           (λ once. set_once id (is_at (nat_cmp k)) (stream_read t).0 m.by_id once)
 
   -- its first boundary is passed
@@ -228,10 +233,12 @@ module _ (id k : ℕ) (Q : ChunkPayloadData → Type 0) (other : k ≡ id → �
       }
 
   -- its write half is closed again
-  pub half_stays : (closed : Bool) (g : GenerationsView) (m : StreamMap) → StaysOf id Q g m g (with_write_half closed m k)
+  pub half_stays : (closed : Bool) (g : GenerationsView) (m : StreamMap)
+      → StaysOf id Q g m g (with_write_half closed m k)
   half_stays false g m = stays_itself id Q g m
   half_stays true g m =
-      streams_stay id Q g m (changed_stream f m k) (changed_apart id k apart f m) (next_of (stream_at m k)) (once_of (stream_at m k))
+      streams_stay id Q g m (changed_stream f m k) (changed_apart id k apart f m) (next_of (stream_at m k))
+      (once_of (stream_at m k))
     where
       f : StreamView → StreamView
       f s = with_setting s settings.WriteHalfClosed
@@ -247,7 +254,7 @@ module _ (id k : ℕ) (Q : ChunkPayloadData → Type 0) (other : k ≡ id → �
   -- the skips of its generation are applied
   pub skips_stay : (x : Skipping) → StaysOf id Q x.0 x.1 (skips_applied_of x k).0 (skips_applied_of x k).1
   skips_stay (g, m, told) =
-      let a = skips_alike id (IsHeldOn 0) (tells 0 id).skips (g, m, told) k in
+      let a = skips_alike id (IsHeldOn Q 0 id) (tells Q 0 id).skips (g, m, told) k in
       record {
         live = applied_apart id k (g, m, told) given;
         next = (let e = a.next in omega arith);
@@ -271,7 +278,7 @@ module _ (id k : ℕ) (Q : ChunkPayloadData → Type 0) (other : k ≡ id → �
         (fold (delivered first limit) c (given_to g k in_progress)).streams
     given_stay g c = record {
       live = all_delivered_apart id first limit (given_to g k in_progress) c given;
-      next = all_next 0 id IsPiece (IsHeldOn 0) (tells 0 id) first limit (given_to g k in_progress) c;
+      next = all_next 0 id Q (IsHeldOn Q 0 id) (tells Q 0 id) first limit (given_to g k in_progress) c;
       marks = refl;
       kept = λ h. all_filter Q (λ d. not (chosen d)) g.deferred h;
       mine = mine_stay (λ d. not (chosen d)) (λ d mine. stays d (of_other d mine)) g.deferred;
@@ -352,39 +359,43 @@ module _ (id k : ℕ) (Q : ChunkPayloadData → Type 0) (other : k ≡ id → �
         by false more = one_stays r
 
 -- Where generations of one stream that were read to their end are passed, the course of each other one is kept.
-pub drained_elsewhere : (initial id first limit k : ℕ) (r : ResetsView) (x : Channels) (in_progress : Option ℕ)
+pub drained_elsewhere : (P : ChunkPayloadData → Type 0) (initial id first limit k : ℕ) (r : ResetsView) (x : Channels)
+    (in_progress : Option ℕ)
     → (k ≡ id → ⊥)
-    → KeepsCourse initial id r x.streams
+    → KeepsCourse P initial id r x.streams
     (with_generations r (drained_out first limit k in_progress (r.generations, x)).0)
     (drained_out first limit k in_progress (r.generations, x)).1.streams
-drained_elsewhere initial id first limit k r x in_progress other =
-    stays_keeps initial id r
-    (times_stay id k (IsKeptNear initial) other first limit in_progress (count_at r.generations.retiring k)
+drained_elsewhere P initial id first limit k r x in_progress other =
+    stays_keeps P initial id r
+    (times_stay id k (IsKeptNear P initial) other first limit in_progress (count_at r.generations.retiring k)
     (r.generations, x))
 
 -- So it is where one stream is read.
-pub reads_elsewhere : (initial id first limit k : ℕ) (r : ResetsView) (x : Channels) → (k ≡ id → ⊥)
-    → KeepsCourse initial id r x.streams
+pub reads_elsewhere : (P : ChunkPayloadData → Type 0) (initial id first limit k : ℕ) (r : ResetsView) (x : Channels)
+    → (k ≡ id → ⊥)
+    → KeepsCourse P initial id r x.streams
     (read_out first limit k r (channels (read_in x.streams k).0 x.events x.to_accept)).0
     (read_out first limit k r (channels (read_in x.streams k).0 x.events x.to_accept)).1.streams
-reads_elsewhere initial id first limit k r x other =
-    stays_keeps initial id r
-    (stays_on id (IsKeptNear initial) (read_stays id k (IsKeptNear initial) other r.generations x.streams)
-    (times_stay id k (IsKeptNear initial) other first limit (boundary_of r.peer k)
+reads_elsewhere P initial id first limit k r x other =
+    stays_keeps P initial id r
+    (stays_on id (IsKeptNear P initial) (read_stays id k (IsKeptNear P initial) other r.generations x.streams)
+    (times_stay id k (IsKeptNear P initial) other first limit (boundary_of r.peer k)
     (count_at r.generations.retiring k)
     (r.generations, channels (read_in x.streams k).0 x.events x.to_accept)))
 
 -- A message that is read on the stream itself is read in its course, and what ended and was read is passed.
-pub reads_on : (initial id first limit : ℕ) (r : ResetsView) (x : Channels) (message : ReceivedMessage) (t : StreamView)
-    (c : Course) → Invariant c → Stands initial id r.generations x.streams r.peer.in_progress c
+pub reads_on : (P : ChunkPayloadData → Type 0) (initial id first limit : ℕ) (r : ResetsView) (x : Channels)
+    (message : ReceivedMessage) (t : StreamView)
+    (c : Course) → Invariant c → Stands P initial id r.generations x.streams r.peer.in_progress c
     → stream_at x.streams id ≡ Some t → is_read_half_open t.halves ≡ true → (read_in x.streams id).1 ≡ Some message
-    → (l : ReadsIt initial id t.stats.generation message
+    → (l : ReadsIt P initial id t.stats.generation message
     (read_out first limit id r (channels (read_in x.streams id).0 x.events x.to_accept)).0.generations
     (read_out first limit id r (channels (read_in x.streams id).0 x.events x.to_accept)).1.streams r.peer.in_progress c)
     × IsReadOn l.after
-reads_on initial id first limit r x message t c inv h is can given =
-    let one = messages_are_read initial id message t r.generations x.streams r.peer.in_progress c inv h is can given in
-    let all = streams_are_read_out initial id first limit r.generations
+reads_on P initial id first limit r x message t c inv h is can given =
+    let one = messages_are_read P initial id message t r.generations x.streams r.peer.in_progress c inv h is can given
+    in
+    let all = streams_are_read_out P initial id first limit r.generations
     (channels (read_in x.streams id).0 x.events x.to_accept) r.peer.in_progress one.after
     (leads_keep c one.after one.leads inv) one.stands in (
       record {
@@ -399,12 +410,13 @@ reads_on initial id first limit r x message t c inv h is can given =
     )
 
 -- A read on it that gives nothing keeps its course.
-pub reads_nothing : (initial id first limit : ℕ) (r : ResetsView) (x : Channels) → (read_in x.streams id).1 ≡ None
-    → KeepsCourse initial id r x.streams
+pub reads_nothing : (P : ChunkPayloadData → Type 0) (initial id first limit : ℕ) (r : ResetsView) (x : Channels)
+    → (read_in x.streams id).1 ≡ None
+    → KeepsCourse P initial id r x.streams
     (read_out first limit id r (channels (read_in x.streams id).0 x.events x.to_accept)).0
     (read_out first limit id r (channels (read_in x.streams id).0 x.events x.to_accept)).1.streams
-reads_nothing initial id first limit r x none c inv h read_on =
-    streams_are_read_out initial id first limit r.generations
+reads_nothing P initial id first limit r x none c inv h read_on =
+    streams_are_read_out P initial id first limit r.generations
     (channels (read_in x.streams id).0 x.events x.to_accept) r.peer.in_progress c inv
-    (stays_stand initial id r.peer.in_progress c
-    (nothing_stays id (IsKeptNear initial) r.generations x.streams none) h)
+    (stays_stand P initial id r.peer.in_progress c
+    (nothing_stays id (IsKeptNear P initial) r.generations x.streams none) h)

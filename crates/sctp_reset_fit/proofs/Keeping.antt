@@ -4,20 +4,23 @@ use Rattle.std.proofs.Common.{if◌then◌else◌, eqb, nat_le, nat_lt, List, []
 use Rattle.std.proofs.Common.{is_some, arith}
 use Rattle.std.specs.List.{AllByRecursion}
 use Rattle.std.proofs.lemmas.Bool.{false≢true}
+use Rattle.sctp_wire_types.specs.declared.chunk.ChunkPayloadData.{ChunkPayloadData}
 use Rattle.sctp_model.proofs.Lists.{all_join, all_weaker}
 use Rattle.sctp_streams.specs.Streams.{StreamMap}
 use Rattle.sctp_reset_requests.specs.Laws.{IsCompletedUpTo}
 use Rattle.sctp_reset_requests.specs.Request.{PeerRequestView}
 use Rattle.sctp_resets.specs.Resets.{ResetsView}
 use Rattle.sctp_courses.specs.Course.{Course, Live, Request, is_marked, is_readable, times}
-use Rattle.sctp_courses.specs.Events.{Event, are_held, discarded, finished, given_next, happens, is_due, is_hidden, is_idle}
-use Rattle.sctp_courses.specs.Events.{is_new, kept, last_boundary, left, opened, passed_first, performed_next, read_from}
+use Rattle.sctp_courses.specs.Events.{Event, are_held, discarded, finished, given_next, happens, is_due, is_hidden}
+use Rattle.sctp_courses.specs.Events.{is_idle}
+use Rattle.sctp_courses.specs.Events.{is_new, kept, last_boundary, left, opened, passed_first, performed_next}
+use Rattle.sctp_courses.specs.Events.{read_from}
 use Rattle.sctp_courses.specs.Events.{released, retired, run, taken_in}
 use Rattle.sctp_courses.specs.Invariants.{Invariant}
 use Rattle.sctp_courses.proofs.Proved.{each_event_keeps_the_invariant}
 use Rattle.sctp_reset_fit.specs.Held.{IsHeldOn}
 use Rattle.sctp_reset_fit.specs.Keeping.{GoesOn, GoesOnBeside, IsAsFar, KeepsCourse, StandsBeside, is_at_receiver}
-use Rattle.sctp_reset_fit.specs.Laws.{IsPiece, LeadsTo, Stands, is_quiet}
+use Rattle.sctp_reset_fit.specs.Laws.{LeadsTo, Stands, is_quiet}
 use Rattle.sctp_reset_fit.specs.Stands.{AreKept, IsOnce, MarksAs, NamesOnce, TellsHeld, WaitsAs, offsets_of}
 use Rattle.sctp_generations.specs.Retiring.{boundaries_at}
 use Rattle.sctp_reset_fit.proofs.Leading.{leads_nowhere, leads_on, run-join}
@@ -25,13 +28,13 @@ use Rattle.sctp_reset_fit.proofs.Passing.{IsAlike, leads_keep}
 use Rattle.sctp_reset_fit.proofs.Piles.{empty_on, more_on, passed_on, pushed_on, skipped_on}
 
 -- what a stream holds is told from offsets
-pub tells : (initial id : ℕ) → TellsHeld initial id IsPiece (IsHeldOn initial)
-tells initial id = record {
-  empty = empty_on initial;
-  more = more_on initial;
-  pushes = λ q os p limit so same accepted h. pushed_on initial q os p h;
-  skips = skipped_on initial;
-  passes = passed_on initial;
+pub tells : (P : ChunkPayloadData → Type 0) (initial id : ℕ) → TellsHeld initial id P (IsHeldOn P initial id)
+tells P initial id = record {
+  empty = empty_on P initial id;
+  more = more_on P initial id;
+  pushes = λ q os p limit so same accepted h. pushed_on P initial id q os p limit so same accepted h;
+  skips = skipped_on P initial id;
+  passes = passed_on P initial id;
 }
 
 -- Quiet events leave what the sender did, and how far the receiver came
@@ -257,13 +260,15 @@ goes_leaves c d goes = subst (HasLeft c) (sym goes.is) (left_run goes.events c g
 
 -- What keeps to a course
 
-pub keeps_same : (initial id : ℕ) (r : ResetsView) (m : StreamMap) → KeepsCourse initial id r m r m
-keeps_same initial id r m c inv h read =
+pub keeps_same : (P : ChunkPayloadData → Type 0) (initial id : ℕ) (r : ResetsView) (m : StreamMap)
+    → KeepsCourse P initial id r m r m
+keeps_same P initial id r m c inv h read =
     (record { after = c; leads = leads_nowhere c; stands = h; told = refl }, read)
 
-pub keeps_then : (initial id : ℕ) (r s t : ResetsView) (m n k : StreamMap) → KeepsCourse initial id r m s n
-    → KeepsCourse initial id s n t k → KeepsCourse initial id r m t k
-keeps_then initial id r s t m n k first later c inv h read =
+pub keeps_then : (P : ChunkPayloadData → Type 0) (initial id : ℕ) (r s t : ResetsView) (m n k : StreamMap)
+    → KeepsCourse P initial id r m s n
+    → KeepsCourse P initial id s n t k → KeepsCourse P initial id r m t k
+keeps_then P initial id r s t m n k first later c inv h read =
     let one = first c inv h read in
     let two = later one.0.after (leads_keep c one.0.after one.0.leads inv) one.0.stands one.1 in (
       record {
@@ -276,18 +281,18 @@ keeps_then initial id r s t m n k first later c inv h read =
     )
 
 -- where nothing that the course has is another, and the same request waits
-pub alike_keeps : (initial id : ℕ) (r s : ResetsView) (m n : StreamMap)
-    → IsAlike id (IsHeldOn initial) r.generations m s.generations n → s.peer.in_progress ≡ r.peer.in_progress
-    → KeepsCourse initial id r m s n
-alike_keeps initial id r s m n a same c inv h read =
+pub alike_keeps : (P : ChunkPayloadData → Type 0) (initial id : ℕ) (r s : ResetsView) (m n : StreamMap)
+    → IsAlike id (IsHeldOn P initial id) r.generations m s.generations n → s.peer.in_progress ≡ r.peer.in_progress
+    → KeepsCourse P initial id r m s n
+alike_keeps P initial id r s m n a same c inv h read =
     (record { after = c; leads = leads_nowhere c; stands = stands; told = refl }, read)
   where
-    stands : Stands initial id s.generations n s.peer.in_progress c
+    stands : Stands P initial id s.generations n s.peer.in_progress c
     stands = record {
       live = a.live c.live h.live;
       next = let e = a.next in let l = h.next in omega arith;
       marks = subst (λ rs. MarksAs initial (boundaries_at rs id) c.marks) (sym a.retiring) h.marks;
-      kept = subst (AreKept initial IsPiece) (sym a.deferred) h.kept;
+      kept = subst (AreKept initial P) (sym a.deferred) h.kept;
       deferred = λ o.
           subst (λ ds. times o (offsets_of initial id ds) ≤ times o c.deferred) (sym a.deferred) (h.deferred o);
       waits = subst (λ (q : Option PeerRequestView). WaitsAs initial id q c) (sym same) h.waits;
@@ -300,10 +305,11 @@ alike_keeps initial id r s m n a same c inv h read =
     }
 
 -- What keeps to a course goes on beside it, where the peer's requests are the same.
-pub beside_keeps : (initial id : ℕ) (r s : ResetsView) (m n : StreamMap) (c : Course) → KeepsCourse initial id r m s n
-    → s.peer ≡ r.peer → StandsBeside initial id r m c
-    → (g : GoesOnBeside initial id s n c) × (g.after.performed ≡ c.performed)
-beside_keeps initial id r s m n c keeps same beside =
+pub beside_keeps : (P : ChunkPayloadData → Type 0) (initial id : ℕ) (r s : ResetsView) (m n : StreamMap) (c : Course)
+    → KeepsCourse P initial id r m s n
+    → s.peer ≡ r.peer → StandsBeside P initial id r m c
+    → (g : GoesOnBeside P initial id s n c) × (g.after.performed ≡ c.performed)
+beside_keeps P initial id r s m n c keeps same beside =
     let one = keeps c beside.kept beside.stands beside.read_on in
     let d : Course = one.0.after in
     let far : IsAsFar c d = far_of c d one.0.leads in (

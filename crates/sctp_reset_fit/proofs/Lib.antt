@@ -4,6 +4,7 @@ pub mod Comes
 pub mod Coming
 pub mod Delivered
 pub mod Elsewhere
+pub mod HeldPieces
 pub mod Keeping
 pub mod Leading
 pub mod Named
@@ -12,6 +13,7 @@ pub mod Once
 pub mod Parted
 pub mod Passing
 pub mod Performing
+pub mod PiecesOfOne
 pub mod Piles
 pub mod Proved
 pub mod Reading
@@ -20,3 +22,4 @@ pub mod Settling
 pub mod Skipping
 pub mod Stopping
 pub mod Streams
+pub mod Weaker

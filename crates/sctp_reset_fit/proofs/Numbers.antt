@@ -1,7 +1,8 @@
 -- TSNs and boundaries stand to one another as their offsets do, as long as these are near the initial TSN.
 use Rattle.std.proofs.Common.{◌≡◌, refl, sym, ◌∙◌, ℕ, ◌+◌, ◌-◌, ◌^◌, ◌<◌, ◌≤◌, ◌||◌, Bool, true, false, eqb}
 use Rattle.std.proofs.Common.{nat_lt, nat_le, ltb, arith, ⊎_elim}
-use Rattle.std.proofs.lemmas.Bool.{and_from, and_right, or_left, or_right, eq-eqb, ne_eqb, lt-ltb, le-ltb, cases_eq, cases_lt}
+use Rattle.std.proofs.lemmas.Bool.{and_from, and_right, or_left, or_right, eq-eqb, ne_eqb, lt-ltb, le-ltb, cases_eq}
+use Rattle.std.proofs.lemmas.Bool.{cases_lt}
 use Rattle.sctp_serial.specs.Serial.{tsn, tsn_lt, tsn_lte, tsn_past}
 use Rattle.sctp_reset_fit.specs.Stands.{last_below}
 

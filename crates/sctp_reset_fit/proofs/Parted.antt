@@ -12,7 +12,8 @@ use Rattle.sctp_wire_types.specs.declared.chunk.ChunkPayloadData.{ChunkPayloadDa
 use Rattle.sctp_serial.specs.Serial.{tsn_lte}
 use Rattle.sctp_streams.proofs.LowMarks.{found_as}
 use Rattle.sctp_generations.specs.Deferred.{is_of, is_up_to}
-use Rattle.sctp_generations.specs.Retiring.{RetiringMap, boundaries_at, behind_first, first_passed, forgotten, is_single}
+use Rattle.sctp_generations.specs.Retiring.{RetiringMap, boundaries_at, behind_first, first_passed, forgotten}
+use Rattle.sctp_generations.specs.Retiring.{is_single}
 use Rattle.sctp_generations.specs.Retiring.{passed, readable_boundary, first_of, first_passed_at}
 use Rattle.std.proofs.lemmas.Bool.Decides.{nat_tests}
 use Rattle.sctp_generations.specs.Generations.{first_boundary}
@@ -55,7 +56,8 @@ offsets_chosen initial id choose test (d ∷ ds) h o =
     rest : List ℕ
     rest = offsets_of initial id ds
 
-    one : (same : Bool) → eqb at o ≡ same → (b : Bool) → test at ≡ b → (n : ℕ) → n ≡ (if test o then times o rest else 0)
+    one : (same : Bool) → eqb at o ≡ same → (b : Bool) → test at ≡ b → (n : ℕ)
+        → n ≡ (if test o then times o rest else 0)
         → (if eqb at o then 1 else 0) + n ≡ (if test o then times o (at ∷ rest) else 0) ⊎ (b ≡ false)
     one same e false f n g = inr refl
     one true e true f n g =
@@ -115,7 +117,8 @@ passed_marks initial id mark marks m once h = by (boundaries_at m id) refl marks
         never : mark ∷ rest ≡ [] → ⊥
         never f = cc
     by (Some bs) is [] e =
-        subst (λ (o : Option (List ℕ)). MarksAs initial o []) (sym (ap (λ n. boundaries_at n id) gone ∙ removed_none id m once)) refl
+        subst (λ (o : Option (List ℕ)). MarksAs initial o [])
+        (sym (ap (λ n. boundaries_at n id) gone ∙ removed_none id m once)) refl
       where
         single : is_single (boundaries_at m id) ≡ true
         single = ap is_single is ∙ ap (λ (xs : List ℕ). eqb (length xs) 1) e.0
@@ -125,9 +128,11 @@ passed_marks initial id mark marks m once h = by (boundaries_at m id) refl marks
     by (Some bs) is (next ∷ rest) e =
         subst (λ (o : Option (List ℕ)). MarksAs initial o (next ∷ rest))
         (sym (ap (λ n. boundaries_at n id) goes_on
-        ∙ lookup-set_value (eq_by_cmp_equiv nat_cmp_total) (is_at (nat_cmp id)) ((eq_by_cmp_equiv nat_cmp_total).congr id)
+        ∙ lookup-set_value (eq_by_cmp_equiv nat_cmp_total) (is_at (nat_cmp id))
+        ((eq_by_cmp_equiv nat_cmp_total).congr id)
         id (behind_first bs) m (ap is_some is)
-        ∙ cond-true _ (Some (behind_first bs)) (boundaries_at m id) (found_as id id ∙ eq-eqb id id refl))) (left, omega arith)
+        ∙ cond-true _ (Some (behind_first bs)) (boundaries_at m id) (found_as id id ∙ eq-eqb id id refl)))
+        (left, omega arith)
       where
         more : is_single (boundaries_at m id) ≡ false
         more = ap is_single is ∙ ap (λ (xs : List ℕ). eqb (length xs) 1) e.0 ∙ several
@@ -141,7 +146,8 @@ passed_marks initial id mark marks m once h = by (boundaries_at m id) refl marks
         left : behind_first bs ≡ map (last_below initial) (next ∷ rest)
         left = ap behind_first e.0 ∙ rest_of
           where
-            rest_of : behind_first (map (last_below initial) (mark ∷ next ∷ rest)) ≡ map (last_below initial) (next ∷ rest)
+            rest_of : behind_first (map (last_below initial) (mark ∷ next ∷ rest)) ≡ map (last_below initial)
+                (next ∷ rest)
             rest_of = rw (ne_eqb (length (map (last_below initial) (mark ∷ next ∷ rest))) 1 (λ f. omega arith)) refl
 
 pub passed_once : (id : ℕ) (m : RetiringMap) → IsOnce id m → IsOnce id (passed m id)

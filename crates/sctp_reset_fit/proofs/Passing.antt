@@ -32,7 +32,8 @@ use Rattle.sctp_courses.specs.Events.{Event, is_idle, is_of_next, passed_first, 
 use Rattle.sctp_courses.specs.Invariants.{Invariant, IsPerformed}
 use Rattle.sctp_courses.proofs.Proved.{each_event_keeps_the_invariant}
 use Rattle.sctp_reset_fit.specs.Laws.{LeadsTo}
-use Rattle.sctp_reset_fit.specs.Stands.{AreKept, IsLiveAs, IsNear, IsOnce, IsReadOn, LiveAs, MarksAs, StandsFor, TellsHeld}
+use Rattle.sctp_reset_fit.specs.Stands.{AreKept, IsLiveAs, IsNear, IsOnce, IsReadOn, LiveAs, MarksAs, StandsFor}
+use Rattle.sctp_reset_fit.specs.Stands.{TellsHeld}
 use Rattle.sctp_reset_fit.specs.Stands.{WaitsAs, last_below, offset_of, offsets_of}
 use Rattle.sctp_reset_fit.proofs.Comes.{AreGiven, all_come}
 use Rattle.sctp_reset_fit.proofs.Delivered.{all_once}
@@ -192,7 +193,8 @@ small_marks c h near =
 
 pub small_boundary : (c : Course) → Invariant c → c.assigned < 2 ^ 31 → boundary_at c.asked c.performed < 2 ^ 31
 small_boundary c h near =
-    ⊎_elim (λ (e : nat_lt c.performed (length c.asked) ≡ true). let b = h.asks.below c.performed (lt_true _ _ e) in omega arith)
+    ⊎_elim (λ (e : nat_lt c.performed (length c.asked) ≡ true). let b = h.asks.below c.performed
+    (lt_true _ _ e) in omega arith)
     (λ (e : nat_lt c.performed (length c.asked) ≡ false).
     subst (λ r. r.boundary < 2 ^ 31) (sym (get_or_past c.asked c.performed no_request (lt_false _ _ e))) (omega arith))
     (cases_Bool (nat_lt c.performed (length c.asked)))
@@ -282,7 +284,8 @@ module _ (initial id : ℕ) (P : ChunkPayloadData → Type 0) (IsHeld : Reassemb
       small : AllByRecursion (λ (b : ℕ). b < 2 ^ 31) marks
       small = (subst (AllByRecursion (λ (b : ℕ). b < 2 ^ 31)) is (small_marks c inv h.near)).1
 
-      as_chosen : AllByRecursion (λ (d : ChunkPayloadData). is_of id d ≡ true → chosen d ≡ test (offset_of initial d.tsn))
+      as_chosen : AllByRecursion
+          (λ (d : ChunkPayloadData). is_of id d ≡ true → chosen d ≡ test (offset_of initial d.tsn))
           g.deferred
       as_chosen =
           all_weaker (λ (p : ChunkPayloadData). P p × IsNear initial p.tsn)
@@ -291,7 +294,8 @@ module _ (initial id : ℕ) (P : ChunkPayloadData → Type 0) (IsHeld : Reassemb
           (small_boundary c inv h.near) d.tsn k.1)) h.kept
 
       few_of : (choose : ChunkPayloadData → Bool) (pass : ℕ → Bool)
-          → AllByRecursion (λ (d : ChunkPayloadData). is_of id d ≡ true → choose d ≡ pass (offset_of initial d.tsn)) g.deferred
+          → AllByRecursion (λ (d : ChunkPayloadData). is_of id d ≡ true → choose d ≡ pass (offset_of initial d.tsn))
+          g.deferred
           → (o : ℕ) → times o (offsets_of initial id (filter choose g.deferred)) ≤ times o (filter pass c.deferred)
       few_of choose pass all o =
           let a = offsets_chosen initial id choose pass g.deferred all o in
@@ -321,7 +325,8 @@ module _ (initial id : ℕ) (P : ChunkPayloadData → Type 0) (IsHeld : Reassemb
       later =
           few_of (λ d. not (chosen d)) (λ p. not (test p))
           (all_weaker (λ (d : ChunkPayloadData). is_of id d ≡ true → chosen d ≡ test (offset_of initial d.tsn))
-          (λ (d : ChunkPayloadData). is_of id d ≡ true → not (chosen d) ≡ not (test (offset_of initial d.tsn))) g.deferred
+          (λ (d : ChunkPayloadData). is_of id d ≡ true → not (chosen d) ≡ not (test (offset_of initial d.tsn)))
+          g.deferred
           (λ d k mine. ap not (k mine)) as_chosen)
 
       rest : GenerationsView
@@ -332,8 +337,10 @@ module _ (initial id : ℕ) (P : ChunkPayloadData → Type 0) (IsHeld : Reassemb
       half = write_half_alike id IsHeld (is_write_half_closed x.streams id) rest filled.streams id
 
       alike : IsAlike id IsHeld rest (with_write_half (is_write_half_closed x.streams id) filled.streams id)
-          (skips_applied_of (rest, with_write_half (is_write_half_closed x.streams id) filled.streams id, filled.events) id).0
-          (skips_applied_of (rest, with_write_half (is_write_half_closed x.streams id) filled.streams id, filled.events) id).1
+          (skips_applied_of (rest, with_write_half (is_write_half_closed x.streams id) filled.streams id, filled.events)
+          id).0
+          (skips_applied_of (rest, with_write_half (is_write_half_closed x.streams id) filled.streams id, filled.events)
+          id).1
       alike = skips_alike id IsHeld tells.skips _ id
 
       waits_still : (q : Option PeerRequestView) → WaitsAs initial id q c → WaitsAs initial id q given.after
@@ -417,7 +424,8 @@ module _ (initial id : ℕ) (P : ChunkPayloadData → Type 0) (IsHeld : Reassemb
           waits r =
               ⊎_elim
               (λ (w : eqb (waiting_of x.streams id) 0 ≡ true).
-              absurd (true≢false (sym (let f : (retires g id && eqb (waiting_of x.streams id) 0) ≡ true = rw (r, w) refl in f) ∙ e)))
+              absurd (true≢false
+              (sym (let f : (retires g id && eqb (waiting_of x.streams id) 0) ≡ true = rw (r, w) refl in f) ∙ e)))
               (λ (w : eqb (waiting_of x.streams id) 0 ≡ false). w) (cases_Bool (eqb (waiting_of x.streams id) 0))
       by true e (mark ∷ marks) is rest =
           rw e (

@@ -73,7 +73,8 @@ module _ (initial id : ℕ) (P : ChunkPayloadData → Type 0) (IsHeld : Reassemb
           on (Some bs) = set_once id (is_at (nat_cmp k)) (bs ++ b ∷ []) g.retiring h.once_marked
 
       by : (w : Retirement)
-          → StandsWhile initial id P IsHeld (retired_as w (record p { generations = retired_by w g k b }) k).0.generations
+          → StandsWhile initial id P IsHeld
+          (retired_as w (record p { generations = retired_by w g k b }) k).0.generations
           (retired_as w (record p { generations = retired_by w g k b }) k).0.streams c
       by retirements.Ended = record {
         live = subst (λ o. LiveAs IsHeld o c.live) (sym (ended_apart id k other p.streams)) h.live;
@@ -130,7 +131,8 @@ module _ (initial id : ℕ) (P : ChunkPayloadData → Type 0) (IsHeld : Reassemb
   retire_others b (k ∷ ks) p c none h =
       retire_others b ks (retired_next b p k) c (rest (eqb k id) none)
       (subst (λ (x : Performing). StandsWhile initial id P IsHeld x.generations x.streams c)
-      (sym (listed (retired_one b p.0 k) p.1 k)) (retires_other b p.0 k c (apart_too k id (apart (eqb k id) refl none)) h))
+      (sym (listed (retired_one b p.0 k) p.1 k))
+      (retires_other b p.0 k c (apart_too k id (apart (eqb k id) refl none)) h))
     where
       rest : (m : Bool) → (if m then 1 else 0) + times id ks ≡ 0 → times id ks ≡ 0
       rest true e = absurd (omega arith)
@@ -163,8 +165,10 @@ module _ (initial id : ℕ) (P : ChunkPayloadData → Type 0) (IsHeld : Reassemb
           → RetiresOn initial id P IsHeld (each_of b next ks).generations (each_of b next ks).streams c
       by true e o rest =
           let same : k ≡ id = eqb-true k id e in
-          let one : RetiresOn initial id P IsHeld (retired_one b p.0 k).0.generations (retired_one b p.0 k).0.streams c =
-          subst (λ i. RetiresOn initial id P IsHeld (retired_one b p.0 i).0.generations (retired_one b p.0 i).0.streams c)
+          let one : RetiresOn initial id P IsHeld (retired_one b p.0 k).0.generations
+          (retired_one b p.0 k).0.streams c =
+          subst (λ i. RetiresOn initial id P IsHeld (retired_one b p.0 i).0.generations
+          (retired_one b p.0 i).0.streams c)
           (sym same) (retires_here initial id P IsHeld p.0 c inv now near small below h) in
           record {
             after = one.after;
@@ -286,19 +290,24 @@ module _ (initial id : ℕ) (P : ChunkPayloadData → Type 0) (IsHeld : Reassemb
 
           reads : (given.after.marks ≡ [] → ⊥) → is_readable given.after.live ≡ true
           reads some =
-              given.reads (ap is_readable live ∙ h.open_where_marked (λ none. some (given.else_as.marks ∙ marks ∙ none)))
+              given.reads
+              (ap is_readable live ∙ h.open_where_marked (λ none. some (given.else_as.marks ∙ marks ∙ none)))
 
       by : (none : Bool) → eqb (length d.marks) 0 ≡ none
           → (l : LeadsToOne initial id P IsHeld (after_given_to_all g) filled.streams None d) × IsReadOn l.after
       by true e =
           on true e (record d { hand = d.deferred; deferred = []; releases = false })
-          (leads_by d _ Event.Releases refl (let f : (d.releases && not d.retires) ≡ true = rw (h.releases, still) refl in
-          ap (λ z. cond z (events.released d) d) f ∙ ap (λ z. cond z (record d { hand = d.deferred; deferred = []; releases = false })
+          (leads_by d _ Event.Releases refl
+          (let f : (d.releases && not d.retires) ≡ true = rw (h.releases, still) refl in
+          ap (λ z. cond z (events.released d) d) f ∙ ap
+          (λ z. cond z (record d { hand = d.deferred; deferred = []; releases = false })
           (record d { releases = false })) e)) still refl quiet refl refl refl refl refl h.deferred (λ o. omega arith)
       by false e =
           on false e (record d { releases = false })
-          (leads_by d _ Event.Releases refl (let f : (d.releases && not d.retires) ≡ true = rw (h.releases, still) refl in
-          ap (λ z. cond z (events.released d) d) f ∙ ap (λ z. cond z (record d { hand = d.deferred; deferred = []; releases = false })
+          (leads_by d _ Event.Releases refl
+          (let f : (d.releases && not d.retires) ≡ true = rw (h.releases, still) refl in
+          ap (λ z. cond z (events.released d) d) f ∙ ap
+          (λ z. cond z (record d { hand = d.deferred; deferred = []; releases = false })
           (record d { releases = false })) e)) still refl quiet refl refl refl refl refl (λ o. omega arith) h.deferred
 
   -- The request that waits is performed.
@@ -440,7 +449,8 @@ module _ (initial id : ℕ) (P : ChunkPayloadData → Type 0) (IsHeld : Reassemb
                 refl,
               )
           by false n live l =
-              let none : times id ks ≡ 0 = counted ∙ ap (λ u. if u && is_some (stream_at x.streams id) then 1 else 0) n in
+              let none : times id ks ≡ 0 = counted ∙ ap
+              (λ u. if u && is_some (stream_at x.streams id) then 1 else 0) n in
               let never : c1.retires ≡ false = sym h.waits.2 ∙ n in (
                 c1,
                 leads_nowhere c1,

@@ -2,22 +2,30 @@
 use Rattle.std.proofs.Common.{◌≡◌, refl, sym, ap, ◌∙◌, subst, ℕ, zero, suc, ◌+◌, ◌-◌, ◌≤◌, Bool, true, false, not}
 use Rattle.std.proofs.Common.{cond, List, [], ◌∷◌, ◌++◌, filter, map, length, insert, remove}
 use Rattle.std.proofs.Common.{Option, Some, None, arith, eqb, ⊎_elim, slice_get, slice_set, if◌then◌else◌, unwrap_or}
-use Rattle.std.proofs.lemmas.Bool.{cases_Bool, true≢false, ne_eqb}
+use Rattle.std.specs.List.{AllByRecursion}
+use Rattle.std.proofs.lemmas.Bool.{and_parts, cases_Bool, true≢false, ne_eqb}
 use Rattle.std.proofs.lemmas.List.{map_push}
-use Rattle.sctp_serial.specs.Serial.{ssn_lt, tsn_lte}
+use Rattle.sctp_serial.specs.Serial.{ssn_lt, ssn_lte, tsn_lte}
 use Rattle.sctp_wire_types.specs.declared.chunk.ChunkPayloadData.{ChunkPayloadData}
 use Rattle.sctp_receive_queues.specs.Messages.{ReceivedMessage, message_of}
 use Rattle.sctp_receive_queues.specs.Pieces.{index_of, is_complete}
-use Rattle.sctp_receive_queues.specs.Reassembly.{Group, Reassembly, above, after_read, empty_reassembly, finished, group_of}
+use Rattle.sctp_receive_queues.specs.Reassembly.{Group, Reassembly, above, after_read, empty_reassembly, finished}
+use Rattle.sctp_receive_queues.specs.Reassembly.{group_of}
 use Rattle.sctp_receive_queues.specs.Reassembly.{grown, grown_at, index_for_ssn, index_for_tsn, index_of_ssn, is_due}
 use Rattle.sctp_receive_queues.specs.Reassembly.{joins_after, joins_before, part, pushed, put_at, put_between}
-use Rattle.sctp_receive_queues.specs.Reassembly.{read_from, read_ordered, run_at, run_before, skipped, stays}
-use Rattle.sctp_receive_queues.specs.Reassembly.{taken, trimmed, unordered_put, unordered_skipped, with_ordered, with_put}
+use Rattle.sctp_receive_queues.specs.Reassembly.{read_from, read_ordered, refusal, refusal_of_unordered, run_at}
+use Rattle.sctp_receive_queues.specs.Reassembly.{run_before, skipped, stays}
+use Rattle.sctp_receive_queues.specs.Reassembly.{taken, trimmed, unordered_put, unordered_skipped, with_ordered}
+use Rattle.sctp_receive_queues.specs.Reassembly.{with_put}
 use Rattle.sctp_receive_queues.specs.Reassembly.{with_unordered}
 use Rattle.sctp_courses.specs.Course.{times}
 use Rattle.sctp_courses.proofs.Times.{times-join}
-use Rattle.sctp_reset_fit.specs.Held.{IsHeldOn, IsMadeOn, offsets_in, offsets_in_all, pieces_of_groups}
+use Rattle.sctp_model.proofs.Lists.{all_push}
+use Rattle.sctp_reset_fit.specs.Held.{AreAllOfOne, IsHeldOn, IsMadeOn, offsets_in, offsets_in_all, pieces_of_groups}
+use Rattle.sctp_reset_fit.specs.Pieces.{ArePiecesOf, HoldsOnly, IsMadeOf, Order}
 use Rattle.sctp_reset_fit.specs.Stands.{IsTakenOut, offset_of}
+use Rattle.sctp_reset_fit.proofs.HeldPieces.{empty_holds, pushed_holds, run_at_each, skipped_holds}
+use Rattle.sctp_reset_fit.proofs.HeldPieces.{unordered_skipped_holds, with_unordered_each}
 
 -- one of a number, or none
 abbrev one_if : Bool → ℕ
@@ -164,12 +172,14 @@ module _ (initial o : ℕ) where
       (before at (omega arith))
     where
       before : (k : ℕ) → suc at - 1 ≡ k
-          → InAll (slice_set runs (suc at - 1) (unwrap_or (slice_get runs (suc at - 1)) [] ++ p ∷ [])) ≤ Is p + InAll runs
+          → InAll (slice_set runs (suc at - 1) (unwrap_or (slice_get runs (suc at - 1)) [] ++ p ∷ [])) ≤ Is p + InAll
+          runs
       before k f =
           let a = all_set runs (suc at - 1) (nth runs (suc at - 1) ++ p ∷ []) in
           let b = in-join (nth runs (suc at - 1)) (p ∷ []) in omega arith
   run_put p true true runs (suc at) e =
-      subst (λ r. InAll (remove (slice_set runs (suc at - 1) (r ++ p ∷ nth runs (suc at))) (suc at)) ≤ Is p + InAll runs)
+      subst (λ r. InAll (remove (slice_set runs (suc at - 1) (r ++ p ∷ nth runs (suc at))) (suc at)) ≤ Is p + InAll
+      runs)
       (sym (in_front runs at)) (both (suc at - 1) (omega arith))
     where
       both : (k : ℕ) → suc k ≡ suc at
@@ -210,30 +220,37 @@ module _ (initial o : ℕ) where
           let b = all_first r rs in
           let c : In (above t r) ≤ In r = in_kept (λ (p : ChunkPayloadData). not (tsn_lte p.tsn t)) r in omega arith
 
-module _ (initial : ℕ) where
-  pub empty_on : IsHeldOn initial empty_reassembly []
-  empty_on = record { made = []; complete = refl; few = λ o. omega arith }
+module _ (P : ChunkPayloadData → Type 0) (initial id : ℕ) where
+  pub empty_on : IsHeldOn P initial id empty_reassembly []
+  empty_on =
+      record { only = empty_holds P id; made = []; whole = tt; complete = refl; few = λ o. omega arith }
 
-  pub more_on : (q : Reassembly) (os more : List ℕ) → ((o : ℕ) → times o os ≤ times o more) → IsHeldOn initial q os
-      → IsHeldOn initial q more
+  pub more_on : (q : Reassembly) (os more : List ℕ) → ((o : ℕ) → times o os ≤ times o more)
+      → IsHeldOn P initial id q os → IsHeldOn P initial id q more
   more_on q os more few h = record {
+    only = h.only;
     made = h.made;
+    whole = h.whole;
     complete = h.complete;
     few = λ o. (let a = few o in let b = h.few o in omega arith);
   }
 
-  pub skipped_on : (q : Reassembly) (os : List ℕ) (ssn : ℕ) → IsHeldOn initial q os
-      → IsHeldOn initial (skipped q ssn) os
+  pub skipped_on : (q : Reassembly) (os : List ℕ) (ssn : ℕ) → IsHeldOn P initial id q os
+      → IsHeldOn P initial id (skipped q ssn) os
   skipped_on q os ssn h = record {
+    only = skipped_holds P id q ssn h.only;
     made = h.made;
+    whole = h.whole;
     complete = h.complete;
     few = λ o. (let a = h.few o in let b = dropped_groups initial o ssn q.ordered in omega arith);
   }
 
-  pub passed_on : (q : Reassembly) (os : List ℕ) (t : ℕ) → IsHeldOn initial q os
-      → IsHeldOn initial (unordered_skipped q t) os
+  pub passed_on : (q : Reassembly) (os : List ℕ) (t : ℕ) → IsHeldOn P initial id q os
+      → IsHeldOn P initial id (unordered_skipped q t) os
   passed_on q os t h = record {
+    only = unordered_skipped_holds P id q t h.only;
     made = h.made;
+    whole = h.whole;
     complete = h.complete;
     few = λ o. (let a = h.few o in let b = trimmed_runs initial o t q.unordered in omega arith);
   }
@@ -241,79 +258,104 @@ module _ (initial : ℕ) where
   -- a run that is a whole message is that, among the complete ones
   finished_on : (runs : List (List ChunkPayloadData)) (at : ℕ) (messages : List ReceivedMessage)
       (made : List (List ChunkPayloadData)) → messages ≡ map message_of made
+      → AllByRecursion (AreAllOfOne P id) made → ArePiecesOf P id Order.OutOfOrder (run_at runs at)
       → (more : List (List ChunkPayloadData)) × ((finished runs at messages).1 ≡ map message_of more)
+      × AllByRecursion (AreAllOfOne P id) more
       × ((o : ℕ) → Together initial o (finished runs at messages).0 more ≤ Together initial o runs made)
-  finished_on runs at messages made e = by (is_complete (run_at runs at)) refl
+  finished_on runs at messages made e whole run = by (is_complete (run_at runs at)) refl
     where
       by : (b : Bool) → is_complete (run_at runs at) ≡ b
           → (more : List (List ChunkPayloadData)) × ((finished runs at messages).1 ≡ map message_of more)
+          × AllByRecursion (AreAllOfOne P id) more
           × ((o : ℕ) → Together initial o (finished runs at messages).0 more ≤ Together initial o runs made)
       by true c = rw c (
         made ++ run_at runs at ∷ [],
         ap (λ ms. ms ++ message_of (run_at runs at) ∷ []) e ∙ sym (map_push message_of made (run_at runs at)),
+        all_push (AreAllOfOne P id) made (run_at runs at) whole (run, c),
         λ o.
             (let a = all_removed initial o runs at in
             let b = all-join initial o made (run_at runs at ∷ []) in
             let d = all_first initial o (run_at runs at) [] in omega arith),
       )
-      by false c = rw c (made, e, λ o. omega arith)
+      by false c = rw c (made, e, whole, λ o. omega arith)
 
-  pub pushed_on : (q : Reassembly) (os : List ℕ) (p : ChunkPayloadData) → IsHeldOn initial q os
-      → IsHeldOn initial (pushed q p).0 (offset_of initial p.tsn ∷ os)
-  pushed_on q os p h = by p.unordered (ssn_lt p.stream_sequence_number q.next_ssn)
-    where
-      put : List (List ChunkPayloadData) × ℕ
-      put = with_unordered q.unordered (index_for_tsn p.tsn q.unordered) p
+  module _ (q : Reassembly) (os : List ℕ) (p : ChunkPayloadData) (limit : ℕ) (so : P p)
+      (stream : p.stream_identifier ≡ id) (accepted : refusal q p limit ≡ None) (h : IsHeldOn P initial id q os) where
+    put : List (List ChunkPayloadData) × ℕ
+    put = with_unordered q.unordered (index_for_tsn p.tsn q.unordered) p
 
-      done : (more : List (List ChunkPayloadData)) × ((finished put.0 put.1 q.complete).1 ≡ map message_of more)
-          × ((o : ℕ) → Together initial o (finished put.0 put.1 q.complete).0 more ≤ Together initial o put.0 h.made)
-      done = finished_on put.0 put.1 q.complete h.made h.complete
+    -- by whether it is unordered, and whether it is of a message before the next one
+    pushed_if : (unordered late : Bool) → p.unordered ≡ unordered → ssn_lt p.stream_sequence_number q.next_ssn ≡ late
+        → IsHeldOn P initial id (pushed q p).0 (offset_of initial p.tsn ∷ os)
+    unfolding put
+    pushed_if true late e f =
+        let fits : refusal_of_unordered q.unordered p limit ≡ None = rw e at accepted in
+        let run : ArePiecesOf P id Order.OutOfOrder (run_at put.0 put.1) =
+        run_at_each P id put.0 put.1 (with_unordered_each P id q.unordered p limit h.only.unordered so stream e fits) in
+        let done = finished_on put.0 put.1 q.complete h.made h.complete h.whole run in
+        let only : HoldsOnly P id (pushed q p).0 = pushed_holds P id q p limit h.only so stream accepted in
+        let to : (pushed q p).0 ≡ with_put q (unordered_put q.unordered q.complete p) = rw e refl in
+        subst (λ (x : Reassembly). IsHeldOn P initial id x (offset_of initial p.tsn ∷ os)) (sym to) (record {
+          only = subst (HoldsOnly P id) to only;
+          made = done.0;
+          whole = done.2;
+          complete = done.1;
+          few = λ o.
+              (let a = h.few o in
+              let b = done.3 o in
+              let index : ℕ = index_for_tsn p.tsn q.unordered in
+              let c = run_put initial o p (joins_before (run_before q.unordered index) p)
+              (joins_after (run_at q.unordered index) p) q.unordered index refl in omega arith);
+        })
+    pushed_if false true e f =
+        let to : (pushed q p).0 ≡ q = rw (e, f) refl in
+        subst (λ (x : Reassembly). IsHeldOn P initial id x (offset_of initial p.tsn ∷ os)) (sym to) (record {
+          only = h.only;
+          made = h.made;
+          whole = h.whole;
+          complete = h.complete;
+          few = λ o. (let a = h.few o in omega arith);
+        })
+    pushed_if false false e f =
+        let only : HoldsOnly P id (pushed q p).0 = pushed_holds P id q p limit h.only so stream accepted in
+        let to : (pushed q p).0 ≡ record q { ordered = with_ordered q.ordered p } = rw (e, f) refl in
+        subst (λ (x : Reassembly). IsHeldOn P initial id x (offset_of initial p.tsn ∷ os)) (sym to) (record {
+          only = subst (HoldsOnly P id) to only;
+          made = h.made;
+          whole = h.whole;
+          complete = h.complete;
+          few = λ o.
+              (let a = h.few o in
+              let b = put_in initial o p (index_of_ssn p.stream_sequence_number q.ordered) q.ordered in omega arith);
+        })
 
-      by : (unordered late : Bool)
-          → IsHeldOn initial
-          (cond {A = Reassembly × Bool} unordered (with_put q (unordered_put q.unordered q.complete p), true)
-          (cond {A = Reassembly × Bool} late (q, false) (record q { ordered = with_ordered q.ordered p }, true))).0
-          (offset_of initial p.tsn ∷ os)
-      by true late = record {
-        made = done.0;
-        complete = done.1;
-        few = λ o.
-            (let a = h.few o in
-            let b = done.2 o in
-            let index : ℕ = index_for_tsn p.tsn q.unordered in
-            let c = run_put initial o p (joins_before (run_before q.unordered index) p)
-            (joins_after (run_at q.unordered index) p) q.unordered index refl in omega arith);
-      }
-      by false true = record {
-        made = h.made;
-        complete = h.complete;
-        few = λ o. (let a = h.few o in omega arith);
-      }
-      by false false = record {
-        made = h.made;
-        complete = h.complete;
-        few = λ o.
-            (let a = h.few o in
-            let b = put_in initial o p (index_of_ssn p.stream_sequence_number q.ordered) q.ordered in omega arith);
-      }
+    pub pushed_on : IsHeldOn P initial id (pushed q p).0 (offset_of initial p.tsn ∷ os)
+    pushed_on = pushed_if p.unordered (ssn_lt p.stream_sequence_number q.next_ssn) refl refl
 
-  pub taken_on : (q : Reassembly) (os : List ℕ) (m : ReceivedMessage) → IsHeldOn initial q os → (taken q).1 ≡ Some m
-      → IsTakenOut (IsMadeOn initial) (IsHeldOn initial) (taken q).0 os m
-  taken_on q os m h e = by q.complete h.made h.complete refl e
+  pub taken_on : (q : Reassembly) (os : List ℕ) (m : ReceivedMessage) → IsHeldOn P initial id q os
+      → (taken q).1 ≡ Some m → IsTakenOut (IsMadeOn P initial id) (IsHeldOn P initial id) (taken q).0 os m
+  taken_on q os m h e = by q.complete h.made h.complete refl h.whole e
     where
       out_of : (pieces : List ChunkPayloadData) (left : Reassembly) (more : List (List ChunkPayloadData))
-          → message_of pieces ≡ m → left.complete ≡ map message_of more
+          → (order : Order) → ArePiecesOf P id order pieces → is_complete pieces ≡ true
+          → message_of pieces ≡ m → left.complete ≡ map message_of more → AllByRecursion (AreAllOfOne P id) more
+          → HoldsOnly P id left
           → ((o : ℕ) → times o (offsets_in initial pieces)
           + (times o (offsets_in_all initial (pieces_of_groups left.ordered))
           + times o (offsets_in_all initial left.unordered) + times o (offsets_in_all initial more)) ≤ times o os)
-          → IsTakenOut (IsMadeOn initial) (IsHeldOn initial) left os m
-      out_of pieces left more same complete few = record {
+          → IsTakenOut (IsMadeOn P initial id) (IsHeldOn P initial id) left os m
+      out_of pieces left more order are all same complete whole only few = record {
         out = offsets_in initial pieces;
         left = offsets_in_all initial (pieces_of_groups left.ordered)
             ++ (offsets_in_all initial left.unordered ++ offsets_in_all initial more);
-        makes = record { pieces = pieces; same = sym same; offsets = refl };
+        makes = record {
+          made = record { order = order; pieces = pieces; are = are; complete = all; same = sym same };
+          offsets = refl;
+        };
         held = record {
+          only = only;
           made = more;
+          whole = whole;
           complete = complete;
           few = λ o. (let a = all_of o in omega arith);
         };
@@ -331,15 +373,21 @@ module _ (initial : ℕ) where
               let b = times-join o (offsets_in_all initial left.unordered) (offsets_in_all initial more) in omega arith
 
       from_groups : (gs : List Group) → q.ordered ≡ gs → (read_ordered q gs).1 ≡ Some m
-          → IsTakenOut (IsMadeOn initial) (IsHeldOn initial) (read_ordered q gs).0 os m
+          → IsTakenOut (IsMadeOn P initial id) (IsHeldOn P initial id) (read_ordered q gs).0 os m
       from_groups [] is f = absurd (none_some f)
         where
           none_some : None ≡ Some m → ⊥
           none_some f = cc
       from_groups (g ∷ gs) is f = due (is_due q.next_ssn (Some g)) refl
         where
+          each : AllByRecursion (λ (x : Group). ArePiecesOf P id (Order.InOrder x.ssn) x.pieces) (g ∷ gs)
+          each =
+              subst (λ (xs : List Group). AllByRecursion
+              (λ (x : Group). ArePiecesOf P id (Order.InOrder x.ssn) x.pieces) xs)
+              is h.only.ordered
+
           due : (b : Bool) → is_due q.next_ssn (Some g) ≡ b
-              → IsTakenOut (IsMadeOn initial) (IsHeldOn initial) (read_ordered q (g ∷ gs)).0 os m
+              → IsTakenOut (IsMadeOn P initial id) (IsHeldOn P initial id) (read_ordered q (g ∷ gs)).0 os m
           due false d = absurd (none_some (sym (ap (λ (x : Reassembly × Option ReceivedMessage). x.1) (off d)) ∙ f))
             where
               off : is_due q.next_ssn (Some g) ≡ false → read_ordered q (g ∷ gs) ≡ (q, None)
@@ -350,10 +398,13 @@ module _ (initial : ℕ) where
           due true d =
               let answered : Some (message_of g.pieces) ≡ Some m =
               sym (ap (λ (x : Reassembly × Option ReceivedMessage). x.1) (on d)) ∙ f in
-              subst (λ (x : Reassembly × Option ReceivedMessage). IsTakenOut (IsMadeOn initial) (IsHeldOn initial) x.0 os m)
+              subst (λ (x : Reassembly × Option ReceivedMessage).
+              IsTakenOut (IsMadeOn P initial id) (IsHeldOn P initial id) x.0 os m)
               (sym (on d))
               (out_of g.pieces (record q { next_ssn = after_read g.ssn q.next_ssn; ordered = gs }) h.made
-              (let s : message_of g.pieces ≡ m = cc in s) h.complete
+              (Order.InOrder g.ssn) each.0 (and_parts (ssn_lte g.ssn q.next_ssn) (is_complete g.pieces) d).1
+              (let s : message_of g.pieces ≡ m = cc in s) h.complete h.whole
+              (record { ordered = each.1; unordered = h.only.unordered; complete = h.only.complete })
               (λ o.
               (let a = h.few o in
               let b : times o (offsets_in_all initial (pieces_of_groups q.ordered))
@@ -367,16 +418,29 @@ module _ (initial : ℕ) where
               on d = rw d refl
 
       by : (messages : List ReceivedMessage) (made : List (List ChunkPayloadData)) → messages ≡ map message_of made
-          → made ≡ h.made → (read_from q messages).1 ≡ Some m
-          → IsTakenOut (IsMadeOn initial) (IsHeldOn initial) (read_from q messages).0 os m
-      by [] made e same f = from_groups q.ordered refl f
-      by (x ∷ xs) [] e same f = absurd (cc)
-      by (x ∷ xs) (pieces ∷ more) e same f =
+          → made ≡ h.made → AllByRecursion (AreAllOfOne P id) made → (read_from q messages).1 ≡ Some m
+          → IsTakenOut (IsMadeOn P initial id) (IsHeldOn P initial id) (read_from q messages).0 os m
+      by [] made e same whole f = from_groups q.ordered refl f
+      by (x ∷ xs) [] e same whole f = absurd (cc)
+      by (x ∷ xs) (pieces ∷ more) e same whole f =
           let first : x ≡ message_of pieces = cc in
           let rest : xs ≡ map message_of more = cc in
-          out_of pieces (record q { complete = xs }) more (sym first ∙ (let s : x ≡ m = cc in s)) rest
+          let each : AllByRecursion (λ (y : ReceivedMessage). IsMadeOf P id y) xs =
+          subst (λ (ys : List ReceivedMessage). AllByRecursion (λ (y : ReceivedMessage). IsMadeOf P id y) ys) (sym rest)
+          (made_of_all more whole.1) in
+          out_of pieces (record q { complete = xs }) more Order.OutOfOrder whole.0.0 whole.0.1
+          (sym first ∙ (let s : x ≡ m = cc in s)) rest whole.1
+          (record { ordered = h.only.ordered; unordered = h.only.unordered; complete = each })
           (λ o.
           (let a = h.few o in
           let b : times o (offsets_in_all initial h.made) ≡ times o (offsets_in_all initial (pieces ∷ more)) =
           ap (λ xs. times o (offsets_in_all initial xs)) (sym same) in
           let c = all_first initial o pieces more in omega arith))
+        where
+          made_of_all : (runs : List (List ChunkPayloadData)) → AllByRecursion (AreAllOfOne P id) runs
+              → AllByRecursion (λ (y : ReceivedMessage). IsMadeOf P id y) (map message_of runs)
+          made_of_all [] all = tt
+          made_of_all (r ∷ rs) all = (
+            record { order = Order.OutOfOrder; pieces = r; are = all.0.0; complete = all.0.1; same = refl },
+            made_of_all rs all.1,
+          )

@@ -49,11 +49,13 @@ none_more out held few = ap not (none out)
 module _ (initial id : ℕ) (P : ChunkPayloadData → Type 0) (IsHeld : Reassembly → List ℕ → Type 0)
     (more : (q : Reassembly) (os more : List ℕ) → ((o : ℕ) → times o os ≤ times o more) → IsHeld q os → IsHeld q more)
     (Makes : ReceivedMessage → List ℕ → Type 0) (tells : TellsRead Makes IsHeld) where
-  pub reads_one : (g : GenerationsView) (m : StreamMap) (in_progress : Option PeerRequestView) (c : Course) (t : StreamView)
+  pub reads_one : (g : GenerationsView) (m : StreamMap) (in_progress : Option PeerRequestView) (c : Course)
+      (t : StreamView)
       (message : ReceivedMessage) → Invariant c → StandsFor initial id P IsHeld g m in_progress c
       → stream_at m id ≡ Some t → is_read_half_open t.halves ≡ true → (read_in m id).1 ≡ Some message
       → ReadsOne initial id P IsHeld Makes g (read_in m id).0 in_progress t.stats.generation message c
-  reads_one g m in_progress c t message inv h is can given = by c.live refl (subst (λ o. LiveAs IsHeld o c.live) is h.live)
+  reads_one g m in_progress c t message inv h is can given =
+      by c.live refl (subst (λ o. LiveAs IsHeld o c.live) is h.live)
     where
       answered : (x : Reassembly × Option ReceivedMessage) → (read_with t x).1 ≡ x.1
       answered (r, None) = refl
@@ -66,7 +68,8 @@ module _ (initial id : ℕ) (P : ChunkPayloadData → Type 0) (IsHeld : Reassemb
       left_of (r, Some n) = (refl, refl, refl)
 
       out_of : (taken t.reassembly).1 ≡ Some message
-      out_of = sym (answered (taken t.reassembly)) ∙ (ap (λ (o : Option StreamView). (read_at o m id).1) (sym is) ∙ given)
+      out_of =
+          sym (answered (taken t.reassembly)) ∙ (ap (λ (o : Option StreamView). (read_at o m id).1) (sym is) ∙ given)
 
       streams_of : (read_in m id).0 ≡ with_stream m id (stream_read t).0
       streams_of = ap (λ (o : Option StreamView). (read_at o m id).0) is

@@ -21,7 +21,8 @@ use Rattle.sctp_streams.specs.Streams.{StreamMap, stream_at, without_stream}
 use Rattle.sctp_streams.proofs.LowMarks.{found_as}
 use Rattle.sctp_generations.specs.declared.retirement.Retirement.TheVariants as retirements
 use Rattle.sctp_generations.specs.Deferred.{has_between, is_between, is_of}
-use Rattle.sctp_generations.specs.Generations.{GenerationsView, retired, retired_by, retirement_of, retires, with_boundary}
+use Rattle.sctp_generations.specs.Generations.{GenerationsView, retired, retired_by, retirement_of, retires}
+use Rattle.sctp_generations.specs.Generations.{with_boundary}
 use Rattle.sctp_generations.specs.Retiring.{RetiringMap, boundaries_at, last_of, newest_boundary, retired_at}
 use Rattle.sctp_generations.specs.Retiring.{retired_with}
 use Rattle.sctp_resets.specs.Performing.{Performing, is_drained, is_drained_at, retired_as, retired_one}
@@ -123,7 +124,9 @@ module _ (initial id : ℕ) where
       by true e first rest m =
           let here : (not (nat_lt at mark) && nat_lt at boundary) ≡ false =
           subst₂ (λ x y. (not x && y) ≡ false) past front
-          (subst (λ b. (b && not (tsn_lte d.tsn (last_below initial mark)) && tsn_lte d.tsn (last_below initial boundary)) ≡ false) e first)
+          (subst (λ b.
+          (b && not (tsn_lte d.tsn (last_below initial mark)) && tsn_lte d.tsn (last_below initial boundary)) ≡ false) e
+          first)
           in
           ⊎_elim
           (λ (s : eqb at o ≡ true).
@@ -188,7 +191,8 @@ module _ (initial id : ℕ) (P : ChunkPayloadData → Type 0) (IsHeld : Reassemb
   unfolding retired_one
   retires_here p c inv now near small below h =
       by (retires p.generations id) refl
-      (has_between id (newest_boundary p.generations.retiring id) b p.generations.deferred) refl (is_drained p.streams id)
+      (has_between id (newest_boundary p.generations.retiring id) b p.generations.deferred) refl
+      (is_drained p.streams id)
       refl
     where
       b : ℕ
@@ -277,7 +281,8 @@ module _ (initial id : ℕ) (P : ChunkPayloadData → Type 0) (IsHeld : Reassemb
           after = record d { retires = false }
 
           -- nothing that the course has deferred lies between the newest boundary and this one
-          none_of : (newest : ℕ) (xs : List ℕ) → ((o : ℕ) → mem o os ≡ true → course.is_between newest (last_boundary c) o ≡ false)
+          none_of : (newest : ℕ) (xs : List ℕ) →
+              ((o : ℕ) → mem o os ≡ true → course.is_between newest (last_boundary c) o ≡ false)
               → course.has_between newest (last_boundary c) (filter (λ o. mem o os) xs) ≡ false
           none_of newest [] h = refl
           none_of newest (o ∷ xs) h =
@@ -285,7 +290,8 @@ module _ (initial id : ℕ) (P : ChunkPayloadData → Type 0) (IsHeld : Reassemb
               (λ (m : mem o os ≡ true). rw m (rw (h o m, none_of newest xs h) refl))
               (λ (m : mem o os ≡ false). rw m (none_of newest xs h)) (cases_Bool (mem o os))
 
-          ends_with : (bs : Option (List ℕ)) → boundaries_at g.retiring id ≡ bs → (newest : ℕ) → MarksAs initial bs c.marks
+          ends_with : (bs : Option (List ℕ)) → boundaries_at g.retiring id ≡ bs → (newest : ℕ)
+              → MarksAs initial bs c.marks
               → slice_get (map (last_below initial) c.marks) (length (map (last_below initial) c.marks) - 1)
               ≡ Some (last_below initial newest)
               → newest_boundary g.retiring id ≡ Some (last_below initial newest)
@@ -376,9 +382,11 @@ module _ (initial id : ℕ) (P : ChunkPayloadData → Type 0) (IsHeld : Reassemb
           (record p { generations = retired g id b (is_drained p.streams id) }) id).0.generations
           (retired_as (retirement_of g id b (is_drained p.streams id))
           (record p { generations = retired g id b (is_drained p.streams id) }) id).0.streams c
-      by true r true t drained e = rw (r, t) (more (h.open_where_marked (marked (boundaries_at g.retiring id) refl h.marks)))
+      by true r true t drained e =
+          rw (r, t) (more (h.open_where_marked (marked (boundaries_at g.retiring id) refl h.marks)))
         where
-          marked : (o : Option (List ℕ)) → boundaries_at g.retiring id ≡ o → MarksAs initial o c.marks → c.marks ≡ [] → ⊥
+          marked : (o : Option (List ℕ)) → boundaries_at g.retiring id ≡ o → MarksAs initial o c.marks → c.marks ≡ []
+              → ⊥
           marked None is f none = true≢false (sym r ∙ ap is_some is)
           marked (Some bs) is f none = (let l = f.1 in let n : length c.marks ≡ 0 = ap length none in omega arith)
       by true r false t drained e = rw (r, t) (left r t)

@@ -3,6 +3,7 @@
 use Rattle.std.proofs.Common.{◌≡◌, refl, sym, ap, ◌∙◌, subst, ℕ, suc, ◌<◌, ◌^◌, ◌&&◌, Bool, true, false, cond}
 use Rattle.std.proofs.Common.{List, Option, Some, None, nat_le, arith}
 use Rattle.sctp_serial.specs.Serial.{tsn, tsn_lte}
+use Rattle.sctp_wire_types.specs.declared.chunk.ChunkPayloadData.{ChunkPayloadData}
 use Rattle.sctp_streams.specs.declared.event.Event.{Event as Told}
 use Rattle.sctp_streams.specs.Streams.{StreamMap}
 use Rattle.sctp_generations.specs.Generations.{GenerationsView}
@@ -28,9 +29,10 @@ use Rattle.sctp_reset_fit.proofs.Skipping.{skips_done_keeps, skips_done_peer}
 -- One thing behind another
 
 -- where nothing happens
-pub beside_still : (initial id : ℕ) (r : ResetsView) (m : StreamMap) (c : Course) → StandsBeside initial id r m c
-    → GoesOnBeside initial id r m c
-beside_still initial id r m c h = record {
+pub beside_still : (P : ChunkPayloadData → Type 0) (initial id : ℕ) (r : ResetsView) (m : StreamMap) (c : Course)
+    → StandsBeside P initial id r m c
+    → GoesOnBeside P initial id r m c
+beside_still P initial id r m c h = record {
   after = c;
   goes = goes_nowhere c;
   stands = h;
@@ -40,9 +42,10 @@ beside_still initial id r m c h = record {
 }
 
 -- where the course went on before
-pub beside_on : (initial id : ℕ) (r : ResetsView) (m : StreamMap) (b c : Course) → GoesOn b c → c.told ≡ b.told
-    → c.point ≡ b.point → c.taken ≡ b.taken → GoesOnBeside initial id r m c → GoesOnBeside initial id r m b
-beside_on initial id r m b c goes told point taken g = record {
+pub beside_on : (P : ChunkPayloadData → Type 0) (initial id : ℕ) (r : ResetsView) (m : StreamMap) (b c : Course)
+    → GoesOn b c → c.told ≡ b.told
+    → c.point ≡ b.point → c.taken ≡ b.taken → GoesOnBeside P initial id r m c → GoesOnBeside P initial id r m b
+beside_on P initial id r m b c goes told point taken g = record {
   after = g.after;
   goes = goes_on b c g.after goes g.goes;
   stands = g.stands;
@@ -52,14 +55,15 @@ beside_on initial id r m b c goes told point taken g = record {
 }
 
 -- where skips that were kept are applied
-pub skips_behind : (initial id : ℕ) (r : ResetsView) (m : StreamMap) (told : List Told) (c : Course)
-    → GoesOnBeside initial id r m c
-    → GoesOnBeside initial id (skips_done r m told).0 (skips_done r m told).1 c
-skips_behind initial id r m told c g =
+pub skips_behind : (P : ChunkPayloadData → Type 0) (initial id : ℕ) (r : ResetsView) (m : StreamMap) (told : List Told)
+    (c : Course)
+    → GoesOnBeside P initial id r m c
+    → GoesOnBeside P initial id (skips_done r m told).0 (skips_done r m told).1 c
+skips_behind P initial id r m told c g =
     let k =
-    beside_keeps initial id r (skips_done r m told).0 m (skips_done r m told).1 g.after
-    (skips_done_keeps initial id r m told) (skips_done_peer r m told) g.stands in
-    beside_on initial id (skips_done r m told).0 (skips_done r m told).1 c g.after g.goes g.told g.point g.taken k.0
+    beside_keeps P initial id r (skips_done r m told).0 m (skips_done r m told).1 g.after
+    (skips_done_keeps P initial id r m told) (skips_done_peer r m told) g.stands in
+    beside_on P initial id (skips_done r m told).0 (skips_done r m told).1 c g.after g.goes g.told g.point g.taken k.0
 
 -- The request that waits is performed
 
@@ -80,10 +84,11 @@ last_then : (initial n : ℕ) → tsn initial n ≡ number_before (tsn initial (
 last_then initial n = omega arith
 
 -- one that is due is performed in the course
-performs_is : (initial id : ℕ) (q : PeerRequestView) (g : GenerationsView) (m : StreamMap) (c : Course) → Invariant c
-    → Stands initial id g m (Some q) c → c.point < 2 ^ 31 → is_due q (last_below initial c.point) ≡ true
+performs_is : (P : ChunkPayloadData → Type 0) (initial id : ℕ) (q : PeerRequestView) (g : GenerationsView)
+    (m : StreamMap) (c : Course) → Invariant c
+    → Stands P initial id g m (Some q) c → c.point < 2 ^ 31 → is_due q (last_below initial c.point) ≡ true
     → happens c Event.Performs ≡ performed_next c
-performs_is initial id q g m c inv h small due =
+performs_is P initial id q g m c inv h small due =
     let known = inv.asks.below c.performed h.waits.3 in
     let near = h.near in
     let compared : tsn_lte q.last_tsn (last_below initial c.point) ≡ nat_le (boundary_at c.asked c.performed) c.point =
@@ -94,17 +99,18 @@ performs_is initial id q g m c inv h small due =
     ap (λ z. cond z (performed_next c) c) allowed
 
 -- The course goes on: the request is its next one.
-pub performs_beside : (initial id first limit : ℕ) (q : PeerRequestView) (r : ResetsView) (x : Channels) (c : Course)
-    → Invariant c → Stands initial id r.generations x.streams (Some q) c → IsReadOn c
+pub performs_beside : (P : ChunkPayloadData → Type 0) (initial id first limit : ℕ) (q : PeerRequestView)
+    (r : ResetsView) (x : Channels) (c : Course)
+    → Invariant c → Stands P initial id r.generations x.streams (Some q) c → IsReadOn c
     → q.number ≡ tsn initial c.performed → c.point < 2 ^ 31 → is_due q (last_below initial c.point) ≡ true
-    → GoesOnBeside initial id (performed q first limit (record r { peer = completed q }) x).0.0
+    → GoesOnBeside P initial id (performed q first limit (record r { peer = completed q }) x).0.0
     (performed q first limit (record r { peer = completed q }) x).0.1.streams c
-performs_beside initial id first limit q r x c inv h read number small due =
+performs_beside P initial id first limit q r x c inv h read number small due =
     let s : ResetsView = record r { peer = completed q } in
     let y : Resetting = (performed q first limit s x).0 in
     let c1 : Course = happens c Event.Performs in
-    let is : c1 ≡ performed_next c = performs_is initial id q r.generations x.streams c inv h small due in
-    let l = requests_are_performed initial id first limit q s x c inv h read small due in
+    let is : c1 ≡ performed_next c = performs_is P initial id q r.generations x.streams c inv h small due in
+    let l = requests_are_performed P initial id first limit q s x c inv h read small due in
     let d : Course = l.0.after in
     let far : IsAsFar c1 d = far_of c1 d l.0.leads in
     let goes : GoesOn c d = goes_on c c1 d (goes_by c Event.Performs refl) (goes_of c1 d l.0.leads) in
@@ -119,7 +125,7 @@ performs_beside initial id first limit q r x c inv h read number small due =
       goes = goes;
       stands = record {
         kept = goes_kept c d goes inv;
-        stands = subst (λ (p : PeerView). Stands initial id y.0.generations y.1.streams p.in_progress d) (sym same)
+        stands = subst (λ (p : PeerView). Stands P initial id y.0.generations y.1.streams p.in_progress d) (sym same)
             l.0.stands;
         read_on = l.1;
         numbered = subst (λ (p : PeerView). IsCompletedUpTo initial d.performed p) (sym same) numbered;
@@ -131,23 +137,24 @@ performs_beside initial id first limit q r x c inv h read number small due =
 
 -- Where the last TSN in order is that below the course's cumulative reach, a request in progress that is due is
 -- performed as the next one of the course.
-pub settles : (initial id cumulative first limit : ℕ) (r : ResetsView) (x : Channels) (c : Course)
-    → StandsBeside initial id r x.streams c → c.point < 2 ^ 31 → cumulative ≡ last_below initial c.point
-    → GoesOnBeside initial id (settled cumulative first limit r x).0.0
+pub settles : (P : ChunkPayloadData → Type 0) (initial id cumulative first limit : ℕ) (r : ResetsView) (x : Channels)
+    (c : Course)
+    → StandsBeside P initial id r x.streams c → c.point < 2 ^ 31 → cumulative ≡ last_below initial c.point
+    → GoesOnBeside P initial id (settled cumulative first limit r x).0.0
     (settled cumulative first limit r x).0.1.streams c
-settles initial id cumulative first limit r x c h small here = by r.peer.in_progress refl
+settles P initial id cumulative first limit r x c h small here = by r.peer.in_progress refl
   where
-    still : GoesOnBeside initial id r x.streams c
-    still = beside_still initial id r x.streams c h
+    still : GoesOnBeside P initial id r x.streams c
+    still = beside_still P initial id r x.streams c h
 
     by : (o : Option PeerRequestView) → r.peer.in_progress ≡ o
-        → GoesOnBeside initial id (settled_where (advanced_with o r.peer cumulative) first limit r x).0.0
+        → GoesOnBeside P initial id (settled_where (advanced_with o r.peer cumulative) first limit r x).0.0
         (settled_where (advanced_with o r.peer cumulative) first limit r x).0.1.streams c
     by None e = still
     by (Some q) e = on (is_due q cumulative) refl
       where
         on : (due : Bool) → is_due q cumulative ≡ due
-            → GoesOnBeside initial id
+            → GoesOnBeside P initial id
             (settled_where
             (cond {A = PeerView × Option PeerRequestView} due (completed q, Some q) (r.peer, None)) first limit r x).0.0
             (settled_where
@@ -155,20 +162,22 @@ settles initial id cumulative first limit r x c h small here = by r.peer.in_prog
             x).0.1.streams c
         on false d = still
         on true d =
-            performs_beside initial id first limit q r x c h.kept
-            (subst (λ (o : Option PeerRequestView). Stands initial id r.generations x.streams o c) e h.stands) h.read_on
+            performs_beside P initial id first limit q r x c h.kept
+            (subst (λ (o : Option PeerRequestView). Stands P initial id r.generations x.streams o c) e h.stands)
+            h.read_on
             (subst (λ (o : Option PeerRequestView). HasNumber o (tsn initial c.performed)) e h.numbered.current) small
             (subst (λ t. is_due q t ≡ true) here d)
 
 -- And then the skips that were kept are applied.
-pub settles_and_skips : (initial id cumulative first limit : ℕ) (r : ResetsView) (x : Channels) (c : Course)
-    → StandsBeside initial id r x.streams c → c.point < 2 ^ 31 → cumulative ≡ last_below initial c.point
-    → GoesOnBeside initial id
+pub settles_and_skips : (P : ChunkPayloadData → Type 0) (initial id cumulative first limit : ℕ) (r : ResetsView)
+    (x : Channels) (c : Course)
+    → StandsBeside P initial id r x.streams c → c.point < 2 ^ 31 → cumulative ≡ last_below initial c.point
+    → GoesOnBeside P initial id
     (skips_done (settled cumulative first limit r x).0.0 (settled cumulative first limit r x).0.1.streams
     (settled cumulative first limit r x).0.1.events).0
     (skips_done (settled cumulative first limit r x).0.0 (settled cumulative first limit r x).0.1.streams
     (settled cumulative first limit r x).0.1.events).1 c
-settles_and_skips initial id cumulative first limit r x c h small here =
+settles_and_skips P initial id cumulative first limit r x c h small here =
     let y : Resetting = (settled cumulative first limit r x).0 in
-    skips_behind initial id y.0 y.1.streams y.1.events c
-    (settles initial id cumulative first limit r x c h small here)
+    skips_behind P initial id y.0 y.1.streams y.1.events c
+    (settles P initial id cumulative first limit r x c h small here)

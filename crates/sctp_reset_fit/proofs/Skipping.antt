@@ -20,7 +20,6 @@ use Rattle.sctp_resets.specs.Skips.{Skipping, skips_applied, skips_applied_of}
 use Rattle.sctp_courses.specs.Course.{Live, times}
 use Rattle.sctp_reset_fit.specs.Held.{IsHeldOn}
 use Rattle.sctp_reset_fit.specs.Keeping.{KeepsCourse}
-use Rattle.sctp_reset_fit.specs.Laws.{IsPiece}
 use Rattle.sctp_reset_fit.specs.Stands.{IsNear, LiveAs, offsets_of}
 use Rattle.sctp_reset_fit.proofs.Keeping.{alike_keeps}
 use Rattle.sctp_reset_fit.proofs.Leading.{leads_nowhere}
@@ -61,25 +60,25 @@ same_keys : (tsn : ℕ) (es : List (ℕ × StreamView)) → keys_of (passed_each
 same_keys tsn [] = refl
 same_keys tsn (e ∷ es) = ap (λ (ks : List ℕ). e.0 ∷ ks) (same_keys tsn es)
 
-module _ (initial id : ℕ) where
-  passed_as : (tsn : ℕ) (o : Option StreamView) (l : Option Live) → LiveAs (IsHeldOn initial) o l
-      → LiveAs (IsHeldOn initial) (option_map (stream_passed tsn) o) l
+module _ (P : ChunkPayloadData → Type 0) (initial id : ℕ) where
+  passed_as : (tsn : ℕ) (o : Option StreamView) (l : Option Live) → LiveAs (IsHeldOn P initial id) o l
+      → LiveAs (IsHeldOn P initial id) (option_map (stream_passed tsn) o) l
   passed_as tsn None l h = h
   passed_as tsn (Some t) None h = h
   passed_as tsn (Some t) (Some l) h = record {
     generation = h.generation;
     is_open = h.is_open;
-    held = passed_on initial t.reassembly l.held tsn h.held;
+    held = passed_on P initial id t.reassembly l.held tsn h.held;
   }
 
   passed_alike : (tsn : ℕ) (g : GenerationsView) (m : StreamMap)
-      → IsAlike id (IsHeldOn initial) g m g (passed_in m tsn)
+      → IsAlike id (IsHeldOn P initial id) g m g (passed_in m tsn)
   passed_alike tsn g m = record {
     retiring = refl;
     deferred = refl;
     next = refl;
     live = λ l h.
-        subst (λ (o : Option StreamView). LiveAs (IsHeldOn initial) o l) (sym (found_passed tsn id m.by_id))
+        subst (λ (o : Option StreamView). LiveAs (IsHeldOn P initial id) o l) (sym (found_passed tsn id m.by_id))
         (passed_as tsn (stream_at m id) l h);
     once = λ h. subst (λ (ks : List ℕ). times id ks ≤ 1) (sym (same_keys tsn m.by_id)) h;
   }
@@ -87,27 +86,27 @@ module _ (initial id : ℕ) where
   -- Skips that were kept are applied on the live streams
 
   each_applied_alike : (ks : List ℕ) (x : Skipping)
-      → IsAlike id (IsHeldOn initial) x.0 x.1 (fold skips_applied_of x ks).0 (fold skips_applied_of x ks).1
-  each_applied_alike [] x = alike_itself id (IsHeldOn initial) x.0 x.1
+      → IsAlike id (IsHeldOn P initial id) x.0 x.1 (fold skips_applied_of x ks).0 (fold skips_applied_of x ks).1
+  each_applied_alike [] x = alike_itself id (IsHeldOn P initial id) x.0 x.1
   each_applied_alike (k ∷ ks) x =
-      alike_on id (IsHeldOn initial) (skips_alike id (IsHeldOn initial) (skipped_on initial) x k)
+      alike_on id (IsHeldOn P initial id) (skips_alike id (IsHeldOn P initial id) (skipped_on P initial id) x k)
       (each_applied_alike ks (skips_applied_of x k))
 
   all_applied_alike : (x : Skipping)
-      → IsAlike id (IsHeldOn initial) x.0 x.1 (skips_applied x).0 (skips_applied x).1
+      → IsAlike id (IsHeldOn P initial id) x.0 x.1 (skips_applied x).0 (skips_applied x).1
   all_applied_alike (g, m, told) = by (has_skips g)
     where
       by : (b : Bool)
-          → IsAlike id (IsHeldOn initial) g m
+          → IsAlike id (IsHeldOn P initial id) g m
           (cond {A = Skipping} b (fold skips_applied_of (g, m, told) (skip_ids g.skips)) (g, m, told)).0
           (cond {A = Skipping} b (fold skips_applied_of (g, m, told) (skip_ids g.skips)) (g, m, told)).1
       by true = each_applied_alike (skip_ids g.skips) (g, m, told)
-      by false = alike_itself id (IsHeldOn initial) g m
+      by false = alike_itself id (IsHeldOn P initial id) g m
 
-module _ (initial id : ℕ) (r : ResetsView) (m : StreamMap) where
+module _ (P : ChunkPayloadData → Type 0) (initial id : ℕ) (r : ResetsView) (m : StreamMap) where
   -- some of what waits for later generations is dropped, and the skips that are kept are others
   fewer_keeps : (choose : ChunkPayloadData → Bool) (skips : List KeptSkip)
-      → KeepsCourse initial id r m
+      → KeepsCourse P initial id r m
       (with_generations r
       (record r.generations { deferred = filter choose r.generations.deferred; skips = skips })) m
   fewer_keeps choose skips c inv h read = (
@@ -118,7 +117,7 @@ module _ (initial id : ℕ) (r : ResetsView) (m : StreamMap) where
         live = h.live;
         next = h.next;
         marks = h.marks;
-        kept = all_filter (λ (p : ChunkPayloadData). IsPiece p × IsNear initial p.tsn) choose r.generations.deferred
+        kept = all_filter (λ (p : ChunkPayloadData). P p × IsNear initial p.tsn) choose r.generations.deferred
             h.kept;
         deferred = λ o.
             (let few = fewer_offsets initial id choose o r.generations.deferred in
@@ -137,37 +136,38 @@ module _ (initial id : ℕ) (r : ResetsView) (m : StreamMap) where
   )
 
   -- a FORWARD TSN passed over ordered messages of the newest generation of some stream
-  pub skip_keeps : (k ssn tsn : ℕ) → KeepsCourse initial id r m (with_skip r k ssn tsn) m
+  pub skip_keeps : (k ssn tsn : ℕ) → KeepsCourse P initial id r m (with_skip r k ssn tsn) m
   skip_keeps k ssn tsn = fewer_keeps _ _
 
   -- it passed over ordered messages of a live stream
-  pub stream_skip_keeps : (k ssn : ℕ) → KeepsCourse initial id r m r (changed_stream (stream_skipped ssn) m k)
+  pub stream_skip_keeps : (k ssn : ℕ) → KeepsCourse P initial id r m r (changed_stream (stream_skipped ssn) m k)
   stream_skip_keeps k ssn =
-      alike_keeps initial id r r m (changed_stream (stream_skipped ssn) m k)
-      (changed_alike id (IsHeldOn initial) (stream_skipped ssn)
-      (skipped_as id (IsHeldOn initial) (skipped_on initial) ssn) r.generations m k) refl
+      alike_keeps P initial id r r m (changed_stream (stream_skipped ssn) m k)
+      (changed_alike id (IsHeldOn P initial id) (stream_skipped ssn)
+      (skipped_as id (IsHeldOn P initial id) (skipped_on P initial id) ssn) r.generations m k) refl
 
   -- it passed over the unordered messages up to its TSN, of those that wait for later generations
-  pub unordered_keeps : (tsn : ℕ) → KeepsCourse initial id r m (without_unordered r tsn) m
+  pub unordered_keeps : (tsn : ℕ) → KeepsCourse P initial id r m (without_unordered r tsn) m
   unordered_keeps tsn = fewer_keeps _ _
 
   -- and of those that the live streams hold
-  pub passed_keeps : (tsn : ℕ) → KeepsCourse initial id r m r (passed_in m tsn)
-  passed_keeps tsn = alike_keeps initial id r r m (passed_in m tsn) (passed_alike initial id tsn r.generations m) refl
+  pub passed_keeps : (tsn : ℕ) → KeepsCourse P initial id r m r (passed_in m tsn)
+  passed_keeps tsn =
+      alike_keeps P initial id r r m (passed_in m tsn) (passed_alike P initial id tsn r.generations m) refl
 
   -- the skips of the generation that is read are applied, those of all streams
   pub skips_done_keeps : (told : List Event)
-      → KeepsCourse initial id r m (skips_done r m told).0 (skips_done r m told).1
+      → KeepsCourse P initial id r m (skips_done r m told).0 (skips_done r m told).1
   skips_done_keeps told =
-      alike_keeps initial id r (skips_done r m told).0 m (skips_done r m told).1
-      (all_applied_alike initial id (r.generations, m, told)) refl
+      alike_keeps P initial id r (skips_done r m told).0 m (skips_done r m told).1
+      (all_applied_alike P initial id (r.generations, m, told)) refl
 
   -- and those of one
   pub skips_done_of_keeps : (k : ℕ) (told : List Event)
-      → KeepsCourse initial id r m (skips_done_of k r m told).0 (skips_done_of k r m told).1
+      → KeepsCourse P initial id r m (skips_done_of k r m told).0 (skips_done_of k r m told).1
   skips_done_of_keeps k told =
-      alike_keeps initial id r (skips_done_of k r m told).0 m (skips_done_of k r m told).1
-      (skips_alike id (IsHeldOn initial) (skipped_on initial) (r.generations, m, told) k) refl
+      alike_keeps P initial id r (skips_done_of k r m told).0 m (skips_done_of k r m told).1
+      (skips_alike id (IsHeldOn P initial id) (skipped_on P initial id) (r.generations, m, told) k) refl
 
 -- Of resets only what is kept of generations may be another.
 pub record GenerationsAlone (r s : ResetsView) : Type 0 where

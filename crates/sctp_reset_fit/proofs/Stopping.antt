@@ -25,7 +25,7 @@ use Rattle.sctp_courses.specs.Course.{Course, Live, is_readable, times}
 use Rattle.sctp_courses.specs.Events.{Event, closed_to_reads, is_idle}
 use Rattle.sctp_reset_fit.specs.Held.{IsHeldOn}
 use Rattle.sctp_reset_fit.specs.Keeping.{KeepsCourse}
-use Rattle.sctp_reset_fit.specs.Laws.{IsPiece, LeadsTo, Stands}
+use Rattle.sctp_reset_fit.specs.Laws.{LeadsTo, Stands}
 use Rattle.sctp_reset_fit.specs.Stands.{IsNear, IsOnce, LiveAs, MarksAs, offsets_of}
 use Rattle.sctp_reset_fit.proofs.Leading.{leads_by, leads_nowhere, leads_on}
 use Rattle.sctp_reset_fit.proofs.Once.{removed_none, removed_once, set_once}
@@ -36,13 +36,13 @@ use Rattle.sctp_reset_fit.proofs.Streams.{read_half_closed_keeps}
 -- Where only this side's requests and what is owed are others
 
 -- The same is kept of generations, and the same request of the peer waits.
-pub own_alone_keeps : (initial id : ℕ) (r : ResetsView) (m : StreamMap) (s : ResetsView)
-    → s.generations ≡ r.generations → s.peer.in_progress ≡ r.peer.in_progress → KeepsCourse initial id r m s m
-own_alone_keeps initial id r m s same waits c inv h read = (
+pub own_alone_keeps : (P : ChunkPayloadData → Type 0) (initial id : ℕ) (r : ResetsView) (m : StreamMap) (s : ResetsView)
+    → s.generations ≡ r.generations → s.peer.in_progress ≡ r.peer.in_progress → KeepsCourse P initial id r m s m
+own_alone_keeps P initial id r m s same waits c inv h read = (
   record {
     after = c;
     leads = leads_nowhere c;
-    stands = subst₂ (λ (g : GenerationsView) (q : Option PeerRequestView). Stands initial id g m q c) (sym same)
+    stands = subst₂ (λ (g : GenerationsView) (q : Option PeerRequestView). Stands P initial id g m q c) (sym same)
         (sym waits) h;
     told = refl;
   },
@@ -50,9 +50,9 @@ own_alone_keeps initial id r m s same waits c inv h read = (
 )
 
 -- A stream is to be reset.
-pub waiting_for_keeps : (initial id : ℕ) (r : ResetsView) (m : StreamMap) (k : ℕ)
-    → KeepsCourse initial id r m (waiting_for r k) m
-waiting_for_keeps initial id r m k = own_alone_keeps initial id r m (waiting_for r k) refl refl
+pub waiting_for_keeps : (P : ChunkPayloadData → Type 0) (initial id : ℕ) (r : ResetsView) (m : StreamMap) (k : ℕ)
+    → KeepsCourse P initial id r m (waiting_for r k) m
+waiting_for_keeps P initial id r m k = own_alone_keeps P initial id r m (waiting_for r k) refl refl
 
 -- One stream of a map changes
 
@@ -119,25 +119,26 @@ shut halves.Writable = refl
 shut halves.ReadWritable = refl
 
 -- a live stream is that of the course, closed to reads
-dropped_live : (initial id : ℕ) (m : StreamMap) (live : Option Live) → LiveAs (IsHeldOn initial) (stream_at m id) live
-    → LiveAs (IsHeldOn initial) (stream_at (with_unread_dropped m id) id) (closed_to_reads live)
-dropped_live initial id m live h = by (stream_at m id) refl live h
+dropped_live : (P : ChunkPayloadData → Type 0) (initial id : ℕ) (m : StreamMap) (live : Option Live)
+    → LiveAs (IsHeldOn P initial id) (stream_at m id) live
+    → LiveAs (IsHeldOn P initial id) (stream_at (with_unread_dropped m id) id) (closed_to_reads live)
+dropped_live P initial id m live h = by (stream_at m id) refl live h
   where
-    by : (o : Option StreamView) → stream_at m id ≡ o → (live : Option Live) → LiveAs (IsHeldOn initial) o live
-        → LiveAs (IsHeldOn initial) (stream_at (with_unread_dropped m id) id) (closed_to_reads live)
+    by : (o : Option StreamView) → stream_at m id ≡ o → (live : Option Live) → LiveAs (IsHeldOn P initial id) o live
+        → LiveAs (IsHeldOn P initial id) (stream_at (with_unread_dropped m id) id) (closed_to_reads live)
     by None is None a =
-        subst (λ (o : Option StreamView). LiveAs (IsHeldOn initial) o None)
+        subst (λ (o : Option StreamView). LiveAs (IsHeldOn P initial id) o None)
         (sym (changed_gone without_unread (with_read_half_closed m id) id
         (changed_gone (λ s. with_halves s (without_read_half s.halves)) m id is))) tt
     by None is (Some l) a = absurd a
     by (Some t) is None a = absurd a
     by (Some t) is (Some l) a =
-        subst (λ (o : Option StreamView). LiveAs (IsHeldOn initial) o (closed_to_reads (Some l)))
+        subst (λ (o : Option StreamView). LiveAs (IsHeldOn P initial id) o (closed_to_reads (Some l)))
         (sym (changed_here without_unread (with_read_half_closed m id) id (with_halves t (without_read_half t.halves))
         (changed_here (λ s. with_halves s (without_read_half s.halves)) m id t is))) (record {
           generation = a.generation;
           is_open = sym (shut t.halves);
-          held = more_on initial empty_reassembly [] l.held (λ o. omega arith) (empty_on initial);
+          held = more_on P initial id empty_reassembly [] l.held (λ o. omega arith) (empty_on P initial id);
         })
 
 -- What is left of generations once nothing of a stream is
@@ -158,23 +159,24 @@ few_left initial id k ds b is o =
 -- Another stream
 
 -- nothing of it changes
-others_keep : (initial id : ℕ) (r : ResetsView) (m n : StreamMap) (k : ℕ) → eqb id k ≡ false
+others_keep : (P : ChunkPayloadData → Type 0) (initial id : ℕ) (r : ResetsView) (m n : StreamMap) (k : ℕ)
+    → eqb id k ≡ false
     → stream_at n id ≡ stream_at m id → n.next_generation ≡ m.next_generation
     → (IsOnce id m.by_id → IsOnce id n.by_id)
-    → KeepsCourse initial id r m (with_generations r (generations.discarded r.generations k)) n
-others_keep initial id r m n k apart same next once c inv h read =
+    → KeepsCourse P initial id r m (with_generations r (generations.discarded r.generations k)) n
+others_keep P initial id r m n k apart same next once c inv h read =
     (record { after = c; leads = leads_nowhere c; stands = stands; told = refl }, read)
   where
     g : GenerationsView
     g = r.generations
 
-    stands : Stands initial id (generations.discarded g k) n r.peer.in_progress c
+    stands : Stands P initial id (generations.discarded g k) n r.peer.in_progress c
     stands = record {
-      live = subst (λ (o : Option StreamView). LiveAs (IsHeldOn initial) o c.live) (sym same) h.live;
+      live = subst (λ (o : Option StreamView). LiveAs (IsHeldOn P initial id) o c.live) (sym same) h.live;
       next = subst (λ i. c.next ≤ i) (sym next) h.next;
       marks = subst (λ (o : Option (List ℕ)). MarksAs initial o c.marks)
           (sym (removed_apart id k (found_as id k ∙ apart) g.retiring)) h.marks;
-      kept = all_filter (λ (p : ChunkPayloadData). IsPiece p × IsNear initial p.tsn) (λ d. not (is_of k d)) g.deferred
+      kept = all_filter (λ (p : ChunkPayloadData). P p × IsNear initial p.tsn) (λ d. not (is_of k d)) g.deferred
           h.kept;
       deferred = λ o.
           subst (λ i. i ≤ times o c.deferred) (sym (few_left initial id k g.deferred true (ap not apart) o))
@@ -219,13 +221,14 @@ leads_to_gone c idle =
     (ap (λ b. cond b (left_of (closed_to_reads c.live) c) (left_of None c)) (closed_reads c.live)))
 
 -- what is kept then stands for it
-itself_keeps : (initial id : ℕ) (r : ResetsView) (m n : StreamMap) (live : Course → Option Live)
+itself_keeps : (P : ChunkPayloadData → Type 0) (initial id : ℕ) (r : ResetsView) (m n : StreamMap)
+    (live : Course → Option Live)
     → ((c : Course) → is_idle c ≡ true → LeadsTo c (left_of (live c) c))
-    → ((c : Course) → IsOnce id m.by_id → LiveAs (IsHeldOn initial) (stream_at m id) c.live
-    → LiveAs (IsHeldOn initial) (stream_at n id) (live c))
+    → ((c : Course) → IsOnce id m.by_id → LiveAs (IsHeldOn P initial id) (stream_at m id) c.live
+    → LiveAs (IsHeldOn P initial id) (stream_at n id) (live c))
     → n.next_generation ≡ m.next_generation → (IsOnce id m.by_id → IsOnce id n.by_id)
-    → KeepsCourse initial id r m (with_generations r (generations.discarded r.generations id)) n
-itself_keeps initial id r m n live leads lives next once c inv h read = (
+    → KeepsCourse P initial id r m (with_generations r (generations.discarded r.generations id)) n
+itself_keeps P initial id r m n live leads lives next once c inv h read = (
   record { after = left_of (live c) c; leads = leads c idle; stands = stands; told = refl },
   λ some. absurd (some refl),
 )
@@ -236,13 +239,13 @@ itself_keeps initial id r m n live leads lives next once c inv h read = (
     idle : is_idle c ≡ true
     idle = rw (h.still.1, h.still.2) refl
 
-    stands : Stands initial id (generations.discarded g id) n r.peer.in_progress (left_of (live c) c)
+    stands : Stands P initial id (generations.discarded g id) n r.peer.in_progress (left_of (live c) c)
     stands = record {
       live = lives c h.once_live h.live;
       next = subst (λ i. c.next ≤ i) (sym next) h.next;
       marks = subst (λ (o : Option (List ℕ)). MarksAs initial o [])
           (sym (removed_none id g.retiring h.once_marked)) refl;
-      kept = all_filter (λ (p : ChunkPayloadData). IsPiece p × IsNear initial p.tsn) (λ d. not (is_of id d)) g.deferred
+      kept = all_filter (λ (p : ChunkPayloadData). P p × IsNear initial p.tsn) (λ d. not (is_of id d)) g.deferred
           h.kept;
       deferred = λ o.
           subst (λ i. i ≤ times o [])
@@ -263,47 +266,51 @@ abbrev left_unless : Bool → ResetsView → StreamMap → List AssociationEvent
 left_unless blocked r m told k =
     ended_unless blocked (with_generations r (generations.discarded r.generations k)) k (with_unread_dropped m k) told
 
-itself_left : (initial id : ℕ) (r : ResetsView) (m : StreamMap) (told : List AssociationEvent) (blocked : Bool)
-    → KeepsCourse initial id r m (left_unless blocked r m told id).0 (left_unless blocked r m told id).1
-itself_left initial id r m told true =
-    itself_keeps initial id r m (with_unread_dropped m id) (λ c. closed_to_reads c.live) leads_to_closed
-    (λ c once h. dropped_live initial id m c.live h) (dropped_next m id) (dropped_once id m id)
-itself_left initial id r m told false =
-    itself_keeps initial id r m (without_stream (with_unread_dropped m id) id) (λ c. None) leads_to_gone
+itself_left : (P : ChunkPayloadData → Type 0) (initial id : ℕ) (r : ResetsView) (m : StreamMap)
+    (told : List AssociationEvent) (blocked : Bool)
+    → KeepsCourse P initial id r m (left_unless blocked r m told id).0 (left_unless blocked r m told id).1
+itself_left P initial id r m told true =
+    itself_keeps P initial id r m (with_unread_dropped m id) (λ c. closed_to_reads c.live) leads_to_closed
+    (λ c once h. dropped_live P initial id m c.live h) (dropped_next m id) (dropped_once id m id)
+itself_left P initial id r m told false =
+    itself_keeps P initial id r m (without_stream (with_unread_dropped m id) id) (λ c. None) leads_to_gone
     (λ c once h.
-    subst (λ (o : Option StreamView). LiveAs (IsHeldOn initial) o None)
+    subst (λ (o : Option StreamView). LiveAs (IsHeldOn P initial id) o None)
     (sym (removed_none id (with_unread_dropped m id).by_id (dropped_once id m id once))) tt) (dropped_next m id)
     (λ once. removed_once id (is_at (nat_cmp id)) (with_unread_dropped m id).by_id (dropped_once id m id once))
 
-others_left : (initial id : ℕ) (r : ResetsView) (m : StreamMap) (told : List AssociationEvent) (k : ℕ)
+others_left : (P : ChunkPayloadData → Type 0) (initial id : ℕ) (r : ResetsView) (m : StreamMap)
+    (told : List AssociationEvent) (k : ℕ)
     → eqb id k ≡ false → (blocked : Bool)
-    → KeepsCourse initial id r m (left_unless blocked r m told k).0 (left_unless blocked r m told k).1
-others_left initial id r m told k apart true =
-    others_keep initial id r m (with_unread_dropped m k) k apart (dropped_apart id k (found_as id k ∙ apart) m)
+    → KeepsCourse P initial id r m (left_unless blocked r m told k).0 (left_unless blocked r m told k).1
+others_left P initial id r m told k apart true =
+    others_keep P initial id r m (with_unread_dropped m k) k apart (dropped_apart id k (found_as id k ∙ apart) m)
     (dropped_next m k) (dropped_once id m k)
-others_left initial id r m told k apart false =
-    others_keep initial id r m (without_stream (with_unread_dropped m k) k) k apart
+others_left P initial id r m told k apart false =
+    others_keep P initial id r m (without_stream (with_unread_dropped m k) k) k apart
     (ended_apart id k (found_as id k ∙ apart) (with_unread_dropped m k)
     ∙ dropped_apart id k (found_as id k ∙ apart) m) (dropped_next m k)
     (λ once. removed_once id (is_at (nat_cmp k)) (with_unread_dropped m k).by_id (dropped_once id m k once))
 
-left_keeps : (initial id : ℕ) (r : ResetsView) (m : StreamMap) (told : List AssociationEvent) (k : ℕ) (blocked : Bool)
-    → KeepsCourse initial id r m (left_unless blocked r m told k).0 (left_unless blocked r m told k).1
-left_keeps initial id r m told k blocked = by (eqb id k) refl
+left_keeps : (P : ChunkPayloadData → Type 0) (initial id : ℕ) (r : ResetsView) (m : StreamMap)
+    (told : List AssociationEvent) (k : ℕ) (blocked : Bool)
+    → KeepsCourse P initial id r m (left_unless blocked r m told k).0 (left_unless blocked r m told k).1
+left_keeps P initial id r m told k blocked = by (eqb id k) refl
   where
     by : (b : Bool) → eqb id k ≡ b
-        → KeepsCourse initial id r m (left_unless blocked r m told k).0 (left_unless blocked r m told k).1
+        → KeepsCourse P initial id r m (left_unless blocked r m told k).0 (left_unless blocked r m told k).1
     by true e =
-        subst (λ i. KeepsCourse initial id r m (left_unless blocked r m told i).0 (left_unless blocked r m told i).1)
-        (eqb-true id k e) (itself_left initial id r m told blocked)
-    by false e = others_left initial id r m told k e blocked
+        subst (λ i. KeepsCourse P initial id r m (left_unless blocked r m told i).0 (left_unless blocked r m told i).1)
+        (eqb-true id k e) (itself_left P initial id r m told blocked)
+    by false e = others_left P initial id r m told k e blocked
 
 -- No more is read of a stream whose generation ended, and its read half closes with it.
-pub stopped_keeps : (initial id : ℕ) (r : ResetsView) (m : StreamMap) (told : List AssociationEvent) (k : ℕ)
-    → KeepsCourse initial id r m (stopped_reading k r (with_read_half_closed m k) told).0
+pub stopped_keeps : (P : ChunkPayloadData → Type 0) (initial id : ℕ) (r : ResetsView) (m : StreamMap)
+    (told : List AssociationEvent) (k : ℕ)
+    → KeepsCourse P initial id r m (stopped_reading k r (with_read_half_closed m k) told).0
     (stopped_reading k r (with_read_half_closed m k) told).1
-stopped_keeps initial id r m told k =
-    left_keeps initial id r m _ k (is_blocked (with_generations r (generations.discarded r.generations k)) k)
+stopped_keeps P initial id r m told k =
+    left_keeps P initial id r m _ k (is_blocked (with_generations r (generations.discarded r.generations k)) k)
 
 -- The read half of a stream closes: one whose generation ended is read no more, and another one is to be reset.
 abbrev pub with_reads_stopped : ℕ → ResetsView → StreamMap → List AssociationEvent → Beside
@@ -316,16 +323,17 @@ none_at None e = refl
 none_at (Some bs) e = absurd (true≢false e)
 
 -- The application stops a stream.
-pub stopped_open_keeps : (initial id : ℕ) (r : ResetsView) (m : StreamMap) (told : List AssociationEvent) (k : ℕ)
-    → KeepsCourse initial id r m (with_reads_stopped k r m told).0 (with_reads_stopped k r m told).1
-stopped_open_keeps initial id r m told k = by (is_retiring r k) refl
+pub stopped_open_keeps : (P : ChunkPayloadData → Type 0) (initial id : ℕ) (r : ResetsView) (m : StreamMap)
+    (told : List AssociationEvent) (k : ℕ)
+    → KeepsCourse P initial id r m (with_reads_stopped k r m told).0 (with_reads_stopped k r m told).1
+stopped_open_keeps P initial id r m told k = by (is_retiring r k) refl
   where
     by : (b : Bool) → is_retiring r k ≡ b
-        → KeepsCourse initial id r m
+        → KeepsCourse P initial id r m
         (cond {A = Beside} b (stopped_reading k r (with_read_half_closed m k) told)
         (waiting_for r k, with_read_half_closed m k, told)).0
         (cond {A = Beside} b (stopped_reading k r (with_read_half_closed m k) told)
         (waiting_for r k, with_read_half_closed m k, told)).1
-    by true e = stopped_keeps initial id r m told k
+    by true e = stopped_keeps P initial id r m told k
     by false e =
-        read_half_closed_keeps initial id r m k (none_at (boundaries_at r.generations.retiring k) e)
+        read_half_closed_keeps P initial id r m k (none_at (boundaries_at r.generations.retiring k) e)

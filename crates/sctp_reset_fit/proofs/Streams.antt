@@ -28,7 +28,7 @@ use Rattle.sctp_courses.specs.Course.{Course, Live, is_readable, times}
 use Rattle.sctp_courses.specs.Events.{Event, closed_to_reads, opened}
 use Rattle.sctp_reset_fit.specs.Held.{IsHeldOn}
 use Rattle.sctp_reset_fit.specs.Keeping.{KeepsCourse}
-use Rattle.sctp_reset_fit.specs.Laws.{IsPiece, Stands}
+use Rattle.sctp_reset_fit.specs.Laws.{Stands}
 use Rattle.sctp_reset_fit.specs.Stands.{IsLiveAs, IsNear, IsOnce, LiveAs, MarksAs, offset_of}
 use Rattle.sctp_reset_fit.proofs.Keeping.{alike_keeps}
 use Rattle.sctp_reset_fit.proofs.Leading.{leads_by, leads_nowhere, leads_to_open}
@@ -67,25 +67,25 @@ others_inserted id p other (d ∷ ds) zero = rw other refl
 others_inserted id p other (d ∷ ds) (suc n) =
     ap (λ (xs : List ChunkPayloadData). cond (is_of id d) (d ∷ xs) xs) (others_inserted id p other ds n)
 
-module _ (initial id : ℕ) (r : ResetsView) (m : StreamMap) where
+module _ (P : ChunkPayloadData → Type 0) (initial id : ℕ) (r : ResetsView) (m : StreamMap) where
   -- The live stream of the identifier stays as it is, and so do the generations and the request that waits.
   pub alive_same_keeps : (s : ResetsView) (n : StreamMap) → stream_at n id ≡ stream_at m id
       → m.next_generation ≤ n.next_generation → (IsOnce id m.by_id → IsOnce id n.by_id)
-      → s.generations ≡ r.generations → s.peer.in_progress ≡ r.peer.in_progress → KeepsCourse initial id r m s n
+      → s.generations ≡ r.generations → s.peer.in_progress ≡ r.peer.in_progress → KeepsCourse P initial id r m s n
   alive_same_keeps s n there later once same waiting c inv h read = (
     record {
       after = c;
       leads = leads_nowhere c;
-      stands = subst₂ (λ (g : GenerationsView) (o : Option PeerRequestView). Stands initial id g n o c) (sym same)
+      stands = subst₂ (λ (g : GenerationsView) (o : Option PeerRequestView). Stands P initial id g n o c) (sym same)
           (sym waiting) stands;
       told = refl;
     },
     read,
   )
     where
-      stands : Stands initial id r.generations n r.peer.in_progress c
+      stands : Stands P initial id r.generations n r.peer.in_progress c
       stands = record {
-        live = subst (λ o. LiveAs (IsHeldOn initial) o c.live) (sym there) h.live;
+        live = subst (λ o. LiveAs (IsHeldOn P initial id) o c.live) (sym there) h.live;
         next = let a = h.next in omega arith;
         marks = h.marks;
         kept = h.kept;
@@ -100,39 +100,39 @@ module _ (initial id : ℕ) (r : ResetsView) (m : StreamMap) where
       }
 
   -- where nothing is done
-  nothing_keeps : KeepsCourse initial id r m r m
+  nothing_keeps : KeepsCourse P initial id r m r m
   nothing_keeps = alive_same_keeps r m refl (omega arith) (λ h. h) refl refl
 
   -- another live stream is another one now
   set_elsewhere_keeps : (k : ℕ) (s : StreamView) → is_eq (nat_cmp id k) ≡ false
-      → KeepsCourse initial id r m r (with_stream m k s)
+      → KeepsCourse P initial id r m r (with_stream m k s)
   set_elsewhere_keeps k s apart =
       alive_same_keeps r (with_stream m k s) (stream_set_apart id k apart m s) (omega arith)
       (λ h. set_once id (is_at (nat_cmp k)) s m.by_id h) refl refl
 
   -- a live stream is changed in what the course does not have
   pub changed_keeps : (k : ℕ) (f : StreamView → StreamView)
-      → ((t : StreamView) (l : Live) → IsLiveAs (IsHeldOn initial) t l → IsLiveAs (IsHeldOn initial) (f t) l)
-      → KeepsCourse initial id r m r (changed_stream f m k)
+      → ((t : StreamView) (l : Live) → IsLiveAs (IsHeldOn P initial id) t l → IsLiveAs (IsHeldOn P initial id) (f t) l)
+      → KeepsCourse P initial id r m r (changed_stream f m k)
   changed_keeps k f keeps =
-      alike_keeps initial id r r m (changed_stream f m k)
-      (changed_alike id (IsHeldOn initial) f keeps r.generations m k) refl
+      alike_keeps P initial id r r m (changed_stream f m k)
+      (changed_alike id (IsHeldOn P initial id) f keeps r.generations m k) refl
 
   -- one that leaves what waits, the generation, and whether the read half is open
   pub same_keeps : (k : ℕ) (f : StreamView → StreamView) → ((t : StreamView) → (f t).reassembly ≡ t.reassembly)
       → ((t : StreamView) → (f t).stats.generation ≡ t.stats.generation)
       → ((t : StreamView) → is_read_half_open (f t).halves ≡ is_read_half_open t.halves)
-      → KeepsCourse initial id r m r (changed_stream f m k)
+      → KeepsCourse P initial id r m r (changed_stream f m k)
   same_keeps k f held generation halves =
       changed_keeps k f (λ t l h. record {
         generation = h.generation ∙ sym (generation t);
         is_open = h.is_open ∙ sym (halves t);
-        held = subst (λ q. IsHeldOn initial q l.held) (sym (held t)) h.held;
+        held = subst (λ q. IsHeldOn P initial id q l.held) (sym (held t)) h.held;
       })
 
   -- an application sets one thing of it
   pub setting_keeps : (k : ℕ) (setting : Setting)
-      → KeepsCourse initial id r m r (changed_stream (λ s. with_setting s setting) m k)
+      → KeepsCourse P initial id r m r (changed_stream (λ s. with_setting s setting) m k)
   setting_keeps k setting =
       same_keeps k (λ s. with_setting s setting) (λ t. held setting t) (λ t. generation setting t)
       (λ t. halves setting t)
@@ -161,30 +161,30 @@ module _ (initial id : ℕ) (r : ResetsView) (m : StreamMap) where
 
   -- a message was accepted for sending
   pub written_keeps : (k : ℕ) (kind : PayloadProtocolIdentifier) (size : ℕ)
-      → KeepsCourse initial id r m r (changed_stream (λ t. accepted_by t kind size) m k)
+      → KeepsCourse P initial id r m r (changed_stream (λ t. accepted_by t kind size) m k)
   written_keeps k kind size =
       same_keeps k (λ t. accepted_by t kind size) (λ t. refl) (λ t. refl) (λ t. refl)
 
   -- the numbers of its ordered messages begin again
-  pub restarted_keeps : (k : ℕ) → KeepsCourse initial id r m r (changed_stream with_restarted_ssn m k)
+  pub restarted_keeps : (k : ℕ) → KeepsCourse P initial id r m r (changed_stream with_restarted_ssn m k)
   restarted_keeps k = same_keeps k with_restarted_ssn (λ t. refl) (λ t. refl) (λ t. refl)
 
   -- bytes of a generation are released
-  pub released_keeps : (k generation bytes : ℕ) → KeepsCourse initial id r m r (released_in m k generation bytes)
+  pub released_keeps : (k generation bytes : ℕ) → KeepsCourse P initial id r m r (released_in m k generation bytes)
   released_keeps k generation bytes = by (is_generation (stream_at m k) generation)
     where
       by : (b : Bool)
-          → KeepsCourse initial id r m r (if b then changed_stream (λ s. released_from s bytes) m k else m)
+          → KeepsCourse P initial id r m r (if b then changed_stream (λ s. released_from s bytes) m k else m)
       by true = same_keeps k (λ s. released_from s bytes) (λ t. refl) (λ t. refl) (λ t. refl)
       by false = nothing_keeps
 
   -- a message was dropped before any of it was sent
   pub given_back_keeps : (k generation : ℕ) (unordered : Bool) (bytes : ℕ)
-      → KeepsCourse initial id r m r (given_back_in m k generation unordered bytes)
+      → KeepsCourse P initial id r m r (given_back_in m k generation unordered bytes)
   given_back_keeps k generation unordered bytes = by (is_generation (stream_at m k) generation) unordered
     where
       by : (b u : Bool)
-          → KeepsCourse initial id r m r
+          → KeepsCourse P initial id r m r
           (if b then changed_stream (λ s. released_from (if u then s else with_ssn_given_back s) bytes) m k else m)
       by true true = same_keeps k (λ s. released_from s bytes) (λ t. refl) (λ t. refl) (λ t. refl)
       by true false =
@@ -193,14 +193,14 @@ module _ (initial id : ℕ) (r : ResetsView) (m : StreamMap) where
 
   -- the application reads this stream no more, of which no generation ended that is still read
   closes : (t : StreamView) → stream_at m id ≡ Some t → boundaries_at r.generations.retiring id ≡ None
-      → KeepsCourse initial id r m r (with_stream m id (read_closed t))
+      → KeepsCourse P initial id r m r (with_stream m id (read_closed t))
   closes t is unmarked c inv h read = (
     record {
       after = after;
       leads = leads_by c after Event.Closes refl refl;
       stands = record {
-        live = subst (λ o. LiveAs (IsHeldOn initial) o (closed_to_reads c.live)) (sym there)
-            (by c.live (subst (λ o. LiveAs (IsHeldOn initial) o c.live) is h.live));
+        live = subst (λ o. LiveAs (IsHeldOn P initial id) o (closed_to_reads c.live)) (sym there)
+            (by c.live (subst (λ o. LiveAs (IsHeldOn P initial id) o c.live) is h.live));
         next = h.next;
         marks = h.marks;
         kept = h.kept;
@@ -229,8 +229,8 @@ module _ (initial id : ℕ) (r : ResetsView) (m : StreamMap) where
           at_with m id id t (read_closed t) is
           ∙ cond-true _ (Some (read_closed t)) (stream_at m id) (eq-eqb id id refl)
 
-      by : (l : Option Live) → LiveAs (IsHeldOn initial) (Some t) l
-          → LiveAs (IsHeldOn initial) (Some (read_closed t)) (closed_to_reads l)
+      by : (l : Option Live) → LiveAs (IsHeldOn P initial id) (Some t) l
+          → LiveAs (IsHeldOn P initial id) (Some (read_closed t)) (closed_to_reads l)
       by None a = absurd a
       by (Some l) a = record {
         generation = a.generation;
@@ -240,33 +240,33 @@ module _ (initial id : ℕ) (r : ResetsView) (m : StreamMap) where
 
   -- so it is of any stream
   pub read_half_closed_keeps : (k : ℕ) → boundaries_at r.generations.retiring k ≡ None
-      → KeepsCourse initial id r m r (changed_stream (λ s. with_halves s (without_read_half s.halves)) m k)
+      → KeepsCourse P initial id r m r (changed_stream (λ s. with_halves s (without_read_half s.halves)) m k)
   read_half_closed_keeps k unmarked = by (stream_at m k) refl
     where
-      by : (o : Option StreamView) → stream_at m k ≡ o → KeepsCourse initial id r m r (change_at read_closed o m k)
+      by : (o : Option StreamView) → stream_at m k ≡ o → KeepsCourse P initial id r m r (change_at read_closed o m k)
       by None is = nothing_keeps
       by (Some t) is = where_it_is (eqb id k) refl
         where
-          where_it_is : (b : Bool) → eqb id k ≡ b → KeepsCourse initial id r m r (with_stream m k (read_closed t))
+          where_it_is : (b : Bool) → eqb id k ≡ b → KeepsCourse P initial id r m r (with_stream m k (read_closed t))
           where_it_is true e =
               let same : id ≡ k = eqb-true id k e in
-              subst (λ i. KeepsCourse initial id r m r (with_stream m i (read_closed t))) same
+              subst (λ i. KeepsCourse P initial id r m r (with_stream m i (read_closed t))) same
               (closes t (ap (stream_at m) same ∙ is) (ap (boundaries_at r.generations.retiring) same ∙ unmarked))
           where_it_is false e = set_elsewhere_keeps k (read_closed t) (found_as id k ∙ e)
 
   -- this stream is made where it was not live: a new generation of it
   opens : (first : ℕ) (kind : PayloadProtocolIdentifier) → stream_at m id ≡ None
-      → KeepsCourse initial id r m r (made m id first kind)
+      → KeepsCourse P initial id r m r (made m id first kind)
   opens first kind none c inv h read = (
     record {
       after = after;
       leads = leads_to_open c m.next_generation h.still.0 gone h.next;
       stands = record {
-        live = subst (λ o. LiveAs (IsHeldOn initial) o after.live)
+        live = subst (λ o. LiveAs (IsHeldOn P initial id) o after.live)
             (sym (inserted_there id (fresh_stream id m.next_generation first kind) m.by_id none)) (record {
               generation = refl;
               is_open = refl;
-              held = empty_on initial;
+              held = empty_on P initial id;
             });
         next = one_more m.next_generation;
         marks = h.marks;
@@ -290,21 +290,21 @@ module _ (initial id : ℕ) (r : ResetsView) (m : StreamMap) where
       after = opened c m.next_generation
 
       gone : c.live ≡ None
-      gone = by c.live (subst (λ o. LiveAs (IsHeldOn initial) o c.live) none h.live)
+      gone = by c.live (subst (λ o. LiveAs (IsHeldOn P initial id) o c.live) none h.live)
         where
-          by : (l : Option Live) → LiveAs (IsHeldOn initial) None l → l ≡ None
+          by : (l : Option Live) → LiveAs (IsHeldOn P initial id) None l → l ≡ None
           by None a = refl
           by (Some l) a = absurd a
 
   -- so it is of any stream
   pub made_keeps : (k first : ℕ) (kind : PayloadProtocolIdentifier) → stream_at m k ≡ None
-      → KeepsCourse initial id r m r (made m k first kind)
+      → KeepsCourse P initial id r m r (made m k first kind)
   made_keeps k first kind none = by (eqb id k) refl
     where
-      by : (b : Bool) → eqb id k ≡ b → KeepsCourse initial id r m r (made m k first kind)
+      by : (b : Bool) → eqb id k ≡ b → KeepsCourse P initial id r m r (made m k first kind)
       by true e =
           let same : id ≡ k = eqb-true id k e in
-          subst (λ i. KeepsCourse initial id r m r (made m i first kind)) same
+          subst (λ i. KeepsCourse P initial id r m r (made m i first kind)) same
           (opens first kind (ap (stream_at m) same ∙ none))
       by false e =
           alive_same_keeps r (made m k first kind) (made_apart id k (found_as id k ∙ e) m first kind) (omega arith)
@@ -313,13 +313,13 @@ module _ (initial id : ℕ) (r : ResetsView) (m : StreamMap) where
 
   -- this stream is gone, which was not live, or of which nothing could be read any more
   vanishes : ((t : StreamView) → stream_at m id ≡ Some t → is_read_half_open t.halves ≡ false)
-      → KeepsCourse initial id r m r (without_stream m id)
+      → KeepsCourse P initial id r m r (without_stream m id)
   vanishes shut c inv h read = (
     record {
       after = after;
       leads = leads_by c after Event.Vanishes refl (ap (λ b. cond b c after) unread);
       stands = record {
-        live = subst (λ o. LiveAs (IsHeldOn initial) o None) (sym (removed_none id m.by_id h.once_live)) tt;
+        live = subst (λ o. LiveAs (IsHeldOn P initial id) o None) (sym (removed_none id m.by_id h.once_live)) tt;
         next = h.next;
         marks = h.marks;
         kept = h.kept;
@@ -343,7 +343,7 @@ module _ (initial id : ℕ) (r : ResetsView) (m : StreamMap) where
       unread : is_readable c.live ≡ false
       unread = by (stream_at m id) refl c.live h.live
         where
-          by : (o : Option StreamView) → stream_at m id ≡ o → (l : Option Live) → LiveAs (IsHeldOn initial) o l
+          by : (o : Option StreamView) → stream_at m id ≡ o → (l : Option Live) → LiveAs (IsHeldOn P initial id) o l
               → is_readable l ≡ false
           by None is None a = refl
           by None is (Some l) a = absurd a
@@ -355,13 +355,13 @@ module _ (initial id : ℕ) (r : ResetsView) (m : StreamMap) where
 
   -- so it is of any stream
   pub gone_keeps : (k : ℕ) → ((t : StreamView) → stream_at m k ≡ Some t → is_read_half_open t.halves ≡ false)
-      → KeepsCourse initial id r m r (without_stream m k)
+      → KeepsCourse P initial id r m r (without_stream m k)
   gone_keeps k shut = by (eqb id k) refl
     where
-      by : (b : Bool) → eqb id k ≡ b → KeepsCourse initial id r m r (without_stream m k)
+      by : (b : Bool) → eqb id k ≡ b → KeepsCourse P initial id r m r (without_stream m k)
       by true e =
           let same : id ≡ k = eqb-true id k e in
-          subst (λ i. KeepsCourse initial id r m r (without_stream m i)) same
+          subst (λ i. KeepsCourse P initial id r m r (without_stream m i)) same
           (vanishes (λ t is. shut t (ap (stream_at m) (sym same) ∙ is)))
       by false e =
           alive_same_keeps r (without_stream m k) (ended_apart id k (found_as id k ∙ e) m) (omega arith)
@@ -369,27 +369,27 @@ module _ (initial id : ℕ) (r : ResetsView) (m : StreamMap) where
 
   -- a piece came to another stream
   pub pushed_elsewhere_keeps : (piece : ChunkPayloadData) → (piece.stream_identifier ≡ id → ⊥)
-      → KeepsCourse initial id r m r (pushed_in m piece.stream_identifier piece).0
+      → KeepsCourse P initial id r m r (pushed_in m piece.stream_identifier piece).0
   pushed_elsewhere_keeps piece other = by (stream_at m piece.stream_identifier)
     where
-      by : (o : Option StreamView) → KeepsCourse initial id r m r (pushed_at o m piece.stream_identifier piece).0
+      by : (o : Option StreamView) → KeepsCourse P initial id r m r (pushed_at o m piece.stream_identifier piece).0
       by None = nothing_keeps
       by (Some s) =
           set_elsewhere_keeps piece.stream_identifier (stream_pushed s piece).0
           (found_of piece.stream_identifier id ∙ ne_eqb piece.stream_identifier id other)
 
   -- another stream was read
-  pub read_elsewhere_keeps : (k : ℕ) → (k ≡ id → ⊥) → KeepsCourse initial id r m r (read_in m k).0
+  pub read_elsewhere_keeps : (k : ℕ) → (k ≡ id → ⊥) → KeepsCourse P initial id r m r (read_in m k).0
   read_elsewhere_keeps k other = by (stream_at m k)
     where
-      by : (o : Option StreamView) → KeepsCourse initial id r m r (read_at o m k).0
+      by : (o : Option StreamView) → KeepsCourse P initial id r m r (read_at o m k).0
       by None = nothing_keeps
       by (Some s) = set_elsewhere_keeps k (stream_read s).0 (found_of k id ∙ ne_eqb k id other)
 
   -- a piece waits for a generation of another stream that is not read yet
-  pub deferred_elsewhere_keeps : (piece : ChunkPayloadData) → (piece.stream_identifier ≡ id → ⊥)
-      → IsNear initial piece.tsn → KeepsCourse initial id r m (with_deferred r piece) m
-  deferred_elsewhere_keeps piece other near c inv h read = (
+  pub deferred_elsewhere_keeps : (piece : ChunkPayloadData) → (piece.stream_identifier ≡ id → ⊥) → P piece
+      → IsNear initial piece.tsn → KeepsCourse P initial id r m (with_deferred r piece) m
+  deferred_elsewhere_keeps piece other so near c inv h read = (
     record {
       after = c;
       leads = leads_nowhere c;
@@ -397,8 +397,8 @@ module _ (initial id : ℕ) (r : ResetsView) (m : StreamMap) where
         live = h.live;
         next = h.next;
         marks = h.marks;
-        kept = all_inserted (λ (q : ChunkPayloadData). IsPiece q × IsNear initial q.tsn) r.generations.deferred
-            (place_of piece.tsn r.generations.deferred) piece h.kept (tt, near);
+        kept = all_inserted (λ (q : ChunkPayloadData). P q × IsNear initial q.tsn) r.generations.deferred
+            (place_of piece.tsn r.generations.deferred) piece h.kept (so, near);
         deferred = λ o.
             subst
             (λ (qs : List ChunkPayloadData). times o (map (λ (p : ChunkPayloadData). offset_of initial p.tsn) qs)

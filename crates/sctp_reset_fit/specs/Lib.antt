@@ -1,3 +1,4 @@
+pub mod Pieces
 pub mod Held
 pub mod Stands
 pub mod Laws

@@ -53,7 +53,8 @@ pub record TellsHeld (initial id : ℕ) (P : ChunkPayloadData → Type 0) (IsHel
 
 -- A message that was read is made of pieces that were held: where it is one of these offsets, what is left is held on
 -- the others.
-pub record IsTakenOut (Makes : ReceivedMessage → List ℕ → Type 0) (IsHeld : Reassembly → List ℕ → Type 0) (q : Reassembly)
+pub record IsTakenOut (Makes : ReceivedMessage → List ℕ → Type 0) (IsHeld : Reassembly → List ℕ → Type 0)
+    (q : Reassembly)
     (os : List ℕ) (m : ReceivedMessage) : Type 0 where
   pub out : List ℕ
   pub left : List ℕ

@@ -3,8 +3,8 @@ ghost use Rattle.sctp_reset_requests.specs.Laws.{CompletedStayCompleted, Complet
 ghost use Rattle.sctp_reset_requests.specs.Laws.{OneIsActive, OneIsOpen, DataHoldsBack, NamesAreThoseListed};
 
 /// Whatever comes, a request of the peer that was completed stays so, and a repeat of it is answered as it was and
-/// resets nothing. What this side asks for ends no request of the peer that is in progress: it names the last one that was
-/// completed.
+/// resets nothing. What this side asks for ends no request of the peer that is in progress: it names the last one that
+/// was completed.
 pub fn completed_requests_are_known()
     ensures stay { CompletedStayCompleted }
     ensures known { CompletedAreKnown }

@@ -19,7 +19,8 @@ use Rattle.sctp_assoc.specs.Closing.{relieved}
 use Rattle.sctp_assoc.specs.Resets.{with_beside}
 use Rattle.sctp_assoc.specs.Shown.{Shown}
 use Rattle.sctp_sides.specs.Brought.{SideHoldsOnly}
-use Rattle.sctp_sides.specs.Held.{HoldsOnly, IsHeldOnly, IsMadeOfWhereThere}
+use Rattle.sctp_reset_fit.specs.Pieces.{HoldsOnly, IsMadeOfWhereThere}
+use Rattle.sctp_sides.specs.Held.{IsHeldOnly}
 use Rattle.sctp_sides.proofs.HeldInResets.{event_told_holds, read_out_holds, stopped_reading_holds}
 use Rattle.sctp_sides.proofs.HeldSteps.{KeepsHeld, beside_held, relieved_held, resetting_holds, same_held, stays_held}
 use Rattle.sctp_sides.proofs.HeldSteps.{streams_held, then_held}

@@ -65,7 +65,7 @@ use Rattle.sctp_sides.proofs.HeldInResets.{handled_holds, responded_holds, settl
 use Rattle.sctp_sides.proofs.HeldInResets.{skips_done_of_holds, with_deferred_holds, with_skip_holds}
 use Rattle.sctp_sides.proofs.HeldInResets.{without_unordered_holds}
 use Rattle.sctp_sides.proofs.HeldInSending.{sack_holds}
-use Rattle.sctp_sides.proofs.HeldPieces.{skipped_holds}
+use Rattle.sctp_reset_fit.proofs.HeldPieces.{skipped_holds}
 use Rattle.sctp_sides.proofs.HeldSteps.{KeepsHeld, asking_if_held, beside_held, closed_held, exhausted_held}
 use Rattle.sctp_sides.proofs.HeldSteps.{queued_held, resetting_held, responding_held, same_held, same_side_held}
 use Rattle.sctp_sides.proofs.HeldSteps.{stays_held, streams_held, then_held}

@@ -56,7 +56,7 @@ use Rattle.sctp_resets.specs.Skips.{Skipping, end_of_skip, reaches_its_ssn, skip
 use Rattle.sctp_resets.specs.Telling.{next_told}
 use Rattle.sctp_resets.proofs.ListsOver.{all_filtered, all_inserted, of_chosen}
 use Rattle.sctp_sides.specs.Held.{IsHeldOnly, StreamsHoldOnly}
-use Rattle.sctp_sides.proofs.HeldPieces.{empty_holds, skipped_holds}
+use Rattle.sctp_reset_fit.proofs.HeldPieces.{empty_holds, skipped_holds}
 use Rattle.sctp_sides.proofs.HeldStreams.{changed_holds, made_holds, pushed_in_holds, without_stream_holds}
 
 -- The pieces of which something is so.

@@ -17,9 +17,10 @@ use Rattle.sctp_streams.specs.Streams.{StreamMap, change_at, changed_stream, giv
 use Rattle.sctp_streams.specs.Streams.{passed_each, passed_in, pushed_at, pushed_in, read_at, read_in, refusal_at}
 use Rattle.sctp_streams.specs.Streams.{refusal_in, released_in, stream_at, with_stream, without_stream}
 use Rattle.sctp_resets.proofs.ListsOver.{of_chosen}
-use Rattle.sctp_sides.specs.Held.{HoldsOnly, IsMadeOfWhereThere, StreamsHoldOnly}
-use Rattle.sctp_sides.proofs.HeldPieces.{IsSoWhereThere, empty_holds, of_chosen_where, pushed_holds, taken_holds}
-use Rattle.sctp_sides.proofs.HeldPieces.{unordered_skipped_holds}
+use Rattle.sctp_reset_fit.specs.Pieces.{HoldsOnly, IsMadeOfWhereThere}
+use Rattle.sctp_sides.specs.Held.{StreamsHoldOnly}
+use Rattle.sctp_reset_fit.proofs.HeldPieces.{IsSoWhereThere, empty_holds, of_chosen_where, pushed_holds, taken_holds}
+use Rattle.sctp_reset_fit.proofs.HeldPieces.{unordered_skipped_holds}
 
 -- an entry that is found has the identifier that is looked for
 found_at : (id x : ℕ) → is_at (nat_cmp id) x ≡ true → id ≡ x

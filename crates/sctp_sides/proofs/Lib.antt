@@ -51,7 +51,6 @@ pub mod HeldInPolls
 pub mod HeldInResets
 pub mod HeldInSending
 pub mod HeldOverCalls
-pub mod HeldPieces
 pub mod HeldSteps
 pub mod HeldStreams
 pub mod HeldWeaker
@@ -69,7 +68,6 @@ pub mod PeerRequestsInChunks
 pub mod PeerRequestsInPolls
 pub mod PeerRequestsOverRuns
 pub mod PendingPieces
-pub mod PiecesOfOne
 pub mod PolledPackets
 pub mod PollsInTime
 pub mod PollsLeave

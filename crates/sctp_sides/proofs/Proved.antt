@@ -59,7 +59,7 @@ pub use Rattle.sctp_sides.proofs.ResetsNoMore.{reads_reset_no_more, settings_res
 pub use Rattle.sctp_sides.proofs.ResetsNoMore.{timers_reset_no_more, told_events_reset_no_more, writes_reset_no_more}
 pub use Rattle.sctp_sides.proofs.ShutdownsStayInOrder.{polls_complete_what_is_due, shutdowns_stay_in_order}
 pub use Rattle.sctp_sides.proofs.HeldOverCalls.{calls_hold_what_came, lists_hold_what_came, reads_give_what_is_held}
-pub use Rattle.sctp_sides.proofs.HeldWeaker.{held_weaker, made_weaker}
+pub use Rattle.sctp_sides.proofs.HeldWeaker.{held_weaker}
 pub use Rattle.sctp_sides.proofs.LossToldOnce.{losses_are_told_once}
 pub use Rattle.sctp_sides.proofs.TimersOverRuns.{created_sides_are_fresh, joined_sides_are_fresh}
 pub use Rattle.sctp_sides.proofs.TimersOverRuns.{lost_sides_wait_for_nothing}

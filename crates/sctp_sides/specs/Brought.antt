@@ -9,7 +9,8 @@ use Rattle.sctp_wire.specs.declared.packet.Packet.{Packet}
 use Rattle.sctp_streams.specs.declared.event.Event.{Event}
 use Rattle.sctp_assoc.specs.Calls.{read_from_stream}
 use Rattle.sctp_assoc.specs.Shown.{Shown}
-use Rattle.sctp_sides.specs.Held.{IsHeldOnly, IsMadeOfWhereThere}
+use Rattle.sctp_reset_fit.specs.Pieces.{IsMadeOfWhereThere}
+use Rattle.sctp_sides.specs.Held.{IsHeldOnly}
 use Rattle.sctp_sides.specs.OneSide.{Call, carried_out}
 
 -- an association holds only DATA of which this is so

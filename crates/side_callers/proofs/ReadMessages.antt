@@ -30,7 +30,7 @@ use Rattle.sctp_assoc.specs.Replies.{Reads, Replies, ShowsOrRefuses, packet_in}
 use Rattle.sctp_assoc.specs.Shown.{Shown}
 use Rattle.sctp_assoc.proofs.Replied.{lent_works}
 use Rattle.sctp_sides.specs.Brought.{BringsOnly, CallBringsOnly, IsAmong, IsOnly, SideHoldsOnly}
-use Rattle.sctp_sides.specs.Held.{IsMadeOf, IsMadeOfWhereThere}
+use Rattle.sctp_reset_fit.specs.Pieces.{IsMadeOf, IsMadeOfWhereThere}
 use Rattle.sctp_sides.specs.OneSide as side
 use Rattle.sctp_sides.specs.Runs.{side_calls_of, told_in}
 use Rattle.sctp_sides.proofs.Proved.{held_weaker, listed, lists_hold_what_came, reads_give_what_is_held}

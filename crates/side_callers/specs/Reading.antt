@@ -13,7 +13,7 @@ use Rattle.sctp_assoc.specs.declared.call.Reply.TheVariants as replies
 use Rattle.sctp_assoc.specs.Replies.{packet_in}
 use Rattle.sctp_assoc.specs.Shown.{Shown}
 use Rattle.sctp_sides.specs.Brought.{IsAmong}
-use Rattle.sctp_sides.specs.Held.{IsMadeOf}
+use Rattle.sctp_reset_fit.specs.Pieces.{IsMadeOf}
 
 -- the DATA of a chunk, if it is one of DATA
 abbrev pub data_in_chunk : Chunk → List ChunkPayloadData

@@ -1,5 +1,5 @@
 use Rattle.std.proofs.Common.{◌≡◌, length, take, vec_len, vec_capacity}
-use Rattle.sctp_pair.specs.Steps.{Runs}
+use Rattle.sctp_steps.specs.Steps.{Runs}
 use Rattle.sctp_pair.proofs.pair.Pair.carry_out_all.Given as goal
 
 abbrev pub invariant-loop-step : goal.invariant-loop-step

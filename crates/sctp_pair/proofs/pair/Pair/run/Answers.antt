@@ -1,7 +1,10 @@
+use Rattle.sctp_boundaries.specs.Laws.{RunKeepsBoundaries}
 use Rattle.sctp_pair.specs.Callers.{ComesOn, HoldsOn, NothingIsReadBeforeADelivery, ReadsAreFronts, ReadsWereWritten}
-use Rattle.sctp_pair.specs.Steps.{Runs}
+use Rattle.sctp_steps.specs.Steps.{Runs}
 use Rattle.sctp_pair.proofs.Callers.{comes_on, fronts_on, unbrought_on, were_written_on}
 use Rattle.sctp_pair.proofs.AnsweredValues.{if_ok}
+use Rattle.sctp_pair.specs.Across.{ReadsOn}
+use Rattle.sctp_pair.proofs.AcrossResets.{reads_on}
 use Rattle.sctp_pair.proofs.pair.Pair.run.Goals as goal
 
 pub returns-clause-came : goal.returns-clause-came
@@ -33,3 +36,22 @@ returns-clause-written c =
     (λ replies. Runs c.args.steps.now replies.items c.args.self.now c.carry_out_all.new.self)
     (λ replies. HoldsOn ReadsWereWritten c.args.steps.now replies.items c.args.self.now) c.carry_out_all.ensures.ok
     (λ replies led. were_written_on c.args.steps.now replies.items c.args.self.now c.carry_out_all.new.self led)
+
+pub returns-clause-boundaries : goal.returns-clause-boundaries
+returns-clause-boundaries c =
+    if_ok c.carry_out_all.result
+    (λ replies. Runs c.args.steps.now replies.items c.args.self.now c.carry_out_all.new.self)
+    (λ replies. RunKeepsBoundaries c.args.steps.now replies.items c.args.self.now c.carry_out_all.new.self)
+    c.carry_out_all.ensures.ok
+    (λ replies led.
+    c.boundaries_are_kept.ensures.runs c.args.steps.now replies.items c.args.self.now c.carry_out_all.new.self led)
+
+pub returns-clause-across : goal.returns-clause-across
+returns-clause-across c =
+    if_ok c.carry_out_all.result
+    (λ replies. Runs c.args.steps.now replies.items c.args.self.now c.carry_out_all.new.self)
+    (λ replies. ReadsOn c.args.steps.now replies.items c.args.self.now c.carry_out_all.new.self)
+    c.carry_out_all.ensures.ok
+    (λ replies led.
+    reads_on c.boundaries_are_kept.ensures.steps c.args.steps.now replies.items c.args.self.now
+    c.carry_out_all.new.self led)

@@ -4,6 +4,7 @@ use Rattle.sctp_assoc.specs.Created.{join_refusal}
 use Rattle.sctp_assoc.specs.Shown.{Shown}
 use Rattle.sctp_pair.proofs.AnsweredValues.{second_refuses}
 use Rattle.sctp_pair.proofs.Counted.{fits_with_none}
+use Rattle.sctp_pair.proofs.BetweenCourses.{begins_fresh}
 use Rattle.sctp_pair.proofs.NewPairs.{IsJoined, fits_start}
 use Rattle.sctp_pair.proofs.pair.Pair.snap.Goals as goal
 
@@ -40,6 +41,28 @@ returns-clause-new c = record {
   new = returns-clause-counted c;
   led = refl;
   safely = returns-clause-counted c;
+}
+
+-- and between fresh courses of each stream
+pub returns-clause-boundaries : goal.returns-clause-boundaries
+returns-clause-boundaries c =
+    let a = c.in_ok-a.ensures in
+    let b = c.in_ok-b.ensures in
+    begins_fresh c.boundaries_are_kept.ensures.joined c.args.config_a.now c.args.config_b.now
+    c.args.max_payload_size_a c.args.max_payload_size_b c.args.remote_of_a c.args.remote_of_b c.args.token_a.now
+    c.args.token_b.now a.joined b.joined a.begins.first b.begins.first _
+    (rw (c.new.ensures.items, c.new-2.ensures.items) refl)
+
+pub returns-clause-fresh : goal.returns-clause-fresh
+returns-clause-fresh c = record {
+  came = record {
+    begin = _;
+    new = returns-clause-counted c;
+    led = refl;
+    safely = returns-clause-counted c;
+  };
+  fresh = returns-clause-boundaries c;
+  named = tt;
 }
 
 -- B is refused

@@ -1,4 +1,5 @@
 use Rattle.std.proofs.Common.{refl, [], ◌∷◌}
+use Rattle.sctp_pair.proofs.AcrossResets.{reads_on}
 use Rattle.sctp_pair.proofs.Callers.{comes_on, fronts_on, unbrought_on, were_written_on}
 use Rattle.sctp_pair.proofs.Counted.{step_leads_counted}
 use Rattle.sctp_pair.proofs.pair.Pair.step.Goals as goal
@@ -27,4 +28,15 @@ returns-clause-undelivered c =
 pub returns-clause-written : goal.returns-clause-written
 returns-clause-written c =
     were_written_on (c.args.step.now ∷ []) (c.carry_out.result ∷ []) c.args.self.now c.carry_out.new.self
+    (c.carry_out.new.self, c.carry_out.ensures, refl)
+
+pub returns-clause-boundaries : goal.returns-clause-boundaries
+returns-clause-boundaries c =
+    c.boundaries_are_kept.ensures.steps c.args.step.now c.args.self.now c.carry_out.result c.carry_out.new.self
+    c.carry_out.ensures
+
+pub returns-clause-across : goal.returns-clause-across
+returns-clause-across c =
+    reads_on c.boundaries_are_kept.ensures.steps (c.args.step.now ∷ []) (c.carry_out.result ∷ []) c.args.self.now
+    c.carry_out.new.self
     (c.carry_out.new.self, c.carry_out.ensures, refl)

@@ -86,14 +86,13 @@ pub enum Step {
         side: Side2,
         id: StreamId,
     },
-    /// `Stream::stop`. From then on nothing is promised of the stream, at either side: its span is over. Its reply is
-    /// `Done`.
+    /// `Stream::stop`. It ends the stream's span, at both sides: what `Pair` promises of a stream within its span is
+    /// said no more, and what it promises of boundaries still is. Its reply is `Done`.
     Stop {
         side: Side2,
         id: StreamId,
     },
-    /// `Stream::close`, of both halves. From then on nothing is promised of the stream, at either side, as after a
-    /// `Stop`. Its reply is `Done`.
+    /// `Stream::close`, of both halves. It ends the stream's span, as `Stop` does. Its reply is `Done`.
     CloseStream {
         side: Side2,
         id: StreamId,

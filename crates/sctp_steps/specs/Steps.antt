@@ -12,11 +12,11 @@ use Rattle.sctp_assoc.specs.Replies.{Limits, Lists, Measures, OnlyAnswers, Opens
 use Rattle.sctp_assoc.specs.Replies.{Reads, Sets}
 use Rattle.sctp_assoc.specs.Replies.{ShowsOrRefuses, ShutsDown, Stops, TakesIn, Writes, WritesFirst}
 use Rattle.sctp_assoc.specs.Shown.{Shown}
-use Rattle.sctp_pair.specs.declared.step.Side2.{Side2}
-use Rattle.sctp_pair.specs.declared.step.Side2.TheVariants as sides
-use Rattle.sctp_pair.specs.declared.step.Step.{Step}
-use Rattle.sctp_pair.specs.declared.step.Step.TheVariants as steps
-use Rattle.sctp_pair.specs.Ends.{Ends}
+use Rattle.sctp_steps.specs.declared.step.Side2.{Side2}
+use Rattle.sctp_steps.specs.declared.step.Side2.TheVariants as sides
+use Rattle.sctp_steps.specs.declared.step.Step.{Step}
+use Rattle.sctp_steps.specs.declared.step.Step.TheVariants as steps
+use Rattle.sctp_steps.specs.Ends.{Ends}
 
 -- of the packets that the other side gave out, this one comes, if there is one
 abbrev pub Delivers : Shown → Option (List ℕ) → ℕ → Reply → Shown → Type 0

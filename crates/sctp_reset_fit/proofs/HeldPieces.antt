@@ -23,10 +23,11 @@ use Rattle.sctp_receive_queues.specs.Reassembly.{trimmed, unordered_put, unorder
 use Rattle.sctp_receive_queues.specs.Reassembly.{with_unordered}
 use Rattle.sctp_resets.proofs.ListsOver.{all_appended, all_dropped, all_filtered, all_inserted, all_taken, of_chosen}
 use Rattle.sctp_resets.proofs.ListsOver.{to_images}
-use Rattle.sctp_sides.specs.Held.{ArePiecesOf, HoldsOnly, IsMadeOf, IsMadeOfWhereThere, Order}
-use Rattle.sctp_sides.proofs.PiecesOfOne.{FitsBehind, FitsInFront, no_pieces, none_of_three, nothing_behind}
-use Rattle.sctp_sides.proofs.PiecesOfOne.{nothing_in_front, one_inserted, pieces_filtered, pieces_joined, run_behind}
-use Rattle.sctp_sides.proofs.PiecesOfOne.{run_in_front, single_piece, unrefused, untorn}
+use Rattle.sctp_reset_fit.specs.Pieces.{ArePiecesOf, HoldsOnly, IsMadeOf, IsMadeOfWhereThere, Order}
+use Rattle.sctp_reset_fit.proofs.PiecesOfOne.{FitsBehind, FitsInFront, no_pieces, none_of_three, nothing_behind}
+use Rattle.sctp_reset_fit.proofs.PiecesOfOne.{nothing_in_front, one_inserted, pieces_filtered, pieces_joined}
+use Rattle.sctp_reset_fit.proofs.PiecesOfOne.{run_behind}
+use Rattle.sctp_reset_fit.proofs.PiecesOfOne.{run_in_front, single_piece, unrefused, untorn}
 
 -- Lists, and one item of a list.
 module _ {X : Type 0} (P : X → Type 0) where
@@ -151,7 +152,7 @@ module _ (P : ChunkPayloadData → Type 0) (id : ℕ) where
   each_of_run None there = no_pieces P id Order.OutOfOrder
   each_of_run (Some run) there = there
 
-  run_at_each : (runs : List (List ChunkPayloadData)) (index : ℕ) → EachRun runs → IsSoOfRun (run_at runs index)
+  pub run_at_each : (runs : List (List ChunkPayloadData)) (index : ℕ) → EachRun runs → IsSoOfRun (run_at runs index)
   run_at_each runs index each = each_of_run (slice_get runs index) (so_at IsSoOfRun runs index each)
 
   run_before_each : (runs : List (List ChunkPayloadData)) (index : ℕ) → EachRun runs
@@ -187,18 +188,24 @@ module _ (P : ChunkPayloadData → Type 0) (id : ℕ) where
             (run_made (run_at runs index) (run_at_each runs index each) complete, tt),
       )) (each, made)
 
+  -- an unordered piece is among the runs
+  pub with_unordered_each : (runs : List (List ChunkPayloadData)) (p : ChunkPayloadData) (limit : ℕ) → EachRun runs
+      → P p → p.stream_identifier ≡ id → p.unordered ≡ true → refusal_of_unordered runs p limit ≡ None
+      → EachRun (with_unordered runs (index_for_tsn p.tsn runs) p).0
+  with_unordered_each runs p limit each so stream unordered accepted =
+      let index : ℕ = index_for_tsn p.tsn runs in
+      let before : List ChunkPayloadData = run_before runs index in
+      let after : List ChunkPayloadData = run_at runs index in
+      put_between_each (joins_before before p) (joins_after after p) runs index (joined_run before p after) each
+      (joined_run_each p so stream before after limit unordered accepted (run_before_each runs index each)
+      (run_at_each runs index each))
+
   unordered_put_each : (runs : List (List ChunkPayloadData)) (messages : List ReceivedMessage) (p : ChunkPayloadData)
       (limit : ℕ) → EachRun runs → EachMessage messages → P p → p.stream_identifier ≡ id → p.unordered ≡ true
       → refusal_of_unordered runs p limit ≡ None → HoldsUnordered (unordered_put runs messages p)
   unordered_put_each runs messages p limit each made so stream unordered accepted =
-      let index : ℕ = index_for_tsn p.tsn runs in
-      let before : List ChunkPayloadData = run_before runs index in
-      let after : List ChunkPayloadData = run_at runs index in
-      finished_each (with_unordered runs index p).0 (with_unordered runs index p).1 messages
-      (put_between_each (joins_before before p) (joins_after after p) runs index (joined_run before p after) each
-      (joined_run_each p so stream before after limit unordered accepted (run_before_each runs index each)
-      (run_at_each runs index each)))
-      made
+      let put = with_unordered runs (index_for_tsn p.tsn runs) p in
+      finished_each put.0 put.1 messages (with_unordered_each runs p limit each so stream unordered accepted) made
 
   -- by whether the piece is unordered, and whether it is of a message before the next one
 

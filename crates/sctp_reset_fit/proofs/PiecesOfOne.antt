@@ -16,8 +16,8 @@ use Rattle.sctp_receive_queues.specs.Pieces.{begins, breaks_ends, contradicts, d
 use Rattle.sctp_receive_queues.specs.Pieces.{has_tsn, index_of, is_last}
 use Rattle.sctp_receive_queues.specs.Reassembly.{tears}
 use Rattle.sctp_resets.proofs.ListsOver.{all_appended, all_filtered, all_inserted, of_chosen}
-use Rattle.sctp_sides.specs.Held.{ArePiecesOf, HasOrder, IsPieceOf, NoneBegins, NoneEnds, OnlyTheFirstBegins}
-use Rattle.sctp_sides.specs.Held.{OnlyTheLastEnds, Order}
+use Rattle.sctp_reset_fit.specs.Pieces.{ArePiecesOf, HasOrder, IsPieceOf, NoneBegins, NoneEnds, OnlyTheFirstBegins}
+use Rattle.sctp_reset_fit.specs.Pieces.{OnlyTheLastEnds, Order}
 
 -- what is not refused does not do what it would be refused for
 pub unrefused : {X : Type 0} (b : Bool) (fault : X) (other : Option X) → (if b then Some fault else other) ≡ None
@@ -197,7 +197,8 @@ module _ (P : ChunkPayloadData → Type 0) (id : ℕ) (order : Order) where
       λ (more : 0 < index). sym (cond-false (index == 0) (begins ps) p.beginning_fragment
       (ne_eqb index 0 (λ (same : index ≡ 0). omega (arith, same, more)))) ∙ whole.0 in
       let at_end : (index ≡ length ps → ends ps ≡ false) =
-      λ (same : index ≡ length ps). sym (cond-true (index == length ps) _ _ (eq-eqb index (length ps) same)) ∙ whole.1 in
+      λ (same : index ≡ length ps). sym (cond-true (index == length ps) _ _ (eq-eqb index (length ps) same)) ∙ whole.1
+      in
       let before_end : (index < length ps → p.ending_fragment ≡ false) =
       λ (less : index < length ps). sym (cond-false (index == length ps) (ends ps) p.ending_fragment
       (ne_eqb index (length ps) (λ (same : index ≡ length ps). omega (arith, same, less)))) ∙ whole.1 in

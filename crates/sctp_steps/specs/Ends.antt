@@ -3,8 +3,8 @@ use Rattle.std.specs.Prelude.{◌≡◌, ℕ, List, ◌⊎◌, Result, Ok, Err, 
 use Rattle.sctp_wire_types.specs.declared.error.Error.{Error}
 use Rattle.sctp_wire_types.specs.declared.error.Error.TheVariants as errors
 use Rattle.sctp_assoc.specs.Shown.{Shown}
-use Rattle.sctp_pair.specs.declared.step.Side2.{Side2}
-use Rattle.sctp_pair.specs.declared.step.Side2.TheVariants as sides
+use Rattle.sctp_steps.specs.declared.step.Side2.{Side2}
+use Rattle.sctp_steps.specs.declared.step.Side2.TheVariants as sides
 
 pub record Ends : Type 0 where
   pub a : Shown

@@ -1,0 +1,78 @@
+-- What a read answers across resets was not read before.
+use Rattle.std.proofs.Common.{◌≡◌, refl, subst, ℕ, ◌+◌, ◌≤◌, List, [], ◌∷◌, ◌++◌, Option, Some, None, arith}
+use Rattle.std.specs.Prelude.{IfOk, Result, Ok, Err}
+use Rattle.std.proofs.lemmas.Bool.{eq-eqb}
+use Rattle.sctp_wire_types.specs.declared.chunk.ChunkPayloadData.{ChunkPayloadData}
+use Rattle.sctp_receive_queues.specs.Messages.{ReceivedMessage}
+use Rattle.sctp_courses.specs.Course.{Told, offsets_told, times}
+use Rattle.sctp_courses.proofs.Counts.{times_told}
+use Rattle.sctp_course_sides.specs.Turns.{Grows}
+use Rattle.sctp_assoc.specs.declared.call.Reply.{Reply}
+use Rattle.sctp_assoc.specs.declared.call.Reply.TheVariants as replies
+use Rattle.sctp_steps.specs.declared.step.Side2.TheVariants as sides
+use Rattle.sctp_assoc.specs.Shown.{Shown}
+use Rattle.sctp_steps.specs.declared.step.Step.{Step}
+use Rattle.sctp_steps.specs.declared.step.Step.TheVariants as steps
+use Rattle.sctp_steps.specs.Ends.{Ends}
+use Rattle.sctp_steps.specs.Seen.{message_read}
+use Rattle.sctp_boundaries.specs.Between.{Courses, IsGivenOut, StandBetween}
+use Rattle.sctp_boundaries.specs.Laws.{StepKeepsBoundaries}
+use Rattle.pair_callers.specs.Resetting.{IsAnew, PartsOnceMore, ReadsAnew}
+
+-- what was read last counts beside what was read before
+last_told : (o : ℕ) (before : List Told) (t : Told) → times o (offsets_told (before ++ t ∷ [])) ≤ 1
+    → times o (offsets_told before) + times o t.offsets ≤ 1
+last_told o before t few = let e = times_told o before t in omega arith
+
+pub reads_anew : (id : ℕ) (p q : Ends) (r : Reply) → StepKeepsBoundaries (steps.Read sides.B id) p r q
+    → ReadsAnew id p r
+reads_anew id p q (replies.Read (Some message)) keeps =
+    λ (own_a own_b : ℕ) (w : Courses) (s : StandBetween own_a own_b id p w).
+    (let l = keeps own_a own_b id w tt s in
+    let same : message_read (steps.Read sides.B id) (replies.Read (Some message)) sides.B id ≡ Some message =
+    rw (eq-eqb id id refl) refl in
+    let grows : Grows (IsGivenOut p.packets_a) own_a id (Some message) p.b w.ab.told l.after.ab.told =
+    subst (λ (m : Option ReceivedMessage). Grows (IsGivenOut p.packets_a) own_a id m p.b w.ab.told l.after.ab.told)
+    same l.ab_read in
+    record {
+      offsets = grows.offsets;
+      made = grows.made;
+      anew = λ o.
+          last_told o w.ab.told _
+          (subst (λ (ts : List Told). times o (offsets_told ts) ≤ 1) grows.is (l.ab_keeps.once o));
+    })
+reads_anew id p q (replies.Read None) keeps = tt
+reads_anew id p q r keeps = tt
+
+-- where nothing is read what was read stays
+nothing_grows : (P : ChunkPayloadData → Type 0) (initial id : ℕ) (m : Option ReceivedMessage) (a : Shown)
+    (before after : List Told) → m ≡ None → Grows P initial id m a before after → after ≡ before
+nothing_grows P initial id None a before after e grows = grows
+nothing_grows P initial id (Some message) a before after e grows = absurd cc
+
+pub parts_once_more : (step : Step) (p : Ends) (r : Reply) (q : Ends) → StepKeepsBoundaries step p r q
+    → PartsOnceMore step p r q
+parts_once_more step p r q keeps own_a own_b id w named s =
+    let l = keeps own_a own_b id w named s in (
+      l.after,
+      record {
+        ab_goes = l.ab_goes;
+        ba_goes = l.ba_goes;
+        ab_grows = l.ab_grows;
+        ba_grows = l.ba_grows;
+        ab_parted = l.ab_keeps.divides;
+        ba_parted = l.ba_keeps.divides;
+        ab_stays = λ none. nothing_grows (IsGivenOut p.packets_a) own_a id _ p.b w.ab.told l.after.ab.told none
+            l.ab_read;
+        ba_stays = λ none. nothing_grows (IsGivenOut p.packets_b) own_b id _ p.a w.ba.told l.after.ba.told none
+            l.ba_read;
+        ab_performed = l.ab_performed;
+        ba_performed = l.ba_performed;
+        stands = l.stand;
+      },
+    )
+
+pub if_both_ok : {A E : Type 0} (r : Result A E) (P Q S : A → Type 0) → IfOk r P → IfOk r Q
+    → ((a : A) → P a → Q a → S a) → IfOk r S
+if_both_ok (Ok a) P Q S h k f = f a h k
+if_both_ok (Err e) P Q S h k f = h

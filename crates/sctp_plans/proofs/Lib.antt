@@ -1,0 +1,3 @@
+pub mod RestsOfMessages
+pub mod Proved
+pub mod GrownPlans
