@@ -1,0 +1,10 @@
+pub mod ClosedStreams
+pub mod ClosedInResets
+pub mod ClosedInReads
+pub mod ClosedSteps
+pub mod ClosedInSending
+pub mod ClosedInData
+pub mod ClosedInChunks
+pub mod ClosedInPolls
+pub mod ClosedByCalls
+pub mod ClosedOverCalls
