@@ -1,282 +1,498 @@
-/* Mutated datagrams into an established end. None may crash it, none that is left may change it, and none may close it
- * without an event that says so and a chunk that is a named cause.
+/* Mutated datagrams into live pairs, which shake hands, write, reset streams and shut down over a network that loses,
+ * repeats and reorders.
  *
- *   mutated [COUNT [SEED]]     100,000 datagrams if nothing is said */
-#include "support.h"
+ *   mutated [COUNT [SEED]]     100,000 mutants and the seed 1 if nothing is said
+ *
+ * No mutant crashes an end, and what is refused changes nothing: that is so of all whose checksum is wrong, about half.
+ * - A pair that gets only such mutants is not lost before its shutdown. What is read was written, whole, once, and in
+ *   order on ordered streams. In the end all is read that was written on reliable streams, and both ends shut down.
+ * - A mutant whose checksum was made right is forged. An end that it closes tells so by an event with a reason, and the
+ *   datagram has a chunk that is a named cause. An end that took none itself still reads only what was written, once.
+ * - Memory is bounded by what lives: in a pair without forged datagrams by the same bound however many mutants came,
+ *   else by what the forged ones that were taken may leave. Nothing is left of a pair that was freed. */
+#include "mutations.h"
 
-#define MAX_LENGTH 4096
-#define MAX_CORPUS 200
-#define PER_PAIR 400
-#define STREAM 9
-#define MESSAGES 4
+#define MOST_ON_WAY 64
+#define MOST_RECENT 64
+#define MOST_MESSAGES 4096
+#define MOST_WAITING 40000 /* bytes that an end has accepted and that are not acknowledged .. */
+#define MOST_UNREAD 40     /* .. and its messages on reliable streams that are not read, if another is written */
+#define MOST_FORGED 400    /* mutants for a pair that gets forged ones */
+#define LIVE_BYTES 600000  /* of both ends, with what may wait and be on the way */
+#define QUIET_BYTES 150000 /* of both ends, once all is read and acknowledged */
+#define CHUNK_BYTES 300    /* what is kept of a chunk beside the bytes of its datagram, at most */
+#define PLACE_BYTES 800    /* of a stream */
+#define LIFETIME_MS 50
 
-struct datagram {
+/* A stream of each kind for each writer: 2 * kind + writer. */
+enum kind { ORDERED, UNORDERED, TIMED, CHANNEL, KINDS };
+
+struct message {
+    enum kind kind;
+    uint32_t place; /* among those of its stream */
     size_t length;
-    uint8_t bytes[MAX_LENGTH];
+    bool was_read;
 };
 
-static const size_t sizes[MESSAGES] = {1, 1200, 4000, 50};
 static const uint32_t tags[2] = {1, 2};
-static struct datagram corpus[2][MAX_CORPUS]; /* what each end gets */
-static size_t corpus_length[2];
 static sctp_assoc ends[2];
-static uint32_t unsent_tsn; /* after the last that the end under test sent */
-static uint64_t now, random_state, closed_count, taken_count;
-static uint8_t bytes[65536];
+static uint64_t now;
+static uint8_t bytes[SCTP_ASSOC_MAX_DATAGRAM], wanted[65536];
 
-static uint32_t pick(uint32_t limit) {
-    random_state ^= random_state << 13;
-    random_state ^= random_state >> 7;
-    random_state ^= random_state << 17;
-    return (uint32_t)(random_state >> 16) % limit;
-}
+/* Of the pair, by end or by writer. */
+static bool is_forged[2], is_lost[2], is_channel_open[2], is_ending;
+static uint32_t lost_reason[2];
+static uint32_t unsent_tsn[2]; /* after the last that the end sent */
+static uint64_t taken_bytes[2], read_bytes[2], allowed_bytes;
+static uint16_t place_counts[2][256]; /* of each page of streams, which may have been made by forged DATA */
+static struct message written[2][MOST_MESSAGES];
+static uint32_t written_count[2], unread_count[2], places[2][KINDS], next_place[2][KINDS];
+static size_t most_length;
 
-/* ---- Fields of a packet, all in network byte order but the checksum ---- */
+/* The network: what is on the way to each end, and after it room; and what was sent to each, in this pair or before. */
+static struct datagram pool[2][MOST_ON_WAY], *on_way[2][MOST_ON_WAY], recent[2][MOST_RECENT];
+static size_t on_way_count[2], recent_count[2];
+static uint64_t pairs, pair_of[2][MOST_RECENT];
+static bool is_smooth; /* nothing is lost, repeated or reordered */
 
-static uint32_t get(const uint8_t *at, int width) {
-    uint32_t value = 0;
-    for (int i = 0; i < width; i++)
-        value = value << 8 | at[i];
-    return value;
-}
+static uint64_t mutants, sealed, taken, closed, most_plain, most_quiet;
 
-static void put(uint8_t *at, int width, uint32_t value) {
-    for (int i = 0; i < width; i++)
-        at[i] = (uint8_t)(value >> 8 * (width - 1 - i));
-}
+/* ---- What is read ---- */
 
-/* ---- What each end gets in a session without a mutation, and chunks that no session of ours has ---- */
-
-static void keep(int end, const uint8_t *datagram, size_t length) {
-    CHECK(corpus_length[end] < MAX_CORPUS && length <= MAX_LENGTH);
-    struct datagram *kept = &corpus[end][corpus_length[end]++];
-    kept->length = length;
-    memcpy(kept->bytes, datagram, length);
-}
-
-/* Hands over what `from` has to send, but for the first `lost` datagrams. */
-static void record(int from, int lost) {
-    size_t length;
-    uint32_t fate;
-    while (done(sctp_assoc_poll_transmit(&ends[from], now, bytes, MAX_LENGTH, &length))) {
-        keep(!from, bytes, length);
-        if (lost-- <= 0)
-            CHECK(done(sctp_assoc_handle_datagram(&ends[!from], now, bytes, length, &fate)));
-    }
-}
-
-static void keep_chunk(int end, uint8_t kind, size_t value_length) {
-    struct datagram packet = {.length = 12 + 4 + value_length};
-    put(packet.bytes, 2, 5000);
-    put(packet.bytes + 2, 2, 5000);
-    put(packet.bytes + 4, 4, tags[end]);
-    packet.bytes[12] = kind;
-    put(packet.bytes + 14, 2, (uint32_t)(4 + value_length));
-    for (size_t i = 0; i < value_length; i++)
-        packet.bytes[16 + i] = (uint8_t)i;
-    seal(packet.bytes, packet.length);
-    keep(end, packet.bytes, packet.length);
-}
-
-static void begin(int end) {
-    sctp_assoc_config config = default_config();
-    sctp_assoc_identity named = identity(tags[end]);
-    CHECK(done((end == 0 ? sctp_assoc_client : sctp_assoc_server)(&ends[end], &config, PAYLOAD_SIZE, &named, now)));
-}
-
-static void write_all(int end) {
-    CHECK(done(sctp_assoc_open_stream(&ends[end], (uint16_t)(STREAM + end), SCTP_ASSOC_PPID_BINARY)));
-    for (uint32_t i = 0; i < MESSAGES; i++) {
-        fill(bytes, sizes[i], i);
-        CHECK(done(sctp_assoc_write(&ends[end], (uint16_t)(STREAM + end), 53, bytes, sizes[i])));
-    }
-}
-
-static void make_corpus(void) {
-    begin(0);
-    begin(1);
-    for (int i = 0; i < 2; i++)
-        for (int end = 0; end < 2; end++)
-            record(end, 0);
-    for (int end = 0; end < 2; end++)
-        write_all(end);
-    for (int i = 0; i < 40; i++) {
-        for (int end = 0; end < 2; end++)
-            record(end, i == 0 ? 2 : 0);
-        now += 100 * MS;
-        for (int end = 0; end < 2; end++)
-            CHECK(done(sctp_assoc_handle_timeout(&ends[end], now)));
-    }
-    for (int end = 0; end < 2; end++) /* so that each gets SHUTDOWN and SHUTDOWN ACK */
-        CHECK(done(sctp_assoc_shutdown(&ends[end])));
-    for (int i = 0; i < 2; i++)
-        for (int end = 0; end < 2; end++)
-            record(end, 0);
-    static const uint8_t kinds[] = {4, 5, 6, 7, 8, 9, 12, 13, 14, 15, 64, 128, 130, 192, 193, 194};
-    for (int end = 0; end < 2; end++)
-        for (size_t i = 0; i < sizeof kinds; i++)
-            keep_chunk(end, kinds[i], i % 3 * 8);
-    free_both(ends);
-}
-
-/* ---- Mutations ---- */
-
-static void append(struct datagram *packet, const uint8_t *more, size_t length) {
-    if (packet->length + length <= MAX_LENGTH) {
-        memcpy(packet->bytes + packet->length, more, length);
-        packet->length += length;
-    }
-}
-
-static void mutate_once(struct datagram *packet, int end) {
-    static const uint32_t numbers[] = {0, 1, 3, 4, 5, 16, 17, 0x7fff, 0x8000, 0xffff};
-    const struct datagram *other = &corpus[end][pick((uint32_t)corpus_length[end])];
-    uint8_t few[64];
-    uint32_t at = pick((uint32_t)packet->length);
-    switch (pick(9)) {
-    case 0:
-        packet->bytes[at] ^= (uint8_t)(1 << pick(8));
-        break;
-    case 1:
-        packet->bytes[at] = (uint8_t)pick(256);
-        break;
-    case 2:
-        if (at / 2 * 2 + 2 <= packet->length)
-            put(packet->bytes + at / 2 * 2, 2, numbers[pick(10)]);
-        break;
-    case 3:
-        packet->length = at;
-        break;
-    case 4:
-        for (size_t i = 0; i < sizeof few; i++)
-            few[i] = (uint8_t)pick(256);
-        append(packet, few, 1 + pick(64));
-        break;
-    case 5: /* the other's chunks after this one's */
-        while (packet->length % 4 != 0)
-            append(packet, (const uint8_t *)"", 1);
-        append(packet, other->bytes + 12, other->length - 12);
-        break;
-    case 6:
-        if (packet->length > 12)
-            packet->bytes[12] = (uint8_t)(pick(4) ? pick(16) : pick(256));
-        break;
-    case 7:
-        if (packet->length > 13)
-            packet->bytes[13] = (uint8_t)pick(8);
-        break;
-    default: /* a TSN beside the one that is there */
-        if (packet->length >= 20)
-            put(packet->bytes + 16, 4, get(packet->bytes + 16, 4) + pick(9) - 4);
-    }
-}
-
-static void make_mutant(struct datagram *packet, int end) {
-    *packet = corpus[end][pick((uint32_t)corpus_length[end])];
-    for (uint32_t i = pick(4); i > 0 && packet->length > 0; i--)
-        mutate_once(packet, end);
-    if (packet->length < 12)
+static void look_at(int reader, uint16_t stream, uint32_t type, size_t length) {
+    uint32_t number, writer = !reader;
+    read_bytes[reader] += length;
+    CHECK(read_bytes[reader] <= taken_bytes[reader]);
+    if (is_forged[reader])
         return;
-    if (pick(8) && packet->bytes[12] != 1)
-        put(packet->bytes + 4, 4, tags[end]);
-    if (pick(16))
-        seal(packet->bytes, packet->length);
+    memcpy(&number, bytes, sizeof number);
+    CHECK(length >= 4 && number < written_count[writer] && type == SCTP_ASSOC_PPID_BINARY);
+    struct message *message = &written[writer][number];
+    CHECK(stream == 2 * message->kind + writer && length == message->length && !message->was_read);
+    fill(wanted, length, number);
+    CHECK(memcmp(wanted, bytes, length) == 0);
+    message->was_read = true;
+    unread_count[writer] -= message->kind < TIMED;
+    if (message->kind == UNORDERED || is_forged[writer])
+        return;
+    CHECK(message->place >= next_place[writer][message->kind]);
+    CHECK(message->place == next_place[writer][message->kind] || message->kind != ORDERED);
+    next_place[writer][message->kind] = message->place + 1;
 }
 
-/* ---- What may come of one ---- */
-
-/* Where the chunk after this one begins. */
-static size_t next_chunk(const uint8_t *packet, size_t at) {
-    uint32_t length = get(packet + at + 2, 2);
-    return at + (length < 4 ? 4 : (length + 3) / 4 * 4);
-}
-
-static void note_sent(const uint8_t *packet, size_t length) {
-    for (size_t at = 12; at + 4 <= length; at = next_chunk(packet, at))
-        if (packet[at] == 0 && get(packet + at + 4, 4) >= unsent_tsn)
-            unsent_tsn = get(packet + at + 4, 4) + 1;
-}
-
-/* Whether a chunk is there that README.md names among what closes an association, or one that ends a shutdown. Of SACKs
- * without gap ack blocks those alone do that acknowledge what was not sent. */
-static bool has_cause(const struct datagram *packet, uint32_t first_tsn) {
-    for (size_t at = 12; at + 4 <= packet->length; at = next_chunk(packet->bytes, at)) {
-        const uint8_t *chunk = packet->bytes + at;
-        bool is_plain_sack = chunk[0] == 3 && at + 16 <= packet->length && get(chunk + 12, 2) == 0 &&
-                             get(chunk + 4, 4) - (first_tsn - 1) <= unsent_tsn - first_tsn;
-        if (!is_plain_sack && chunk[0] != 4 && chunk[0] != 7 && chunk[0] != 10 && chunk[0] != 11)
-            return true;
-    }
-    return false;
-}
-
-static uint64_t take_events(int end, uint32_t *lost_reason) {
-    sctp_assoc_event event;
+static void read_all(int end, uint16_t stream) {
     size_t length;
     uint32_t type;
+    sctp_assoc_code code;
+    while ((code = sctp_assoc_read(&ends[end], stream, bytes, sizeof bytes, &length, &type)) == SCTP_ASSOC_DONE)
+        look_at(end, stream, type, length);
+    CHECK(code == SCTP_ASSOC_NOTHING || code == SCTP_ASSOC_NO_STREAM || code == SCTP_ASSOC_STREAM_CLOSED);
+}
+
+static void check_reason(const sctp_assoc_event *event) {
+    uint32_t first = 0, last = 0;
+    if (event->kind == SCTP_ASSOC_EVENT_LOST)
+        first = SCTP_ASSOC_REASON_CLOSED, last = SCTP_ASSOC_REASON_BUFFER_EXHAUSTED;
+    if (event->kind == SCTP_ASSOC_EVENT_HANDSHAKE_FAILED)
+        first = SCTP_ASSOC_REASON_NO_INIT_ACK, last = SCTP_ASSOC_REASON_NO_COOKIE_ACK;
+    if (event->kind == SCTP_ASSOC_EVENT_RESET_FAILED)
+        first = SCTP_ASSOC_REASON_RESET_DENIED, last = SCTP_ASSOC_REASON_RESET_FAILED;
+    CHECK(first <= event->reason && event->reason <= last);
+    CHECK(event->kind >= SCTP_ASSOC_EVENT_CONNECTED && event->kind < SCTP_ASSOC_EVENT_OTHER);
+}
+
+/* Answers how many events there were. */
+static uint64_t take_events(int end) {
+    sctp_assoc_event event;
+    uint16_t opened;
     uint64_t count = 0;
     for (; done(sctp_assoc_poll_event(&ends[end], &event)); count++) {
+        check_reason(&event);
+        CHECK(!is_lost[end] || event.kind == SCTP_ASSOC_EVENT_HANDSHAKE_FAILED);
         if (event.kind == SCTP_ASSOC_EVENT_LOST)
-            *lost_reason = event.reason;
-        while (event.kind == SCTP_ASSOC_EVENT_READABLE &&
-               sctp_assoc_read(&ends[end], event.stream, bytes, sizeof bytes, &length, &type) == SCTP_ASSOC_DONE)
-            count++;
+            is_lost[end] = true, lost_reason[end] = event.reason;
+        if (event.kind == SCTP_ASSOC_EVENT_OPENED)
+            CHECK(done(sctp_assoc_accept_stream(&ends[end], &opened)));
+        if (event.kind == SCTP_ASSOC_EVENT_READABLE)
+            read_all(end, event.stream);
+        if (event.kind == SCTP_ASSOC_EVENT_RESET_COMPLETE && event.stream == 2 * CHANNEL + end)
+            is_channel_open[end] = false;
     }
     return count;
 }
 
-/* Takes events and messages and lets an end send, which may end a shutdown. Answers how much of each there was. */
-static uint64_t drain(int end, uint32_t *lost_reason) {
-    size_t length;
-    uint64_t count = take_events(end, lost_reason);
-    for (; done(sctp_assoc_poll_transmit(&ends[end], now, bytes, sizeof bytes, &length)); count++)
-        note_sent(bytes, length);
-    return count + take_events(end, lost_reason);
+/* ---- What is sent ---- */
+
+static void keep_recent(int to, const struct datagram *datagram) {
+    size_t place = recent_count[to] < MOST_RECENT ? recent_count[to]++ : pick(MOST_RECENT);
+    recent[to][place] = *datagram;
+    pair_of[to][place] = pairs;
 }
 
-/* Hands in mutants until the end closes, or there were enough. Answers how many. */
-static uint64_t try_end(int end, uint64_t limit) {
-    uint32_t first_tsn = identity(tags[end]).initial_tsn;
-    unsent_tsn = first_tsn;
-    static struct datagram mutant;
-    for (uint64_t i = 0; i < limit; i++) {
-        uint32_t fate, lost_reason = SCTP_ASSOC_REASON_NONE;
-        bool is_closed;
-        now += pick(4) ? 0 : pick(300) * MS;
-        CHECK(done(sctp_assoc_handle_timeout(&ends[end], now)));
-        drain(end, &lost_reason);
-        CHECK(lost_reason == SCTP_ASSOC_REASON_NONE);
-        make_mutant(&mutant, end);
-        CHECK(done(sctp_assoc_handle_datagram(&ends[end], now, mutant.bytes, mutant.length, &fate)));
-        uint64_t came = drain(end, &lost_reason);
-        CHECK(done(sctp_assoc_is_closed(&ends[end], &is_closed)));
-        CHECK(fate == SCTP_ASSOC_TAKEN || (came == 0 && !is_closed));
-        taken_count += fate == SCTP_ASSOC_TAKEN;
-        CHECK(is_closed == (lost_reason != SCTP_ASSOC_REASON_NONE));
-        if (is_closed) {
-            CHECK(lost_reason == SCTP_ASSOC_REASON_CLOSED || lost_reason == SCTP_ASSOC_REASON_BUFFER_EXHAUSTED);
-            CHECK(has_cause(&mutant, first_tsn));
-            closed_count++;
-            return i + 1;
-        }
+static void put_on_way(int to, const uint8_t *datagram, size_t length) {
+    if (length > MAX_LENGTH || on_way_count[to] == MOST_ON_WAY || (!is_smooth && pick(10) == 0))
+        return;
+    struct datagram *sent = on_way[to][on_way_count[to]++];
+    sent->length = length;
+    memcpy(sent->bytes, datagram, length);
+    keep_recent(to, sent);
+}
+
+static void note_sent(int from, size_t length) {
+    for (size_t at = 12; at + 8 <= length; at = next_chunk(bytes, at))
+        if (bytes[at] == 0 && get(bytes + at + 4, 4) >= unsent_tsn[from])
+            unsent_tsn[from] = get(bytes + at + 4, 4) + 1;
+}
+
+/* Takes events, reads and sends until there is nothing more. Answers how much there was. */
+static uint64_t drain(int end) {
+    size_t length;
+    uint64_t count = take_events(end);
+    for (; done(sctp_assoc_poll_transmit(&ends[end], now, bytes, sizeof bytes, &length)); count++) {
+        note_sent(end, length);
+        put_on_way(!end, bytes, length);
     }
-    return limit;
+    return count + take_events(end);
+}
+
+/* ---- What may come of a datagram ---- */
+
+struct view {
+    uint64_t blocks, bytes, due, rto;
+    sctp_assoc_totals totals;
+    bool is_due, is_established, is_closing, is_closed, is_drained, is_failed;
+};
+
+static void look(int end, struct view *view) {
+    sctp_assoc *slot = &ends[end];
+    memset(view, 0, sizeof *view);
+    view->blocks = blocks;
+    view->bytes = heap_bytes;
+    view->is_due = done(sctp_assoc_poll_timeout(slot, &view->due));
+    CHECK(done(sctp_assoc_rto(slot, &view->rto)) && done(sctp_assoc_stats(slot, &view->totals)));
+    CHECK(done(sctp_assoc_is_established(slot, &view->is_established)));
+    CHECK(done(sctp_assoc_is_closing(slot, &view->is_closing)) && done(sctp_assoc_is_closed(slot, &view->is_closed)));
+    CHECK(done(sctp_assoc_is_drained(slot, &view->is_drained)) && done(sctp_assoc_is_failed(slot, &view->is_failed)));
+    CHECK(!view->is_failed && view->is_drained == is_lost[end] && (view->is_closed || !view->is_drained));
+}
+
+/* What a forged datagram may leave behind: its bytes, something for each chunk, and the places of streams. */
+static void allow(int end, const struct datagram *forged) {
+    size_t at[MAX_CHUNKS + 1], count = find_chunks(forged, at);
+    allowed_bytes += forged->length + count * CHUNK_BYTES;
+    for (size_t k = 0; k < count; k++) {
+        if (forged->bytes[at[k]] != 0 || at[k] + 12 > forged->length)
+            continue;
+        uint32_t page = forged->bytes[at[k] + 8], needed = forged->bytes[at[k] + 9] + 1u;
+        if (needed <= place_counts[end][page])
+            continue;
+        allowed_bytes += (needed - place_counts[end][page]) * PLACE_BYTES;
+        place_counts[end][page] = (uint16_t)needed;
+    }
+}
+
+static void check_memory(void) {
+    CHECK(most_heap_bytes <= LIVE_BYTES + allowed_bytes);
+    if (allowed_bytes == 0 && most_heap_bytes > most_plain)
+        most_plain = most_heap_bytes;
+    most_heap_bytes = heap_bytes;
+}
+
+/* Whether a chunk is there by which this reason can come: one that may be a fault (docs/ARCHITECTURE.md, One datagram),
+ * or that ends a shutdown. Of SACKs without gap ack blocks only those are faults that acknowledge what was not sent. */
+static bool has_cause(int end, const struct datagram *packet, bool is_closing) {
+    uint32_t first_tsn = identity(tags[end]).initial_tsn;
+    bool has_any = false;
+    for (size_t at = 12; at + 4 <= packet->length; at = next_chunk(packet->bytes, at)) {
+        const uint8_t *chunk = packet->bytes + at;
+        uint8_t kind = chunk[0];
+        bool is_plain_sack = kind == 3 && at + 16 <= packet->length && get(chunk + 12, 2) == 0 &&
+                             get(chunk + 4, 4) - (first_tsn - 1) <= unsent_tsn[end] - first_tsn;
+        bool can_exhaust = kind == 0 || kind == 192 || kind == 194, ends_shutdown = kind == 8 || kind == 14;
+        bool is_no_fault = kind == 4 || kind == 7 || kind == 10 || kind == 11 || kind == 192 || kind == 194;
+        is_closing |= kind == 7;
+        if (lost_reason[end] == SCTP_ASSOC_REASON_BUFFER_EXHAUSTED)
+            has_any |= can_exhaust;
+        else
+            has_any |= !is_no_fault && !is_plain_sack && (!ends_shutdown || is_closing);
+    }
+    return has_any;
+}
+
+/* Hands a datagram to an end, which has nothing to tell, to send or to read. */
+static void hand_in(int end, const struct datagram *came, bool is_honest) {
+    struct view before, after;
+    bool was_lost = is_lost[end], is_right = is_sealed(came->bytes, came->length);
+    uint32_t fate;
+    look(end, &before);
+    CHECK(done(sctp_assoc_handle_datagram(&ends[end], now, came->bytes, came->length, &fate)));
+    CHECK((fate == SCTP_ASSOC_NO_PACKET) == !is_right);
+    CHECK(fate <= SCTP_ASSOC_REPEATED_INIT);
+    if (fate != SCTP_ASSOC_TAKEN || was_lost) {
+        look(end, &after);
+        CHECK(memcmp(&before, &after, sizeof before) == 0 && drain(end) == 0);
+        return;
+    }
+    taken++;
+    taken_bytes[end] += came->length;
+    is_forged[end] |= !is_honest;
+    if (!is_honest)
+        allow(end, came);
+    drain(end);
+    look(end, &after);
+    check_memory();
+    if (is_lost[end]) {
+        CHECK(has_cause(end, came, before.is_closing) && (is_ending || is_forged[0] || is_forged[1]));
+        closed++;
+    }
+}
+
+/* ---- What a pair does ---- */
+
+static void begin(int end, bool joins, const sctp_assoc_config *config) {
+    sctp_assoc_identity named = identity(tags[end]);
+    sctp_assoc_token tokens[2];
+    for (int k = 0; k < 2; k++)
+        sctp_assoc_make_token(config, tags[k], identity(tags[k]).initial_tsn, &tokens[k]);
+    if (joins)
+        CHECK(done(sctp_assoc_joined(&ends[end], config, PAYLOAD_SIZE, &tokens[end], &tokens[!end])));
+    else
+        CHECK(done((end == 0 ? sctp_assoc_client : sctp_assoc_server)(&ends[end], config, PAYLOAD_SIZE, &named, now)));
+    is_forged[end] = is_lost[end] = is_channel_open[end] = false;
+    unsent_tsn[end] = named.initial_tsn;
+    taken_bytes[end] = read_bytes[end] = 0;
+    written_count[end] = unread_count[end] = 0;
+    on_way_count[end] = 0;
+    memset(places[end], 0, sizeof places[end]);
+    memset(next_place[end], 0, sizeof next_place[end]);
+    memset(place_counts[end], 0, sizeof place_counts[end]);
+}
+
+static void begin_pair(void) {
+    sctp_assoc_config config = default_config();
+    bool joins = pick(4) == 0, is_small = pick(3) == 0;
+    if (is_small)
+        config.max_receive_buffer_size = 8000;
+    most_length = is_small ? 1500 : 20000;
+    is_ending = is_smooth = false;
+    allowed_bytes = most_heap_bytes = 0;
+    for (int end = 0; end < 2; end++)
+        begin(end, joins, &config);
+    for (int end = 0; end < 2; end++)
+        drain(end);
+}
+
+static bool is_plain(void) {
+    return !is_forged[0] && !is_forged[1];
+}
+
+/* A code that a call gives in a pair without forged datagrams, or one by which it refuses. */
+static bool is_done(sctp_assoc_code code) {
+    CHECK(code == SCTP_ASSOC_DONE || !is_plain() || is_ending);
+    CHECK(code == SCTP_ASSOC_DONE || (code >= SCTP_ASSOC_STREAM_EXISTS && code <= SCTP_ASSOC_EMPTY_MESSAGE));
+    return code == SCTP_ASSOC_DONE;
+}
+
+static bool can_write(int end) {
+    size_t sum = 0, buffered;
+    bool is_established;
+    CHECK(done(sctp_assoc_is_established(&ends[end], &is_established)));
+    for (int kind = 0; kind < KINDS; kind++)
+        if (sctp_assoc_buffered_amount(&ends[end], (uint16_t)(2 * kind + end), &buffered) == SCTP_ASSOC_DONE)
+            sum += buffered;
+    return is_established && sum < MOST_WAITING && unread_count[end] < MOST_UNREAD &&
+           written_count[end] < MOST_MESSAGES;
+}
+
+static void open_stream(int end, enum kind kind) {
+    uint16_t stream = (uint16_t)(2 * kind + end);
+    uint32_t policy = kind == TIMED ? SCTP_ASSOC_TIMED : SCTP_ASSOC_RELIABLE;
+    if (!is_done(sctp_assoc_open_stream(&ends[end], stream, SCTP_ASSOC_PPID_BINARY)))
+        return;
+    is_done(sctp_assoc_set_reliability(&ends[end], stream, kind == UNORDERED, policy, LIFETIME_MS));
+}
+
+static void write_one(int end) {
+    enum kind kind = (enum kind)pick(KINDS);
+    uint16_t stream = (uint16_t)(2 * kind + end);
+    size_t length = 4 + pick(pick(4) ? 60 : pick(4) ? 2400 : 20000);
+    uint32_t number = written_count[end];
+    if (!can_write(end) || (kind == CHANNEL && is_channel_open[end]))
+        return;
+    if (kind == CHANNEL || places[end][kind] == 0)
+        open_stream(end, kind);
+    if (length > most_length)
+        length = most_length;
+    fill(bytes, length, number);
+    if (!is_done(sctp_assoc_write(&ends[end], stream, SCTP_ASSOC_PPID_BINARY, bytes, length)))
+        return;
+    written[end][number] = (struct message){kind, places[end][kind]++, length, false};
+    written_count[end]++;
+    unread_count[end] += kind < TIMED;
+    if (kind == CHANNEL)
+        is_channel_open[end] = is_done(sctp_assoc_close_stream(&ends[end], stream));
+}
+
+static void expire(int end) {
+    bool was_lost = is_lost[end];
+    CHECK(done(sctp_assoc_handle_timeout(&ends[end], now)));
+    drain(end);
+    CHECK(is_lost[end] == was_lost);
+}
+
+static void deliver(int to) {
+    if (on_way_count[to] == 0)
+        return;
+    size_t k = is_smooth || pick(4) ? 0 : pick((uint32_t)on_way_count[to]);
+    struct datagram came = *on_way[to][k], *place = on_way[to][k];
+    if (is_smooth || pick(20)) {
+        on_way_count[to]--;
+        memmove(&on_way[to][k], &on_way[to][k + 1], (on_way_count[to] - k) * sizeof place);
+        on_way[to][on_way_count[to]] = place;
+    }
+    hand_in(to, &came, true);
+}
+
+/* ---- Mutants ---- */
+
+/* Whether it is one that was sent in this pair. */
+static bool was_sent(int to, const struct datagram *mutant) {
+    for (size_t k = 0; k < recent_count[to]; k++)
+        if (pair_of[to][k] == pairs && recent[to][k].length == mutant->length &&
+            memcmp(recent[to][k].bytes, mutant->bytes, mutant->length) == 0)
+            return true;
+    return false;
+}
+
+static void make_mutant(struct datagram *mutant, int to) {
+    *mutant = recent[to][pick((uint32_t)recent_count[to])];
+    for (uint32_t i = 1 + pick(4); i > 0; i--)
+        mutate_once(mutant, &recent[to][pick((uint32_t)recent_count[to])], unsent_tsn[pick(2)]);
+}
+
+/* One with the checksum that its datagram had, or with that of other bytes: it is wrong unless nothing changed. */
+static void hand_in_broken(int to) {
+    static struct datagram mutant;
+    make_mutant(&mutant, to);
+    if (mutant.length >= 12 && pick(4) == 0)
+        put(mutant.bytes + 8, 4, pick(UINT32_MAX));
+    mutants++;
+    if (is_sealed(mutant.bytes, mutant.length) && !was_sent(to, &mutant))
+        mutant.bytes[8] ^= 1;
+    hand_in(to, &mutant, true);
+}
+
+static void hand_in_forged(int to) {
+    static struct datagram mutant;
+    make_mutant(&mutant, to);
+    if (mutant.length < 12)
+        return;
+    if (pick(8))
+        put(mutant.bytes + 4, 4, mutant.bytes[12] == 1 ? 0 : tags[to]);
+    seal(mutant.bytes, mutant.length);
+    mutants++;
+    sealed++;
+    hand_in(to, &mutant, was_sent(to, &mutant));
+}
+
+/* Something of what a pair does, and a mutant after it. */
+static void turn(bool forges) {
+    now += pick(4) ? 0 : pick(40) * MS;
+    for (int end = 0; end < 2; end++) {
+        if (pick(2))
+            write_one(end);
+        expire(end);
+    }
+    deliver((int)pick(2));
+    int to = (int)pick(2);
+    if (recent_count[to] == 0)
+        return;
+    if (forges)
+        hand_in_forged(to);
+    else
+        hand_in_broken(to);
+}
+
+/* ---- Pairs ---- */
+
+/* Until nothing is on the way and no timer runs. */
+static void settle(void) {
+    for (int turns = 0; turns < 3000; turns++) {
+        uint64_t least = UINT64_MAX, due;
+        for (int end = 0; end < 2; end++)
+            while (on_way_count[end] > 0)
+                deliver(end);
+        if (on_way_count[0] + on_way_count[1] > 0)
+            continue;
+        for (int end = 0; end < 2; end++)
+            if (done(sctp_assoc_poll_timeout(&ends[end], &due)) && due < least)
+                least = due;
+        if (least == UINT64_MAX)
+            return;
+        now = least > now ? least : now;
+        expire(0);
+        expire(1);
+    }
+    CHECK(!"the pair comes to rest");
+}
+
+/* All is read that had to come, little memory is left, and a shutdown ends both. */
+static void end_plain(void) {
+    is_smooth = true;
+    settle();
+    CHECK(!is_lost[0] && !is_lost[1] && is_plain());
+    for (int end = 0; end < 2; end++)
+        for (uint32_t k = 0; k < written_count[end]; k++)
+            CHECK(written[end][k].was_read || written[end][k].kind >= TIMED);
+    CHECK(heap_bytes <= QUIET_BYTES);
+    if (heap_bytes > most_quiet)
+        most_quiet = heap_bytes;
+    is_ending = true;
+    int end = (int)pick(2);
+    CHECK(done(sctp_assoc_shutdown(&ends[end])));
+    drain(end);
+    settle();
+    CHECK(is_lost[0] && is_lost[1]);
+}
+
+static void live_plain(uint64_t count) {
+    begin_pair();
+    for (uint64_t first = mutants; mutants - first < count;)
+        turn(false);
+    end_plain();
+    free_both(ends);
+}
+
+static void live_forged(uint64_t count) {
+    begin_pair();
+    uint64_t beginning = pick(8) ? 0 : pick(MOST_FORGED); /* turns before a shutdown */
+    for (uint64_t i = 0, first = mutants; mutants - first < count && !is_lost[0] && !is_lost[1]; i++) {
+        turn(pick(16) != 0);
+        is_ending |= i == beginning && i > 0 && sctp_assoc_shutdown(&ends[pick(2)]) == SCTP_ASSOC_DONE;
+    }
+    for (int i = 0; i < 3; i++) /* an end that is lost stays as it is */
+        turn(true);
+    free_both(ends);
 }
 
 int main(int argc, char **argv) {
     uint64_t count = argc > 1 ? strtoull(argv[1], NULL, 10) : 100000;
     random_state = argc > 2 ? strtoull(argv[2], NULL, 10) : 1;
     CHECK(random_state != 0);
-    make_corpus();
-    for (uint64_t tried = 0, pairs = 0; tried < count; pairs++) {
-        int end = pairs % 2;
-        sctp_assoc_config config = default_config();
-        shake_hands(ends, &config, now);
-        write_all(end);
-        tried += try_end(end, count - tried < PER_PAIR ? count - tried : PER_PAIR);
-        free_both(ends);
+    for (int end = 0; end < 2; end++)
+        for (size_t k = 0; k < MOST_ON_WAY; k++)
+            on_way[end][k] = &pool[end][k];
+    for (; mutants < count; pairs++) {
+        uint64_t left = count - mutants;
+        if (2 * sealed < mutants)
+            live_forged(left < MOST_FORGED ? left : MOST_FORGED);
+        else
+            live_plain(left < 2000 ? left : 1 + pick(2000));
     }
-    printf("mutated: ok (%llu datagrams, %llu taken, %llu closed an end)\n", (unsigned long long)count,
-           (unsigned long long)taken_count, (unsigned long long)closed_count);
+    printf("mutated: ok (%llu mutants into %llu pairs, %llu sealed, %llu datagrams taken, %llu closed an end, at most "
+           "%llu bytes unforged, %llu at rest)\n",
+           (unsigned long long)mutants, (unsigned long long)pairs, (unsigned long long)sealed,
+           (unsigned long long)taken, (unsigned long long)closed, (unsigned long long)most_plain,
+           (unsigned long long)most_quiet);
     return 0;
 }

@@ -5,6 +5,7 @@
 #define SCTP_ASSOC_HEAP
 #include "sctp_assoc.h"
 
+#include <malloc.h>
 #include <stdint.h>
 #include <stdio.h>
 #include <stdlib.h>
@@ -26,29 +27,42 @@ static void failed(const char *file, int line, const char *stated) {
 static uint64_t growths;                   /* how often memory was asked for */
 static uint64_t refused_from, refused_to;  /* of these the first that is refused, and the first after it that is not */
 static uint64_t blocks;                    /* blocks that were not given back */
+static uint64_t heap_bytes;                /* their bytes */
+static uint64_t most_heap_bytes;           /* and the most of these at a time, since a test set it */
 
 static bool is_refused(void) {
     growths++;
     return growths >= refused_from && growths < refused_to;
 }
 
+/* What the library gets: a block in place of one of so many bytes, or a refusal. */
+static sctp_assoc_block given(void *at, size_t replaced) {
+    if (!at)
+        return (sctp_assoc_block){false, &growths};
+    heap_bytes = heap_bytes - replaced + malloc_usable_size(at);
+    if (heap_bytes > most_heap_bytes)
+        most_heap_bytes = heap_bytes;
+    return (sctp_assoc_block){true, at};
+}
+
 sctp_assoc_block rattle_alloc(size_t size, size_t align) {
     CHECK(align <= 16);
     void *at = is_refused() ? NULL : malloc(size ? size : 1);
     blocks += at != NULL;
-    return (sctp_assoc_block){at, at ? at : &growths};
+    return given(at, 0);
 }
 
 sctp_assoc_block rattle_realloc(void *old, size_t kept, size_t size, size_t align) {
     (void)kept;
     CHECK(align <= 16);
-    void *at = is_refused() ? NULL : realloc(old, size ? size : 1);
-    return (sctp_assoc_block){at, at ? at : &growths};
+    size_t replaced = malloc_usable_size(old);
+    return given(is_refused() ? NULL : realloc(old, size ? size : 1), replaced);
 }
 
 void rattle_dealloc(void *at) {
     CHECK(blocks > 0);
     blocks--;
+    heap_bytes -= malloc_usable_size(at);
     free(at);
 }
 
@@ -80,17 +94,30 @@ static inline void fill(uint8_t *message, size_t length, uint32_t number) {
         message[i] = (uint8_t)(i < 4 ? number >> (8 * i) : number * 31 + i * 7);
 }
 
-/* Writes the checksum of a packet: CRC32c over it, with a checksum of 0 (RFC 4960 appendix B). */
-static inline void seal(uint8_t *packet, size_t length) {
+/* The checksum of a packet: CRC32c over it, with a checksum of 0 (RFC 4960 appendix B). */
+static inline uint32_t sum_of(const uint8_t *packet, size_t length) {
     uint32_t sum = 0xffffffff;
-    memset(packet + 8, 0, 4);
     for (size_t i = 0; i < length; i++) {
-        sum ^= packet[i];
+        sum ^= i >= 8 && i < 12 ? 0 : packet[i];
         for (int bit = 0; bit < 8; bit++)
             sum = sum >> 1 ^ (sum & 1 ? 0x82f63b78 : 0);
     }
+    return ~sum;
+}
+
+/* Writes the checksum of a packet. */
+static inline void seal(uint8_t *packet, size_t length) {
+    uint32_t sum = sum_of(packet, length);
     for (int i = 0; i < 4; i++)
-        packet[8 + i] = (uint8_t)(~sum >> 8 * i);
+        packet[8 + i] = (uint8_t)(sum >> 8 * i);
+}
+
+static inline bool is_sealed(const uint8_t *packet, size_t length) {
+    if (length < 12)
+        return false;
+    uint32_t sum = sum_of(packet, length);
+    return packet[8] == (uint8_t)sum && packet[9] == (uint8_t)(sum >> 8) && packet[10] == (uint8_t)(sum >> 16) &&
+           packet[11] == sum >> 24;
 }
 
 /* Hands over all that `from` has to send at `now`. */
@@ -124,7 +151,7 @@ static inline void shake_hands(sctp_assoc ends[2], const sctp_assoc_config *conf
 static inline void free_both(sctp_assoc ends[2]) {
     for (int end = 0; end < 2; end++)
         CHECK(sctp_assoc_free(&ends[end]) == SCTP_ASSOC_DONE);
-    CHECK(blocks == 0);
+    CHECK(blocks == 0 && heap_bytes == 0);
 }
 
 #endif

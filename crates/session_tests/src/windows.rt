@@ -97,3 +97,42 @@ fn a_bundle_is_no_longer_than_the_greatest_packet(rt: HostRuntime) -> Result<(),
     assert_eq!(rt; shown.lengths.as_slice(), [1228].as_slice());
     Ok(())
 }
+
+/// Two pieces fill B's buffer of 2,000 bytes. The next message goes out as a probe, which B does not take in. Once B
+/// has read, its SACK opens the window, and the probe goes out again when its timer expires.
+static FULL: &str =
+    "send A 0\ndeliver B 0 0\ndeliver B 1 0\nsend B 0\ndeliver A 0 0\nwrite A 1 65\nsend A 0\ndeliver B 2 0\n\
+    read B 1\nread B 1\ntime B 200\nsend B 200\ndeliver A 1 200\ntime A 1000\nsend A 1000\ndeliver B 3 1000\n\
+    read B 1\n";
+
+static REPLIES_BEFORE_READING: &str =
+    "ok\nwrote 2000\npackets 0 2\nok\nok\npackets 0 1\nok\nwrote 1\npackets 2 1\nok\nmessage 53 ";
+
+static REPLIES_BEHIND_READING: &str =
+    "\nnone\nok\npackets 1 1\nok\nok\npackets 3 1\nok\nmessage 53 65\n";
+
+fn replies_of_full(alloc: Global) -> Result<String, Error> {
+    let mut replies = String::new(alloc);
+    replies.push_str(REPLIES_BEFORE_READING)?;
+    for _ in 0..2000_u16 {
+        replies.push_str("ab")?;
+    }
+    replies.push_str(REPLIES_BEHIND_READING)?;
+    Ok(replies)
+}
+
+fn filled(alloc: Global) -> Result<Shown, Error> {
+    let config = TransportConfig::default().with_max_receive_buffer_size(2000);
+    let text = written(alloc, 2000, FULL)?;
+    let steps = steps_of(alloc, text.as_str())?;
+    ran(alloc, &config, steps.as_slice())
+}
+
+#[test]
+fn a_probe_of_a_full_buffer_comes_once_there_is_room(rt: HostRuntime) -> Result<(), Fail> {
+    let shown = filled(rt.alloc())?;
+    let replies = replies_of_full(rt.alloc())?;
+    assert_eq!(rt; shown.replies.as_str(), replies.as_str());
+    assert_eq!(rt; (shown.b.counts[0], shown.b.peer_last_tsn), (4, 102));
+    Ok(())
+}
