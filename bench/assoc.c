@@ -5,7 +5,7 @@
  *   assoc CASE COUNT SIZE     streams, unread or in_flight: a message with little there, and with much
  *   assoc CASE COUNT SIZE     expired: COUNT ordered messages, whose lifetimes end in one poll
  *
- * Its clock goes on by 10 ms if both ends are idle. */
+ * Its clock goes on by 10 ms if both ends are idle. LOSS_SEED=2, 3 and so on loses other datagrams. */
 #define SCTP_ASSOC_HEAP
 #include "bench.h"
 #include "sctp_assoc.h"
@@ -333,6 +333,7 @@ int main(int argc, char **argv) {
     }
     struct measure m = {.stack = "sctp_assoc", .name = argv[1], .size = strtoull(argv[3], NULL, 10)};
     m.messages = strtoull(argv[2], NULL, 10);
+    seed_losses();
     done(sctp_assoc_default_config(&config));
     message = calloc(1, m.size > PAYLOAD_SIZE ? m.size : PAYLOAD_SIZE);
     if (!message)

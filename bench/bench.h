@@ -38,11 +38,18 @@ struct measure {
 static struct datagram *spare;
 static uint64_t datagrams_sent, datagrams_lost;
 static uint32_t lost_per_million;
-static uint32_t random_state = 1;
+static uint32_t random_state = 1; /* of the draws of what is lost */
 
 static void fail(const char *what) {
     fprintf(stderr, "bench: %s\n", what);
     exit(1);
+}
+
+/* LOSS_SEED in the environment, a number from 1 on, begins other draws of what is lost; 1 is the seed without it. */
+static void seed_losses(void) {
+    const char *seed = getenv("LOSS_SEED");
+    if (seed && !(random_state = (uint32_t)strtoul(seed, NULL, 10)))
+        fail("LOSS_SEED is no number from 1 on");
 }
 
 static uint32_t next_random(void) {

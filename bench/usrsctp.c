@@ -2,7 +2,8 @@
  *
  *   usrsctp CASE COUNT SIZE     small, packet, large, unordered, lossy, handshake or memory
  *
- * Its clock is the benchmark's: it goes on by 10 ms if both ends are idle. */
+ * Its clock is the benchmark's: it goes on by 10 ms if both ends are idle. LOSS_SEED=2, 3 and so on loses other
+ * datagrams. */
 #define _GNU_SOURCE
 #include "bench.h"
 
@@ -243,6 +244,7 @@ int main(int argc, char **argv) {
     }
     struct measure m = {.stack = "usrsctp", .name = argv[1], .size = strtoull(argv[3], NULL, 10)};
     m.messages = strtoull(argv[2], NULL, 10);
+    seed_losses();
     usrsctp_init_nothreads(0, on_packet, quiet);
     usrsctp_sysctl_set_sctp_ecn_enable(0);
     usrsctp_sysctl_set_sctp_blackhole(0);
