@@ -1,6 +1,6 @@
 //! Two ends in memory, and a clock of the test's own.
 #![allow(dead_code)] // each test uses a part of it
-use sctp_assoc::{Association, Config, Error, Event, Identity};
+use sctp_assoc::{Association, Config, Counters, Error, Event, Identity};
 use std::time::{Duration, Instant};
 
 pub struct Link {
@@ -10,6 +10,14 @@ pub struct Link {
 
 pub fn identity(number: u8) -> Identity {
     Identity { tag: number.into(), initial_tsn: 100 * u32::from(number), cookie: [number; 32] }
+}
+
+/// The counters of a stream by its messages and their bytes, those sent and those received.
+pub fn counters(sent: (u64, u64), received: (u64, u64)) -> Counters {
+    let mut counters = Counters::default();
+    (counters.messages_sent, counters.bytes_sent) = sent;
+    (counters.messages_received, counters.bytes_received) = received;
+    counters
 }
 
 /// Hands over all that is due at `from`. Answers whether there was any.

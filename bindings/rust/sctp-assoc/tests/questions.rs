@@ -1,9 +1,9 @@
 //! What is counted, which streams there are, and the values of a stream that are asked and set.
 mod support;
 
-use sctp_assoc::{Config, Counters, Error, Event, PayloadType, Stream};
+use sctp_assoc::{Config, Error, Event, PayloadType, Stream};
 use std::time::Duration;
-use support::Link;
+use support::{counters, Link};
 
 fn events(link: &mut Link, end: usize) -> Result<Vec<Event>, Error> {
     std::iter::from_fn(|| link.ends[end].poll_event().transpose()).collect()
@@ -26,10 +26,8 @@ fn a_message_is_counted_and_passes_the_marks() -> Result<(), Error> {
     assert!(link.ends[1].stream(7).read_vec()?.is_some());
     assert_eq!(events(&mut link, 0)?, [Event::BufferedAmountLow { stream: 7 }]);
     assert_eq!(link.ends[0].rto(), Duration::from_secs(1));
-    let sent = Counters { messages_sent: 1, bytes_sent: 100, ..Counters::default() };
-    assert_eq!(link.ends[0].stream(7).stats()?, sent);
-    let received = Counters { messages_received: 1, bytes_received: 100, ..Counters::default() };
-    assert_eq!(link.ends[1].stream(7).stats()?, received);
+    assert_eq!(link.ends[0].stream(7).stats()?, counters((1, 100), (0, 0)));
+    assert_eq!(link.ends[1].stream(7).stats()?, counters((0, 0), (1, 100)));
     let (writer, reader) = (link.ends[0].stats(), link.ends[1].stats());
     assert_eq!((writer.data_chunks, writer.sacks, writer.retransmission_timeouts), (0, 1, 0));
     assert_eq!((reader.data_chunks, reader.sacks, reader.fast_retransmissions), (1, 0, 0));

@@ -1,4 +1,4 @@
-use crate::sys;
+use sctp_assoc_sys as sys;
 
 /// What whoever keeps several associations is to be told of one, by
 /// [`poll_endpoint_event`](crate::Association::poll_endpoint_event).
@@ -107,6 +107,7 @@ pub enum Reason {
 /// Messages and bytes of a stream under the payload types of WebRTC application data (51, 53, 56 and 57) alone. A
 /// number that reaches `u64::MAX` stays there.
 #[derive(Clone, Copy, Debug, Default, PartialEq, Eq)]
+#[non_exhaustive]
 pub struct Counters {
     /// Messages that were accepted for sending.
     pub messages_sent: u64,
@@ -119,21 +120,21 @@ pub struct Counters {
 }
 
 impl Event {
-    pub(crate) fn of(told: &sys::Event) -> Event {
+    pub(crate) fn of(told: &sys::sctp_assoc_event) -> Event {
         let stream = told.stream;
         match told.kind {
-            1 => Event::Connected,
-            2 => Event::HandshakeFailed { reason: Reason::of(told.reason) },
-            3 => Event::Lost { reason: Reason::of(told.reason) },
-            4 => Event::DatagramReceived,
-            5 => Event::StreamEnded { stream, counters: Counters::of(&told.counters) },
-            6 => Event::Opened { stream },
-            7 => Event::Readable { stream },
-            8 => Event::BufferedAmountLow { stream },
-            9 => Event::BufferedAmountHigh { stream },
-            10 => Event::Finished { stream },
-            11 => Event::ResetComplete { stream },
-            12 => Event::ResetFailed { stream, reason: Reason::of(told.reason) },
+            sys::SCTP_ASSOC_EVENT_CONNECTED => Event::Connected,
+            sys::SCTP_ASSOC_EVENT_HANDSHAKE_FAILED => Event::HandshakeFailed { reason: Reason::of(told.reason) },
+            sys::SCTP_ASSOC_EVENT_LOST => Event::Lost { reason: Reason::of(told.reason) },
+            sys::SCTP_ASSOC_EVENT_DATAGRAM_RECEIVED => Event::DatagramReceived,
+            sys::SCTP_ASSOC_EVENT_STREAM_ENDED => Event::StreamEnded { stream, counters: Counters::of(&told.counters) },
+            sys::SCTP_ASSOC_EVENT_OPENED => Event::Opened { stream },
+            sys::SCTP_ASSOC_EVENT_READABLE => Event::Readable { stream },
+            sys::SCTP_ASSOC_EVENT_BUFFERED_LOW => Event::BufferedAmountLow { stream },
+            sys::SCTP_ASSOC_EVENT_BUFFERED_HIGH => Event::BufferedAmountHigh { stream },
+            sys::SCTP_ASSOC_EVENT_FINISHED => Event::Finished { stream },
+            sys::SCTP_ASSOC_EVENT_RESET_COMPLETE => Event::ResetComplete { stream },
+            sys::SCTP_ASSOC_EVENT_RESET_FAILED => Event::ResetFailed { stream, reason: Reason::of(told.reason) },
             kind => Event::Other { kind, stream },
         }
     }
@@ -142,19 +143,19 @@ impl Event {
 impl Reason {
     fn of(number: u32) -> Reason {
         match number {
-            1 => Reason::NoInitAck,
-            2 => Reason::NoCookieAck,
-            3 => Reason::Closed,
-            4 => Reason::BufferExhausted,
-            6 => Reason::ResetDenied,
-            7 => Reason::ResetFailed,
+            sys::SCTP_ASSOC_REASON_NO_INIT_ACK => Reason::NoInitAck,
+            sys::SCTP_ASSOC_REASON_NO_COOKIE_ACK => Reason::NoCookieAck,
+            sys::SCTP_ASSOC_REASON_CLOSED => Reason::Closed,
+            sys::SCTP_ASSOC_REASON_BUFFER_EXHAUSTED => Reason::BufferExhausted,
+            sys::SCTP_ASSOC_REASON_RESET_DENIED => Reason::ResetDenied,
+            sys::SCTP_ASSOC_REASON_RESET_FAILED => Reason::ResetFailed,
             _ => Reason::Other,
         }
     }
 }
 
 impl Counters {
-    pub(crate) fn of(told: &sys::Counters) -> Counters {
+    pub(crate) fn of(told: &sys::sctp_assoc_counters) -> Counters {
         Counters {
             messages_sent: told.messages_sent,
             bytes_sent: told.bytes_sent,

@@ -1,8 +1,11 @@
-use crate::sys;
+use crate::slot;
+use sctp_assoc_sys as sys;
 use std::time::Duration;
 
-/// Limits and timeouts of an association. `Config::default()` has the values named below.
+/// Limits and timeouts of an association. `Config::default()` has the values named below; set the fields that are to
+/// have others.
 #[derive(Clone, Debug, PartialEq, Eq)]
+#[non_exhaustive]
 pub struct Config {
     /// Greatest payload of one DATA chunk, 1 to 65,519 bytes; 1172, which fits links of 1280 bytes below UDP and IPv6.
     /// A datagram with DATA has up to 28 bytes more, and up to 3 besides if this is no multiple of 4.
@@ -37,9 +40,7 @@ pub struct Config {
 
 impl Default for Config {
     fn default() -> Config {
-        let mut raw = sys::Config::default();
-        // SAFETY: it writes a configuration to the place it gets.
-        unsafe { sys::sctp_assoc_default_config(&mut raw) };
+        let raw = slot::default_config();
         Config {
             max_payload_size: 1172,
             max_receive_buffer_size: raw.max_receive_buffer_size,
@@ -59,8 +60,8 @@ impl Default for Config {
 }
 
 impl Config {
-    pub(crate) fn raw(&self) -> sys::Config {
-        sys::Config {
+    pub(crate) fn raw(&self) -> sys::sctp_assoc_config {
+        sys::sctp_assoc_config {
             max_receive_buffer_size: self.max_receive_buffer_size,
             max_send_message_size: self.max_send_message_size,
             max_receive_message_size: self.max_receive_message_size,
@@ -71,14 +72,14 @@ impl Config {
             rto_initial_ms: millis(self.rto_initial),
             rto_min_ms: millis(self.rto_min),
             rto_max_ms: millis(self.rto_max),
-            max_init_retransmits: self.max_init_retransmits.unwrap_or(sys::NO_LIMIT),
-            max_data_retransmits: self.max_data_retransmits.unwrap_or(sys::NO_LIMIT),
+            max_init_retransmits: self.max_init_retransmits.unwrap_or(sys::SCTP_ASSOC_NO_LIMIT),
+            max_data_retransmits: self.max_data_retransmits.unwrap_or(sys::SCTP_ASSOC_NO_LIMIT),
         }
     }
 }
 
 fn limit(raw: usize) -> Option<usize> {
-    (raw != sys::NO_LIMIT).then_some(raw)
+    (raw != sys::SCTP_ASSOC_NO_LIMIT).then_some(raw)
 }
 
 fn millis(duration: Duration) -> u64 {
@@ -105,8 +106,8 @@ impl Identity {
         Identity { tag: word(0), initial_tsn: word(4), cookie }
     }
 
-    pub(crate) fn raw(&self) -> sys::Identity {
-        sys::Identity { tag: self.tag, initial_tsn: self.initial_tsn, cookie: self.cookie }
+    pub(crate) fn raw(&self) -> sys::sctp_assoc_identity {
+        sys::sctp_assoc_identity { tag: self.tag, initial_tsn: self.initial_tsn, cookie: self.cookie }
     }
 }
 
@@ -131,9 +132,7 @@ pub struct Token {
 impl Token {
     /// The token of a side with this configuration.
     pub fn new(config: &Config, tag: u32, initial_tsn: u32) -> Token {
-        let mut raw = sys::Token::default();
-        // SAFETY: it reads a configuration and writes a token to the places it gets.
-        unsafe { sys::sctp_assoc_make_token(&config.raw(), tag, initial_tsn, &mut raw) };
+        let raw = slot::make_token(&config.raw(), tag, initial_tsn);
         Token {
             tag: raw.tag,
             initial_tsn: raw.initial_tsn,
@@ -144,8 +143,8 @@ impl Token {
         }
     }
 
-    pub(crate) fn raw(&self) -> sys::Token {
-        sys::Token {
+    pub(crate) fn raw(&self) -> sys::sctp_assoc_token {
+        sys::sctp_assoc_token {
             tag: self.tag,
             initial_tsn: self.initial_tsn,
             window: self.window,

@@ -1,6 +1,5 @@
-use crate::error::{done, done_or_nothing};
-use crate::sys;
 use crate::{Association, Counters, Error, PayloadType, Reliability};
+use sctp_assoc_sys as sys;
 
 /// One stream of an association, by its identifier. Each call of one that is not there answers [`Error::NoStream`].
 #[derive(Debug)]
@@ -11,6 +10,7 @@ pub struct Stream<'a> {
 
 /// A message that was read.
 #[derive(Clone, Copy, Debug, PartialEq, Eq)]
+#[non_exhaustive]
 pub struct Message<'b> {
     /// Its payload type.
     pub payload_type: PayloadType,
@@ -30,18 +30,12 @@ impl Stream<'_> {
     /// Errors: `Failed`, `NoStream`, `StreamClosed`, `NotEstablished`, `ResetPending`, `EmptyMessage`,
     /// `MessageTooLong`, `NoMemory`.
     pub fn write(&mut self, message: &[u8]) -> Result<(), Error> {
-        self.write_raw(sys::PPID_OF_STREAM, message)
+        self.association.slot.write(self.id, sys::SCTP_ASSOC_PPID_OF_STREAM, message)
     }
 
     /// The same under another payload type.
     pub fn write_as(&mut self, payload_type: PayloadType, message: &[u8]) -> Result<(), Error> {
-        self.write_raw(payload_type.number(), message)
-    }
-
-    fn write_raw(&mut self, payload_type: u32, message: &[u8]) -> Result<(), Error> {
-        let slot = self.association.slot.get();
-        // SAFETY: the slot holds an association that nobody else uses now; the message is read and not kept.
-        done(unsafe { sys::sctp_assoc_write(slot, self.id, payload_type, message.as_ptr(), message.len()) })
+        self.association.slot.write(self.id, payload_type.number(), message)
     }
 
     /// Copies the next message to the front of the buffer. None if none is ready. If the peer ended its half, the
@@ -50,16 +44,8 @@ impl Stream<'_> {
     /// Errors: `NoRoom` if the buffer is shorter than the message, which stays; `Failed`, `NoStream`,
     /// `StreamClosed`; `NoMemory`: the message stays, or the association failed.
     pub fn read<'b>(&mut self, buffer: &'b mut [u8]) -> Result<Option<Message<'b>>, Error> {
-        let slot = self.association.slot.get();
-        let (mut length, mut number) = (0, 0);
-        // SAFETY: the slot holds an association that nobody else uses now; it writes to the buffer, the length and the
-        // payload type.
-        let code = unsafe {
-            let (at, room) = (buffer.as_mut_ptr(), buffer.len());
-            sys::sctp_assoc_read(slot, self.id, at, room, &mut length, &mut number)
-        };
-        Ok(done_or_nothing(code, length)?
-            .then(|| Message { payload_type: PayloadType::of(number), bytes: &buffer[..length] }))
+        let read = self.association.slot.read(self.id, buffer)?;
+        Ok(read.map(|(length, number)| Message { payload_type: PayloadType::of(number), bytes: &buffer[..length] }))
     }
 
     /// The same into a vector of the message's length.
@@ -80,8 +66,7 @@ impl Stream<'_> {
     ///
     /// Errors: `Failed`, `NoStream`.
     pub fn finish(&mut self) -> Result<(), Error> {
-        // SAFETY: the slot holds an association that nobody else uses now.
-        done(unsafe { sys::sctp_assoc_finish(self.association.slot.get(), self.id) })
+        self.association.slot.finish(self.id)
     }
 
     /// Closes the read half and asks for a reset of the stream (RFC 6525, RFC 8831 section 6.7). What was accepted goes
@@ -92,16 +77,14 @@ impl Stream<'_> {
     ///
     /// Errors: `Failed`, `NoStream`, `CannotReset`; `NoMemory`: the association failed.
     pub fn stop(&mut self) -> Result<(), Error> {
-        // SAFETY: the slot holds an association that nobody else uses now.
-        done(unsafe { sys::sctp_assoc_stop(self.association.slot.get(), self.id) })
+        self.association.slot.stop(self.id)
     }
 
     /// Closes both halves: first as [`finish`](Stream::finish), and then as [`stop`](Stream::stop) does.
     ///
     /// Errors: those of `stop`.
     pub fn close(&mut self) -> Result<(), Error> {
-        // SAFETY: the slot holds an association that nobody else uses now.
-        done(unsafe { sys::sctp_assoc_close_stream(self.association.slot.get(), self.id) })
+        self.association.slot.close_stream(self.id)
     }
 
     /// Sets how messages are sent that are written from now on: in order or not, and how long they are sent again. A
@@ -111,10 +94,8 @@ impl Stream<'_> {
     ///
     /// Errors: `Failed`, `NoStream`.
     pub fn set_reliability(&mut self, unordered: bool, reliability: Reliability) -> Result<(), Error> {
-        let slot = self.association.slot.get();
         let (kind, value) = reliability.raw();
-        // SAFETY: the slot holds an association that nobody else uses now.
-        done(unsafe { sys::sctp_assoc_set_reliability(slot, self.id, unordered, kind, value) })
+        self.association.slot.set_reliability(self.id, unordered, kind, value)
     }
 
     /// The payload type of messages whose write names none: that with which the stream was opened, and `Unknown` if
@@ -122,36 +103,28 @@ impl Stream<'_> {
     ///
     /// Errors: `Failed`, `NoStream`.
     pub fn payload_type(&self) -> Result<PayloadType, Error> {
-        let mut number = 0;
-        // SAFETY: the slot holds an association that nobody else uses now; it writes a number.
-        done(unsafe { sys::sctp_assoc_payload_type(self.association.slot.get(), self.id, &mut number) })?;
-        Ok(PayloadType::of(number))
+        Ok(PayloadType::of(self.association.slot.payload_type(self.id)?))
     }
 
     /// Sets it for messages that are written from now on.
     ///
     /// Errors: `Failed`, `NoStream`.
     pub fn set_payload_type(&mut self, payload_type: PayloadType) -> Result<(), Error> {
-        let slot = self.association.slot.get();
-        // SAFETY: the slot holds an association that nobody else uses now.
-        done(unsafe { sys::sctp_assoc_set_payload_type(slot, self.id, payload_type.number()) })
+        self.association.slot.set_payload_type(self.id, payload_type.number())
     }
 
     /// What the stream counted since it was opened. A message that waits for a longer buffer counts as read.
     ///
     /// Errors: `Failed`, `NoStream`.
     pub fn stats(&self) -> Result<Counters, Error> {
-        let mut told = sys::Counters::default();
-        // SAFETY: the slot holds an association that nobody else uses now; it writes the counters.
-        done(unsafe { sys::sctp_assoc_stream_stats(self.association.slot.get(), self.id, &mut told) })?;
-        Ok(Counters::of(&told))
+        Ok(Counters::of(&self.association.slot.stream_stats(self.id)?))
     }
 
     /// The buffered amount: bytes that were accepted and are neither acknowledged nor given up.
     ///
     /// Errors: `Failed`, `NoStream`.
     pub fn buffered_amount(&self) -> Result<usize, Error> {
-        self.ask(sys::sctp_assoc_buffered_amount)
+        self.association.slot.buffered_amount(self.id)
     }
 
     /// The low mark, in bytes, at first 0: if an acknowledgement, or what a poll gives up, takes the buffered amount
@@ -160,15 +133,14 @@ impl Stream<'_> {
     ///
     /// Errors: `Failed`, `NoStream`.
     pub fn low_mark(&self) -> Result<usize, Error> {
-        self.ask(sys::sctp_assoc_low_mark)
+        self.association.slot.low_mark(self.id)
     }
 
     /// Sets the low mark. That by itself is not told.
     ///
     /// Errors: `Failed`, `NoStream`.
     pub fn set_low_mark(&mut self, bytes: usize) -> Result<(), Error> {
-        // SAFETY: the slot holds an association that nobody else uses now.
-        done(unsafe { sys::sctp_assoc_set_low_mark(self.association.slot.get(), self.id, bytes) })
+        self.association.slot.set_low_mark(self.id, bytes)
     }
 
     /// The high mark, in bytes, at first `usize::MAX`: a write that takes the buffered amount from below it to it or
@@ -176,22 +148,13 @@ impl Stream<'_> {
     ///
     /// Errors: `Failed`, `NoStream`.
     pub fn high_mark(&self) -> Result<usize, Error> {
-        self.ask(sys::sctp_assoc_high_mark)
+        self.association.slot.high_mark(self.id)
     }
 
     /// Sets the high mark. That by itself is not told.
     ///
     /// Errors: `Failed`, `NoStream`.
     pub fn set_high_mark(&mut self, bytes: usize) -> Result<(), Error> {
-        // SAFETY: the slot holds an association that nobody else uses now.
-        done(unsafe { sys::sctp_assoc_set_high_mark(self.association.slot.get(), self.id, bytes) })
-    }
-
-    fn ask(&self, question: unsafe extern "C" fn(*mut sys::Slot, u16, *mut usize) -> u32) -> Result<usize, Error> {
-        let mut bytes = 0;
-        // SAFETY: the slot holds an association that nobody else uses now, as `Association` is not `Sync`; it writes a
-        // number.
-        done(unsafe { question(self.association.slot.get(), self.id, &mut bytes) })?;
-        Ok(bytes)
+        self.association.slot.set_high_mark(self.id, bytes)
     }
 }

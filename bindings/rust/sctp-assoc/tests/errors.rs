@@ -78,7 +78,8 @@ fn refusing<T>(call: impl FnOnce() -> T) -> T {
 fn refused_begin() {
     let now = Instant::now();
     let config = Config::default();
-    let too_small = Config { max_payload_size: 0, ..config.clone() };
+    let mut too_small = Config::default();
+    too_small.max_payload_size = 0;
     let without_tsn = sctp_assoc::Identity { initial_tsn: 0, ..identity(1) };
     let token = Token::new(&config, 1, 10);
     let narrow = Token { window: 1499, ..token };
@@ -135,7 +136,8 @@ fn handshakes() -> Result<(), Error> {
     pass_on(client, server, now)?;
     assert_eq!(server.handle_datagram(now, &init)?, Fate::RepeatedInit);
 
-    let once = Config { max_init_retransmits: Some(1), ..Config::default() };
+    let mut once = Config::default();
+    once.max_init_retransmits = Some(1);
     let mut client = Association::client(&once, &identity(3), now)?;
     while let Some(due) = client.poll_timeout() {
         client.handle_timeout(due)?;

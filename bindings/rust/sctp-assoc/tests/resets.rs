@@ -2,7 +2,7 @@
 mod support;
 
 use sctp_assoc::{Config, Counters, Error, Event, PayloadType, Stream};
-use support::Link;
+use support::{counters, Link};
 
 const STREAM: u16 = 5;
 
@@ -30,9 +30,7 @@ fn ended_by(call: fn(&mut Stream<'_>) -> Result<(), Error>, refused: Error) -> R
     assert_eq!(stream.read_vec(), Err(Error::StreamClosed));
     link.settle()?;
 
-    let sent = Counters { messages_sent: 1, bytes_sent: 3, ..Counters::default() };
-    let received = Counters { messages_received: 1, bytes_received: 3, ..Counters::default() };
-    for (end, counters) in [sent, received].into_iter().enumerate() {
+    for (end, counters) in [counters((1, 3), (0, 0)), counters((0, 0), (1, 3))].into_iter().enumerate() {
         let told = events(&mut link, end)?;
         assert!(told.ends_with(&end_after(counters)), "{told:?}");
         assert_eq!(link.ends[end].stream_ids()?, []);

@@ -1,7 +1,6 @@
-use crate::error::{done, done_or_nothing};
-use crate::sys;
+use crate::slot::Slot;
 use crate::{Config, EndpointEvent, Error, Event, Identity, PayloadType, Stream, Token};
-use std::cell::UnsafeCell;
+use sctp_assoc_sys as sys;
 use std::fmt;
 use std::time::{Duration, Instant};
 
@@ -14,13 +13,9 @@ use std::time::{Duration, Instant};
 /// After a call that answers [`Error::NoMemory`] it may have failed: [`is_failed`](Association::is_failed) says so.
 /// Then it is over, and the calls answer [`Error::Failed`].
 pub struct Association {
-    pub(crate) slot: UnsafeCell<sys::Slot>,
+    pub(crate) slot: Slot,
     began: Instant,
 }
-
-// SAFETY: the library keeps nothing but in the slot, and may be called from any thread, one call at a time. There is no
-// `Sync`: the calls that ask a question write to the slot, too.
-unsafe impl Send for Association {}
 
 /// What became of a datagram that came.
 #[derive(Clone, Copy, Debug, PartialEq, Eq)]
@@ -38,6 +33,7 @@ pub enum Fate {
 
 /// What an association counted since it was made. A number that reaches `u64::MAX` stays there.
 #[derive(Clone, Copy, Debug, Default, PartialEq, Eq)]
+#[non_exhaustive]
 pub struct Totals {
     /// DATA chunks that came, those too that were dropped.
     pub data_chunks: u64,
@@ -56,35 +52,24 @@ impl Association {
     ///
     /// Errors: `BadPayloadSize`, `BadInitialTsn`, `NoMemory`.
     pub fn client(config: &Config, identity: &Identity, now: Instant) -> Result<Association, Error> {
-        let (raw, named) = (config.raw(), identity.raw());
-        // SAFETY: the slot is empty and nobody else's; the others are read.
-        Association::made(now, |slot| unsafe { sys::sctp_assoc_client(slot, &raw, config.max_payload_size, &named, 0) })
+        let slot = Slot::client(&config.raw(), config.max_payload_size, &identity.raw())?;
+        Ok(Association { slot, began: now })
     }
 
     /// Makes a server, which waits for an INIT.
     ///
     /// Errors: `BadPayloadSize`, `BadInitialTsn`, `NoMemory`.
     pub fn server(config: &Config, identity: &Identity, now: Instant) -> Result<Association, Error> {
-        let (raw, named) = (config.raw(), identity.raw());
-        // SAFETY: as in `client`.
-        Association::made(now, |slot| unsafe { sys::sctp_assoc_server(slot, &raw, config.max_payload_size, &named, 0) })
+        let slot = Slot::server(&config.raw(), config.max_payload_size, &identity.raw())?;
+        Ok(Association { slot, began: now })
     }
 
     /// Makes a side that is established at once, by both sides' tokens. [`Event::Connected`] waits.
     ///
     /// Errors: `BadPayloadSize`, `BadToken`, `NoMemory`.
     pub fn joined(config: &Config, local: &Token, remote: &Token, now: Instant) -> Result<Association, Error> {
-        let (raw, local, remote) = (config.raw(), local.raw(), remote.raw());
-        // SAFETY: as in `client`.
-        Association::made(now, |slot| unsafe {
-            sys::sctp_assoc_joined(slot, &raw, config.max_payload_size, &local, &remote)
-        })
-    }
-
-    fn made(now: Instant, make: impl FnOnce(*mut sys::Slot) -> u32) -> Result<Association, Error> {
-        let mut slot = sys::Slot::EMPTY;
-        done(make(&mut slot))?;
-        Ok(Association { slot: UnsafeCell::new(slot), began: now })
+        let slot = Slot::joined(&config.raw(), config.max_payload_size, &local.raw(), &remote.raw())?;
+        Ok(Association { slot, began: now })
     }
 
     // Nanoseconds since the association was made.
@@ -96,17 +81,10 @@ impl Association {
     ///
     /// Errors: `Failed`; `NoMemory`: all is as before, or the association failed.
     pub fn handle_datagram(&mut self, now: Instant, datagram: &[u8]) -> Result<Fate, Error> {
-        let moment = self.nanos(now);
-        let mut fate = 0;
-        // SAFETY: the slot holds an association that nobody else uses now; the datagram is read and not kept.
-        done(unsafe {
-            let (at, length) = (datagram.as_ptr(), datagram.len());
-            sys::sctp_assoc_handle_datagram(self.slot.get(), moment, at, length, &mut fate)
-        })?;
-        Ok(match fate {
-            0 => Fate::Taken,
-            2 => Fate::OtherTag,
-            3 => Fate::RepeatedInit,
+        Ok(match self.slot.handle_datagram(self.nanos(now), datagram)? {
+            sys::SCTP_ASSOC_TAKEN => Fate::Taken,
+            sys::SCTP_ASSOC_OTHER_TAG => Fate::OtherTag,
+            sys::SCTP_ASSOC_REPEATED_INIT => Fate::RepeatedInit,
             _ => Fate::NoPacket,
         })
     }
@@ -133,54 +111,38 @@ impl Association {
     /// Errors: `NoRoom` if the buffer is shorter than the datagram, which stays, with those after it; `Failed`;
     /// `NoMemory`: the association failed, and what was due is lost.
     pub fn poll_transmit<'b>(&mut self, now: Instant, buffer: &'b mut [u8]) -> Result<Option<&'b [u8]>, Error> {
-        let moment = self.nanos(now);
-        let mut length = 0;
-        // SAFETY: the slot holds an association that nobody else uses now; it writes to the buffer and the length.
-        let code = unsafe {
-            let (at, room) = (buffer.as_mut_ptr(), buffer.len());
-            sys::sctp_assoc_poll_transmit(self.slot.get(), moment, at, room, &mut length)
-        };
-        Ok(done_or_nothing(code, length)?.then(|| &buffer[..length]))
+        let length = self.slot.poll_transmit(self.nanos(now), buffer)?;
+        Ok(length.map(|length| &buffer[..length]))
     }
 
     /// The moment at which the next timer expires; None if no timer runs. If it is not after now,
     /// [`handle_timeout`](Association::handle_timeout) is due.
     pub fn poll_timeout(&self) -> Option<Instant> {
-        let mut nanos = 0;
-        // SAFETY: the slot holds an association that nobody else uses now, as `Association` is not `Sync`.
-        let code = unsafe { sys::sctp_assoc_poll_timeout(self.slot.get(), &mut nanos) };
-        (code == sys::DONE).then_some(())?;
-        self.began.checked_add(Duration::from_nanos(nanos))
+        self.began.checked_add(Duration::from_nanos(self.slot.poll_timeout()?))
     }
 
     /// Does what the timers that expired by `now` ask for, and nothing if none did.
     ///
     /// Errors: `Failed`; `NoMemory`: the association failed.
     pub fn handle_timeout(&mut self, now: Instant) -> Result<(), Error> {
-        // SAFETY: the slot holds an association that nobody else uses now.
-        done(unsafe { sys::sctp_assoc_handle_timeout(self.slot.get(), self.nanos(now)) })
+        self.slot.handle_timeout(self.nanos(now))
     }
 
     /// Takes out the oldest event. None if none waits.
     ///
     /// Errors: `Failed`.
     pub fn poll_event(&mut self) -> Result<Option<Event>, Error> {
-        let mut told = sys::Event::default();
-        // SAFETY: the slot holds an association that nobody else uses now; it writes an event.
-        let code = unsafe { sys::sctp_assoc_poll_event(self.slot.get(), &mut told) };
-        Ok(done_or_nothing(code, 0)?.then(|| Event::of(&told)))
+        Ok(self.slot.poll_event()?.map(|told| Event::of(&told)))
     }
 
     /// What whoever keeps this association is to be told, once: that its end has begun. All is over only once
     /// [`is_drained`](Association::is_drained) says so. None if nothing is to be told. Nobody has to ask.
     pub fn poll_endpoint_event(&mut self) -> Option<EndpointEvent> {
-        // SAFETY: the slot holds an association that nobody else uses now.
-        let code = unsafe { sys::sctp_assoc_poll_endpoint_event(self.slot.get()) };
-        (code == sys::DONE).then_some(EndpointEvent::Drained)
+        self.slot.poll_endpoint_event().then_some(EndpointEvent::Drained)
     }
 
     /// Begins to end the association gracefully (RFC 4960 section 9.2), and returns at once. From now on writes are
-    /// refused by `NotEstablished`, and stops of streams by `CannotReset`. What was accepted is still sent, and messages
+    /// refused by `NotEstablished`, stops of streams by `CannotReset`. What was accepted is still sent, and messages
     /// of the peer still come. Go on with the loop: once all messages of both sides are acknowledged the association
     /// closes, at the peer, too, and [`Event::Lost`] tells it with [`Reason::Closed`](crate::Reason::Closed). Read what
     /// comes at once: unread messages are gone then. The loop is over once [`is_drained`](Association::is_drained) says
@@ -191,8 +153,7 @@ impl Association {
     ///
     /// Errors: `Failed`; `ShutdownNotEstablished`, also if either side has begun a shutdown.
     pub fn shutdown(&mut self) -> Result<(), Error> {
-        // SAFETY: the slot holds an association that nobody else uses now.
-        done(unsafe { sys::sctp_assoc_shutdown(self.slot.get()) })
+        self.slot.shutdown()
     }
 
     /// Closes the association at once. The peer is told nothing, and each stream ends. A datagram that waits, and a
@@ -200,50 +161,38 @@ impl Association {
     ///
     /// Errors: `Failed`; `NoMemory`: the association failed.
     pub fn close(&mut self) -> Result<(), Error> {
-        // SAFETY: the slot holds an association that nobody else uses now.
-        done(unsafe { sys::sctp_assoc_close(self.slot.get()) })
+        self.slot.close()
     }
 
     /// Whether messages can be written: the state is Established (RFC 4960 section 4).
     pub fn is_established(&self) -> bool {
-        self.ask(sys::sctp_assoc_is_established)
+        self.slot.is_established()
     }
 
     /// Whether a shutdown has begun, at either side, and the association is not closed yet (RFC 4960 section 9.2).
     pub fn is_closing(&self) -> bool {
-        self.ask(sys::sctp_assoc_is_closing)
+        self.slot.is_closing()
     }
 
     /// Whether the state is Closed: that of a server before its handshake, and of any side after a loss.
     pub fn is_closed(&self) -> bool {
-        self.ask(sys::sctp_assoc_is_closed)
+        self.slot.is_closed()
     }
 
     /// Whether the association was lost: by a fault, by [`close`](Association::close), or at the end of a shutdown.
     /// Nothing is left then but the datagrams, events and messages that wait.
     pub fn is_drained(&self) -> bool {
-        self.ask(sys::sctp_assoc_is_drained)
+        self.slot.is_drained()
     }
 
     /// Whether an earlier call found no memory in its middle, so that the association is over.
     pub fn is_failed(&self) -> bool {
-        self.ask(sys::sctp_assoc_is_failed)
-    }
-
-    fn ask(&self, question: unsafe extern "C" fn(*mut sys::Slot, *mut bool) -> u32) -> bool {
-        let mut answer = false;
-        // SAFETY: the slot holds an association that nobody else uses now, as `Association` is not `Sync`; it writes
-        // the answer.
-        unsafe { question(self.slot.get(), &mut answer) };
-        answer
+        self.slot.is_failed()
     }
 
     /// What the association counted. A failed one can be asked too.
     pub fn stats(&self) -> Totals {
-        let mut told = sys::Totals::default();
-        // SAFETY: the slot holds an association that nobody else uses now, as `Association` is not `Sync`; it writes
-        // the totals.
-        unsafe { sys::sctp_assoc_stats(self.slot.get(), &mut told) };
+        let told = self.slot.stats();
         Totals {
             data_chunks: told.data_chunks,
             sacks: told.sacks,
@@ -256,10 +205,7 @@ impl Association {
     /// The retransmission timeout (RFC 4960 section 6.3.1), in whole milliseconds. A failed association can be asked
     /// too.
     pub fn rto(&self) -> Duration {
-        let mut ms = 0;
-        // SAFETY: as in `stats`; it writes a number.
-        unsafe { sys::sctp_assoc_rto(self.slot.get(), &mut ms) };
-        Duration::from_millis(ms)
+        Duration::from_millis(self.slot.rto())
     }
 
     /// The identifiers of the streams, ascending: those that this side opened, and those on which the peer sent.
@@ -267,32 +213,20 @@ impl Association {
     /// Errors: `Failed`, `NoMemory`.
     pub fn stream_ids(&self) -> Result<Vec<u16>, Error> {
         let mut ids = Vec::new();
-        match self.write_stream_ids(&mut ids) {
+        match self.slot.stream_ids(&mut ids) {
             Err(Error::NoRoom { needed }) => {
                 ids.resize(needed, 0);
-                self.write_stream_ids(&mut ids)?;
+                self.slot.stream_ids(&mut ids)?;
             }
-            answer => answer?,
+            answer => drop(answer?),
         }
         Ok(ids)
-    }
-
-    // `NoRoom` says how many there are.
-    fn write_stream_ids(&self, ids: &mut [u16]) -> Result<(), Error> {
-        let mut count = 0;
-        // SAFETY: as in `stats`; it writes to the identifiers and how many there are.
-        let code = unsafe { sys::sctp_assoc_stream_ids(self.slot.get(), ids.as_mut_ptr(), ids.len(), &mut count) };
-        match code {
-            sys::DONE => Ok(()),
-            refused => Err(Error::of(refused, count)),
-        }
     }
 
     /// From now on writes of all streams take messages of up to so many bytes, at 0 none; what was accepted stays. At
     /// first this is `max_send_message_size` of the configuration. In a failed association nothing changes.
     pub fn set_max_send_message_size(&mut self, bytes: u32) {
-        // SAFETY: the slot holds an association that nobody else uses now.
-        unsafe { sys::sctp_assoc_set_max_send_message_size(self.slot.get(), bytes) };
+        self.slot.set_max_send_message_size(bytes);
     }
 
     /// Makes a stream on this side. What is written on it carries this payload type unless a write names one. Nothing
@@ -300,8 +234,7 @@ impl Association {
     ///
     /// Errors: `Failed`, `StreamExists` (also if the peer opened it), `ResetPending`, `NoStreamLeft`, `NoMemory`.
     pub fn open_stream(&mut self, id: u16, payload_type: PayloadType) -> Result<Stream<'_>, Error> {
-        // SAFETY: the slot holds an association that nobody else uses now.
-        done(unsafe { sys::sctp_assoc_open_stream(self.slot.get(), id, payload_type.number()) })?;
+        self.slot.open_stream(id, payload_type.number())?;
         Ok(self.stream(id))
     }
 
@@ -309,22 +242,13 @@ impl Association {
     /// be read or written, but its identifier waits here, in two bytes, each time that the peer opens it: so call this
     /// at each [`Event::Opened`], even if the answer is of no use.
     pub fn accept_stream(&mut self) -> Option<Stream<'_>> {
-        let mut id = 0;
-        // SAFETY: the slot holds an association that nobody else uses now; it writes an identifier.
-        let code = unsafe { sys::sctp_assoc_accept_stream(self.slot.get(), &mut id) };
-        (code == sys::DONE).then(|| self.stream(id))
+        let id = self.slot.accept_stream()?;
+        Some(self.stream(id))
     }
 
     /// The stream with this identifier, whether or not there is one: its calls say so.
     pub fn stream(&mut self, id: u16) -> Stream<'_> {
         Stream { association: self, id }
-    }
-}
-
-impl Drop for Association {
-    fn drop(&mut self) {
-        // SAFETY: the slot holds an association that nobody uses any more.
-        unsafe { sys::sctp_assoc_free(self.slot.get()) };
     }
 }
 

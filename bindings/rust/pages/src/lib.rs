@@ -1,6 +1,7 @@
 //! Runs the Rust code of README and docs/GUIDE.md, which `build.rs` takes out of the pages. Of the guide a client and a
 //! server, whose datagrams go through two queues, shake hands, exchange a message in each direction, close the stream
 //! and shut down.
+#![cfg(test)]
 use sctp_assoc::{Association, Config, Error, Event, Identity, PayloadType, Reliability, MAX_DATAGRAM};
 use std::fs::File;
 use std::io::Read;

@@ -1,5 +1,6 @@
 //! The association layer of SCTP (RFC 4960) without input or output: safe Rust over the library that `./library`
-//! builds, whose functions are proved. `build.rs` looks for it in this checkout, or where `SCTP_ASSOC_ARCHIVE` says.
+//! builds, whose functions are proved. `sctp-assoc-sys` looks for it in its checkout, or where `SCTP_ASSOC_ARCHIVE`
+//! says.
 //!
 //! An [`Association`] reads no clock, no socket and no random source. One turn of its loop, at the moment `now`:
 //!
@@ -49,17 +50,23 @@
 //! assert_eq!(message.payload_type, PayloadType::String);
 //! # Ok::<(), Error>(())
 //! ```
+//!
+//! Moments are of `std::time::Instant`, so the crate needs `std`; `sctp-assoc-sys` does not.
+#![deny(missing_docs, unsafe_op_in_unsafe_fn, unsafe_code)]
+
+use sctp_assoc_sys as sys;
 
 /// No datagram that [`poll_transmit`](Association::poll_transmit) gives is longer, in bytes.
-pub const MAX_DATAGRAM: usize = 65548;
+pub const MAX_DATAGRAM: usize = sys::SCTP_ASSOC_MAX_DATAGRAM;
 
 mod association;
 mod config;
 mod error;
 mod event;
 mod payload;
+#[allow(unsafe_code)]
+mod slot;
 mod stream;
-mod sys;
 
 pub use association::{Association, Fate, Totals};
 pub use config::{Config, Identity, Token};

@@ -1,3 +1,4 @@
+use sctp_assoc_sys as sys;
 use std::time::Duration;
 
 /// What a message carries: its payload protocol identifier (RFC 8831 section 8).
@@ -23,22 +24,22 @@ impl PayloadType {
     /// Its number in a DATA chunk.
     pub fn number(self) -> u32 {
         match self {
-            PayloadType::Unknown => 0,
-            PayloadType::Dcep => 50,
-            PayloadType::String => 51,
-            PayloadType::Binary => 53,
-            PayloadType::StringEmpty => 56,
-            PayloadType::BinaryEmpty => 57,
+            PayloadType::Unknown => sys::SCTP_ASSOC_PPID_UNKNOWN,
+            PayloadType::Dcep => sys::SCTP_ASSOC_PPID_DCEP,
+            PayloadType::String => sys::SCTP_ASSOC_PPID_STRING,
+            PayloadType::Binary => sys::SCTP_ASSOC_PPID_BINARY,
+            PayloadType::StringEmpty => sys::SCTP_ASSOC_PPID_STRING_EMPTY,
+            PayloadType::BinaryEmpty => sys::SCTP_ASSOC_PPID_BINARY_EMPTY,
         }
     }
 
     pub(crate) fn of(number: u32) -> PayloadType {
         match number {
-            50 => PayloadType::Dcep,
-            51 => PayloadType::String,
-            53 => PayloadType::Binary,
-            56 => PayloadType::StringEmpty,
-            57 => PayloadType::BinaryEmpty,
+            sys::SCTP_ASSOC_PPID_DCEP => PayloadType::Dcep,
+            sys::SCTP_ASSOC_PPID_STRING => PayloadType::String,
+            sys::SCTP_ASSOC_PPID_BINARY => PayloadType::Binary,
+            sys::SCTP_ASSOC_PPID_STRING_EMPTY => PayloadType::StringEmpty,
+            sys::SCTP_ASSOC_PPID_BINARY_EMPTY => PayloadType::BinaryEmpty,
             _ => PayloadType::Unknown,
         }
     }
@@ -46,6 +47,7 @@ impl PayloadType {
 
 /// How long a message is sent again (RFC 3758 section 4.1).
 #[derive(Clone, Copy, Debug, Default, PartialEq, Eq)]
+#[non_exhaustive]
 pub enum Reliability {
     /// Until it is acknowledged.
     #[default]
@@ -60,9 +62,9 @@ pub enum Reliability {
 impl Reliability {
     pub(crate) fn raw(self) -> (u32, u32) {
         match self {
-            Reliability::Reliable => (0, 0),
-            Reliability::Retransmissions(times) => (1, times),
-            Reliability::Lifetime(time) => (2, u32::try_from(time.as_millis()).unwrap_or(u32::MAX)),
+            Reliability::Reliable => (sys::SCTP_ASSOC_RELIABLE, 0),
+            Reliability::Retransmissions(times) => (sys::SCTP_ASSOC_REXMIT, times),
+            Reliability::Lifetime(time) => (sys::SCTP_ASSOC_TIMED, u32::try_from(time.as_millis()).unwrap_or(u32::MAX)),
         }
     }
 }

@@ -1,4 +1,4 @@
-use crate::sys;
+use sctp_assoc_sys as sys;
 use std::fmt;
 
 /// Why a call was refused. Unless the page of a call says otherwise, the call changed nothing.
@@ -47,25 +47,25 @@ pub enum Error {
 }
 
 impl Error {
-    /// The error of a code that is not [`sys::DONE`]. `length` is what the call wrote for a length, if it has one.
+    /// The error of a code that is not `SCTP_ASSOC_DONE`. `length` is what the call wrote for a length, if it has one.
     pub(crate) fn of(code: u32, length: usize) -> Error {
         match code {
-            sys::NO_MEMORY => Error::NoMemory,
-            sys::NO_ROOM => Error::NoRoom { needed: length },
-            6 => Error::BadPayloadSize,
-            7 => Error::BadInitialTsn,
-            8 => Error::BadToken,
-            10 => Error::Failed,
-            11 => Error::StreamExists,
-            12 => Error::ResetPending,
-            13 => Error::NoStreamLeft,
-            14 => Error::NoStream,
-            15 => Error::ShutdownNotEstablished,
-            16 => Error::NotEstablished,
-            17 => Error::CannotReset,
-            26 => Error::StreamClosed,
-            27 => Error::MessageTooLong,
-            28 => Error::EmptyMessage,
+            sys::SCTP_ASSOC_NO_MEMORY => Error::NoMemory,
+            sys::SCTP_ASSOC_NO_ROOM => Error::NoRoom { needed: length },
+            sys::SCTP_ASSOC_BAD_PAYLOAD_SIZE => Error::BadPayloadSize,
+            sys::SCTP_ASSOC_BAD_INITIAL_TSN => Error::BadInitialTsn,
+            sys::SCTP_ASSOC_BAD_TOKEN => Error::BadToken,
+            sys::SCTP_ASSOC_FAILED => Error::Failed,
+            sys::SCTP_ASSOC_STREAM_EXISTS => Error::StreamExists,
+            sys::SCTP_ASSOC_RESET_PENDING => Error::ResetPending,
+            sys::SCTP_ASSOC_NO_STREAM_LEFT => Error::NoStreamLeft,
+            sys::SCTP_ASSOC_NO_STREAM => Error::NoStream,
+            sys::SCTP_ASSOC_SHUTDOWN_NOT_ESTABLISHED => Error::ShutdownNotEstablished,
+            sys::SCTP_ASSOC_NOT_ESTABLISHED => Error::NotEstablished,
+            sys::SCTP_ASSOC_CANNOT_RESET => Error::CannotReset,
+            sys::SCTP_ASSOC_STREAM_CLOSED => Error::StreamClosed,
+            sys::SCTP_ASSOC_MESSAGE_TOO_LONG => Error::MessageTooLong,
+            sys::SCTP_ASSOC_EMPTY_MESSAGE => Error::EmptyMessage,
             other => Error::Unknown(other),
         }
     }
@@ -100,8 +100,8 @@ impl std::error::Error for Error {}
 /// What a code means if the call has an answer besides. `length` as in [`Error::of`].
 pub(crate) fn done_or_nothing(code: u32, length: usize) -> Result<bool, Error> {
     match code {
-        sys::DONE => Ok(true),
-        sys::NOTHING => Ok(false),
+        sys::SCTP_ASSOC_DONE => Ok(true),
+        sys::SCTP_ASSOC_NOTHING => Ok(false),
         refused => Err(Error::of(refused, length)),
     }
 }
@@ -109,7 +109,7 @@ pub(crate) fn done_or_nothing(code: u32, length: usize) -> Result<bool, Error> {
 /// What a code means if the call has no answer besides.
 pub(crate) fn done(code: u32) -> Result<(), Error> {
     match code {
-        sys::DONE => Ok(()),
+        sys::SCTP_ASSOC_DONE => Ok(()),
         refused => Err(Error::of(refused, 0)),
     }
 }

@@ -1,0 +1,30 @@
+//! Finds the archive to link with: the file that `SCTP_ASSOC_ARCHIVE` names, else what `./library` built in the
+//! checkout in which this crate lies. On docs.rs, where nothing is linked, there need be none.
+use std::path::{Path, PathBuf};
+use std::{env, process};
+
+fn main() {
+    let here = Path::new(env!("CARGO_MANIFEST_DIR"));
+    println!("cargo:rerun-if-env-changed=SCTP_ASSOC_ARCHIVE");
+    println!("cargo:rerun-if-env-changed=DOCS_RS");
+    if env::var_os("DOCS_RS").is_some() {
+        return;
+    }
+    let archive = match env::var_os("SCTP_ASSOC_ARCHIVE") {
+        Some(named) => PathBuf::from(named),
+        None => here.join("../../../out/libsctp_assoc.a"),
+    };
+    println!("cargo:rerun-if-changed={}", archive.display());
+    let name = archive.file_stem().and_then(|stem| stem.to_str()).and_then(|stem| stem.strip_prefix("lib"));
+    let (Ok(path), Some(name)) = (archive.canonicalize(), name) else {
+        eprintln!(
+            "no archive at {}: run ./library in a checkout of sctp_assoc, and let SCTP_ASSOC_ARCHIVE name the file that \
+             it prints; to build the documentation alone, set DOCS_RS",
+            archive.display()
+        );
+        process::exit(1);
+    };
+    let folder = path.parent().unwrap_or(Path::new("/"));
+    println!("cargo:rustc-link-search=native={}", folder.display());
+    println!("cargo:rustc-link-lib=static={name}");
+}

@@ -1,0 +1,21 @@
+//! The C calls of `sctp_assoc`, the association layer of SCTP (RFC 4960) without input or output, under the names that
+//! they have in C. The crate `sctp-assoc` has safe calls over these.
+//!
+//! The header of that library, `include/sctp_assoc.h` in its checkout, says in full what each call does. Its head says
+//! what a caller owes, and each call here is unsafe for that: pointers lead to what their types say, for reading or
+//! writing; a slot begins as [`sctp_assoc::EMPTY`], is changed by these calls alone and is not copied while it holds an
+//! association; and a slot is used by one call at a time.
+//!
+//! To be linked with, it needs the archive that `./library` builds in a checkout of `sctp_assoc`. It takes the file
+//! that the environment variable `SCTP_ASSOC_ARCHIVE` names, or finds it in the checkout in which it lies.
+#![no_std]
+#![deny(missing_docs, unsafe_op_in_unsafe_fn)]
+#![allow(non_camel_case_types)]
+
+mod calls;
+mod codes;
+mod types;
+
+pub use calls::*;
+pub use codes::*;
+pub use types::*;

@@ -1,0 +1,125 @@
+use core::ffi::c_void;
+use core::ptr;
+
+/// What a call answers: one of the codes `SCTP_ASSOC_..`, from [`SCTP_ASSOC_DONE`](crate::SCTP_ASSOC_DONE) on.
+pub type sctp_assoc_code = u32;
+
+/// The slot: room for one association. All bytes 0 is the empty slot. Nobody but the calls touches its fields.
+#[repr(C)]
+#[derive(Debug)]
+pub struct sctp_assoc {
+    /// Where the association lies.
+    pub at: *mut c_void,
+    /// Whether there is one.
+    pub live: bool,
+}
+
+impl sctp_assoc {
+    /// The empty slot.
+    pub const EMPTY: sctp_assoc = sctp_assoc { at: ptr::null_mut(), live: false };
+}
+
+/// Limits and timeouts of an association.
+#[repr(C)]
+#[derive(Clone, Copy, Debug, Default)]
+pub struct sctp_assoc_config {
+    /// The window that is offered, in bytes. A peer refuses one below 1500.
+    pub max_receive_buffer_size: u32,
+    /// Greatest message that may be written, in bytes.
+    pub max_send_message_size: u32,
+    /// Greatest message that may come, in bytes; a longer one closes the association.
+    pub max_receive_message_size: u32,
+    /// Streams offered for sending, 1 to 65,535.
+    pub max_num_outbound_streams: u16,
+    /// Streams offered for receiving, 1 to 65,535.
+    pub max_num_inbound_streams: u16,
+    /// Own SCTP port, not 0; a server takes both ports from the INIT.
+    pub local_port: u16,
+    /// The peer's SCTP port, not 0.
+    pub remote_port: u16,
+    /// Retransmission timeout before the first measurement, in ms (RFC 4960 section 6.3.1).
+    pub rto_initial_ms: u64,
+    /// Least retransmission timeout, in ms.
+    pub rto_min_ms: u64,
+    /// Greatest retransmission timeout, in ms.
+    pub rto_max_ms: u64,
+    /// How often INIT and COOKIE ECHO go out again; [`SCTP_ASSOC_NO_LIMIT`](crate::SCTP_ASSOC_NO_LIMIT).
+    pub max_init_retransmits: usize,
+    /// Timeouts in a row after which DATA is no longer sent again;
+    /// [`SCTP_ASSOC_NO_LIMIT`](crate::SCTP_ASSOC_NO_LIMIT).
+    pub max_data_retransmits: usize,
+}
+
+/// What names one side, from a random source that nobody can guess.
+#[repr(C)]
+#[derive(Clone, Copy, Debug, Default)]
+pub struct sctp_assoc_identity {
+    /// This side's verification tag (RFC 4960 section 8.5), not 0.
+    pub tag: u32,
+    /// The first TSN, not 0.
+    pub initial_tsn: u32,
+    /// A server's State Cookie (RFC 4960 section 5.1.3).
+    pub cookie: [u8; 32],
+}
+
+/// What two sides that join without a handshake exchange: the values of the INIT chunk that each would send.
+#[repr(C)]
+#[derive(Clone, Copy, Debug, Default)]
+pub struct sctp_assoc_token {
+    /// The verification tag.
+    pub tag: u32,
+    /// The first TSN.
+    pub initial_tsn: u32,
+    /// The receive window, in bytes.
+    pub window: u32,
+    /// Streams offered for sending.
+    pub num_outbound_streams: u16,
+    /// Streams offered for receiving.
+    pub num_inbound_streams: u16,
+    /// Whether its Supported Extensions list FORWARD TSN (RFC 3758 section 3.1).
+    pub forward_tsn: bool,
+}
+
+/// Messages and bytes of a stream under the payload types of WebRTC application data alone.
+#[repr(C)]
+#[derive(Clone, Copy, Debug, Default)]
+pub struct sctp_assoc_counters {
+    /// Messages that were accepted for sending.
+    pub messages_sent: u64,
+    /// Their bytes.
+    pub bytes_sent: u64,
+    /// Messages that were read.
+    pub messages_received: u64,
+    /// Their bytes.
+    pub bytes_received: u64,
+}
+
+/// What happened to an association.
+#[repr(C)]
+#[derive(Clone, Copy, Debug, Default)]
+pub struct sctp_assoc_event {
+    /// Of which kind it is: `SCTP_ASSOC_EVENT_..`.
+    pub kind: u32,
+    /// Why: `SCTP_ASSOC_REASON_..`.
+    pub reason: u32,
+    /// The stream's identifier, 0 if the kind has none.
+    pub stream: u16,
+    /// The last counters of a stream that ended, else all 0.
+    pub counters: sctp_assoc_counters,
+}
+
+/// What an association counted since it was made.
+#[repr(C)]
+#[derive(Clone, Copy, Debug, Default)]
+pub struct sctp_assoc_totals {
+    /// DATA chunks that came, those too that were dropped.
+    pub data_chunks: u64,
+    /// SACK chunks that came.
+    pub sacks: u64,
+    /// How often the timer of retransmissions expired (RFC 4960 section 6.3.3).
+    pub retransmission_timeouts: u64,
+    /// How often the timer of delayed acknowledgements expired (RFC 4960 section 6.2).
+    pub ack_timeouts: u64,
+    /// DATA chunks that were sent again fast (RFC 4960 section 7.2.4).
+    pub fast_retransmissions: u64,
+}
