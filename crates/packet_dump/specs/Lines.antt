@@ -1,5 +1,6 @@
 -- What a line of hex stands for.
-use Rattle.std.specs.Prelude.{◌≡◌, ℕ, List, Option, Some, None, Result, Ok, Err}
+use Rattle.std.specs.Prelude.{◌≡◌, ℕ, List, Option, Some, None, Result, Ok, Err, eqb}
+use Rattle.std.specs.List.{after_first}
 use Rattle.hex.specs.Hex.{decode_of}
 use Rattle.hex.specs.declared.error.FromHexError.{FromHexError}
 use Rattle.sctp_wire_types.specs.declared.error.Error.TheVariants as errors
@@ -23,3 +24,7 @@ Shows line readings.NotHex = packet_of_line line ≡ None
 Shows line (readings.Refused (errors.Malformed f)) = packet_of_line line ≡ Some (Err f)
 Shows line (readings.Refused _) = ⊥
 Shows line (readings.Read packet) = packet_of_line line ≡ Some (Ok packet)
+
+-- what stands behind the first space of a line
+abbrev pub behind_space : List ℕ → List ℕ
+behind_space line = after_first (λ byte. eqb byte 32) line

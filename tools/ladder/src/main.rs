@@ -1,0 +1,98 @@
+//! Draws a session as a ladder, in SVG: the two sides, time downward, and each datagram's chunks.
+//!
+//!     ladder sessions/lost.lab > lost.svg
+//!     ladder --datagrams sessions/lost.lab    each datagram in hex behind the moment at which it went out
+//!
+//! It carries the session out by the library. If the replies that are expected lie beside it, as `lost.out`, these have
+//! to come.
+mod chunks;
+mod drawing;
+mod replay;
+mod reply;
+mod session;
+mod story;
+mod svg;
+
+use drawing::Drawing;
+use replay::Replay;
+use std::path::Path;
+use std::process::ExitCode;
+use std::{env, fs};
+use story::Happening;
+
+const USAGE: &str = "usage: ladder [--datagrams] SESSION.lab";
+
+fn main() -> ExitCode {
+    let words: Vec<String> = env::args().skip(1).collect();
+    let words: Vec<&str> = words.iter().map(String::as_str).collect();
+    let shown = match words[..] {
+        ["--datagrams", session] => story_of(session).map(|story| datagrams(&story)),
+        [session] => story_of(session).map(|story| picture(session, &story)),
+        _ => Err(USAGE.to_string()),
+    };
+    match shown {
+        Ok(text) => print!("{text}"),
+        Err(error) => {
+            eprintln!("ladder: {error}");
+            return ExitCode::FAILURE;
+        }
+    }
+    ExitCode::SUCCESS
+}
+
+fn read(path: &Path) -> Result<String, String> {
+    fs::read_to_string(path).map_err(|error| format!("{}: {error}", path.display()))
+}
+
+/// What happens in the session of a file.
+fn story_of(session: &str) -> Result<Vec<Happening>, String> {
+    let text = read(Path::new(session))?;
+    let replies = Path::new(session).with_extension("out");
+    let replies = if replies.exists() { Some(read(&replies)?) } else { None };
+    let replies: Option<Vec<&str>> = replies.as_ref().map(|replies| replies.lines().collect());
+    let expected = |i: usize| replies.as_ref().map(|replies| replies.get(i).copied().unwrap_or("nothing"));
+
+    let mut lines = text.lines().enumerate();
+    let beginning = lines.next().and_then(|(_, line)| session::beginning_of(line)).ok_or("line 1: bad step")?;
+    let mut replay = Replay::new(beginning).map_err(|error| format!("line 1: {error}"))?;
+    for (i, line) in lines {
+        let number = i + 1;
+        let (side, step) = session::step_of(line).ok_or_else(|| format!("line {number}: bad step"))?;
+        let reply = replay.carry_out(side, &step, expected(i));
+        if let Some(wanted) = expected(i).filter(|wanted| !reply::is_expected(&reply, wanted)) {
+            let drop = last_drop(&replay.story).map_or(String::new(), |words| format!("; before that {words}"));
+            return Err(format!("line {number}: the reply is '{reply}', and '{wanted}' was expected{drop}"));
+        }
+    }
+    Ok(replay.story)
+}
+
+/// The last datagram that the library dropped, as each of its users wants it to; `./lab` drops none.
+fn last_drop(story: &[Happening]) -> Option<String> {
+    story.iter().rev().find_map(|happening| match happening {
+        Happening::Came { side, number, dropped: Some(why) } => {
+            Some(format!("{side:?} dropped packet {number} ({why}), which ./lab takes in"))
+        }
+        _ => None,
+    })
+}
+
+fn picture(session: &str, story: &[Happening]) -> String {
+    let name = Path::new(session).file_stem().unwrap_or_default().to_string_lossy();
+    svg::svg(&format!("The session {name}"), &Drawing::of(story))
+}
+
+fn datagrams(story: &[Happening]) -> String {
+    let (mut out, mut moment) = (String::new(), 0);
+    for happening in story {
+        match happening {
+            Happening::Moment(millis) => moment = *millis,
+            Happening::Sent { datagram, .. } => {
+                let hex: String = datagram.iter().map(|byte| format!("{byte:02x}")).collect();
+                out += &format!("{moment} {hex}\n");
+            }
+            _ => {}
+        }
+    }
+    out
+}
