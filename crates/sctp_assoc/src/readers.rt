@@ -1,5 +1,7 @@
 // Values of an association that may be read at any time.
-ghost use Rattle.std.specs.Prelude.{◌≡◌};
+ghost use Rattle.std.specs.Prelude.{◌≡◌, ◌*◌};
+ghost use Rattle.std.specs.Duration.{as_nanos};
+ghost use Rattle.sctp_outbound_queue.specs.Outbound.{outstanding_of};
 ghost use Rattle.sctp_outbound.specs.Sender.{cumulative_tsn_ack_point_of, window_left, marks};
 
 use crate::Association;
@@ -7,6 +9,7 @@ use sctp_parts::state::AssociationState;
 use sctp_parts::stats::AssociationStats;
 use sctp_wire_queues::Side;
 use std::net::{IpAddr, SocketAddr};
+use std::time::Duration;
 
 impl Association {
     /// The state (RFC 4960 section 4). A server that waits for its handshake is in Closed.
@@ -76,6 +79,20 @@ impl Association {
         ensures { result ≡ window_left self.now.sender }
     {
         self.sender.rwnd()
+    }
+
+    /// The bytes of DATA that went out and were neither acknowledged nor given up (RFC 4960 section 7.2, flight size).
+    pub fn bytes_in_flight(&self) -> u64
+        ensures { result ≡ outstanding_of self.now.sender.queue.in_flight }
+    {
+        self.sender.queue.inflight_bytes()
+    }
+
+    /// The smoothed round-trip time, in whole ms (RFC 4960 section 6.3.1); 0 before the first measurement.
+    pub fn smoothed_round_trip(&self) -> Duration
+        ensures { as_nanos result ≡ self.now.estimate.srtt * 1000000 }
+    {
+        Duration::from_millis(self.rto.get_srtt())
     }
 
     /// The last TSN in order, RFC 4960's cumulative TSN ack point of the receiver (section 6.2): of the TSNs that the

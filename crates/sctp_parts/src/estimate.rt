@@ -86,6 +86,13 @@ impl RtoManager {
         self.rto
     }
 
+    /// The smoothed round-trip time, in ms (RFC 4960 section 6.3.1); 0 before the first measurement.
+    pub fn get_srtt(&self) -> u64
+        ensures { result ≡ self.now.srtt }
+    {
+        self.srtt
+    }
+
     /// Forgets all measurements.
     pub fn reset(&mut self)
         ensures { self.new ≡ forgotten self.old }
