@@ -87,6 +87,13 @@ pub reply_on : (call : Call) (r : Reply) (x y : Shown) (packets more : List (Lis
 reply_on call r x y packets more h =
     run_on (side_calls_of call) (told_in r) x y (listed x y call packets more r h)
 
+-- a side that is present then was so before
+pub present_before : (call : Call) (r : Reply) (x y : Shown) (packets more : List (List ℕ))
+    → Replies call x packets r y more → IsPresentOrGone x → IsPresent y → IsPresent x
+present_before call r x y packets more h (inl before) there = before
+present_before call r x y packets more h (inr gone) there =
+    absurd (gone_absent y (reply_gone call r x y packets more h gone) there)
+
 -- a failed side refuses
 failed_refuses : (failed : Bool) (fault : Error) (rest : Option Error) → failed ≡ true
     → (if failed then Some fault else rest) ≡ None → ⊥

@@ -1,19 +1,16 @@
 -- What one side of a pair does leads both courses of a stream on, and both sides stand between them then.
-use Rattle.std.proofs.Common.{◌≡◌, refl, sym, ap, ◌∙◌, subst, ◌⊎◌, ⊎_elim, inl, inr, ℕ, ◌+◌, ◌≤◌, arith, Bool}
-use Rattle.std.proofs.Common.{true, false, zero, suc, List, [], ◌∷◌, length, drop, slice_get, ◌++◌, Option, Some, None}
-use Rattle.std.specs.List.{list_any}
-use Rattle.std.proofs.lemmas.Bool.{cases_Bool, false≢true, true≢false}
+use Rattle.std.proofs.Common.{◌≡◌, refl, sym, ap, subst, ◌⊎◌, inl, inr, ℕ, zero, suc, ◌+◌, ◌≤◌, arith, Bool, false}
+use Rattle.std.proofs.Common.{List, [], ◌∷◌, length, slice_get, ◌++◌, Option, Some, None}
 use Rattle.sctp_wire_types.specs.declared.chunk.ChunkPayloadData.{ChunkPayloadData}
 use Rattle.sctp_receive_queues.specs.Messages.{ReceivedMessage}
-use Rattle.sctp_courses.specs.Course.{Course, Request}
+use Rattle.sctp_courses.specs.Course.{Course}
 use Rattle.sctp_courses.specs.Events.{is_to_be_reset}
 use Rattle.sctp_courses.proofs.Proved.{the_invariant_is_enough}
 use Rattle.sctp_reset_fit.specs.Keeping.{GoesOn}
 use Rattle.sctp_reset_fit.proofs.Keeping.{goes_kept, goes_leaves, goes_nowhere}
-use Rattle.sctp_reset_requests.specs.Ids.{has_id}
+use Rattle.sctp_reset_requests.specs.declared.own_request.SentRequest.{SentRequest}
 use Rattle.sctp_assoc.specs.declared.call.Reply.{Reply}
 use Rattle.sctp_assoc.specs.Shown.{Shown}
-use Rattle.sctp_sides.specs.Restarts.{is_being_reset}
 use Rattle.sctp_sides.proofs.SentCounts.{nothing_there}
 use Rattle.sctp_course_sides.specs.Sends.{SendsOn}
 use Rattle.sctp_course_sides.specs.Turns.{Grows, IsFew, IsPresent}
@@ -24,8 +21,10 @@ use Rattle.sctp_steps.specs.Ends.{Ends}
 use Rattle.sctp_steps.specs.Seen.{EndsReset, message_read}
 use Rattle.sctp_boundaries.specs.Between.{AreFew, AreMeeting, AreTalking, Courses, IsGivenOut, IsPresentOrGone, Stand}
 use Rattle.sctp_boundaries.specs.Between.{StandBetween}
-use Rattle.sctp_boundaries.specs.Laws.{GrowsAsSeen, LeadsBoth, polls_side}
-use Rattle.sctp_boundaries.proofs.Staying.{any_of_dropped, sends_kept, sends_leave}
+use Rattle.sctp_boundaries.specs.Laws.{GrowsAsSeen, IsDividedBy, LeadsBoth, polls_side}
+use Rattle.sctp_boundaries.proofs.Ended.{IsFurther, all_performed, divides_ended, divides_still, receiver_further}
+use Rattle.sctp_boundaries.proofs.Ended.{sender_further}
+use Rattle.sctp_boundaries.proofs.Staying.{sends_kept, sends_leave}
 
 -- What a side does leads its own course on as a sender and the other one as a receiver.
 pub record Moves (P : ChunkPayloadData → Type 0) (own peer id : ℕ) (polls : Bool) (x : Shown)
@@ -111,35 +110,6 @@ flip own peer id x y of_x of_y out coming s = record {
   between = flipped own peer id x y of_x of_y out coming s s.between;
 }
 
--- Where a reset of the stream ended and did not fail, each request that names it was performed.
-
-none_barred : (id : ℕ) (x y : Shown) → EndsReset x y id
-    → (is_being_reset y id ≡ true) ⊎ (has_id id y.resets.debts.failed ≡ true) → ⊥
-none_barred id x y ends (inl reset) = true≢false (sym reset ∙ ends.ended)
-none_barred id x y ends (inr failed) = true≢false (sym failed ∙ ends.unfailed)
-
-present_of : (id : ℕ) (x y : Shown) → EndsReset x y id → IsPresentOrGone y → IsPresent y
-present_of id x y ends (inl present) = present
-present_of id x y ends (inr (inl failed)) = absurd (true≢false (sym failed ∙ ends.stays_open.0))
-present_of id x y ends (inr (inr over)) = absurd (true≢false (sym over.closed ∙ ends.stays_open.1))
-
-none_named : (asked : List Request) (n : ℕ) → asked ≡ []
-    → list_any (λ (q : Request). q.named) (drop n asked) ≡ true → ⊥
-none_named [] n e some = false≢true (any_of_dropped (λ (q : Request). q.named) n [] some)
-none_named (q ∷ qs) n e some = absurd (cc)
-
-all_performed : (own peer id : ℕ) (before x y : Shown) (of_x of_y : List (List ℕ)) (out coming : Course)
-    → Stand own peer id x y of_x of_y out coming → EndsReset before x id → is_to_be_reset out ≡ false
-all_performed own peer id before x y of_x of_y out coming s ends =
-    ⊎_elim (λ (e : is_to_be_reset out ≡ true). absurd (barred e s.between))
-    (λ (e : is_to_be_reset out ≡ false). e) (cases_Bool (is_to_be_reset out))
-  where
-    barred : is_to_be_reset out ≡ true → AreMeeting own peer id s.stage_x s.stage_y x y of_x of_y out coming
-        ⊎ AreTalking own peer id s.stage_x s.stage_y x y of_x of_y out coming → ⊥
-    barred e (inl m) = none_named out.asked out.performed m.unsent_out.0 e
-    barred e (inr t) =
-        none_barred id before x ends ((t.at_x (present_of id before x ends s.here_x)).sends.held_back e).barred
-
 -- a packet stays one of those that were given out
 front_given : (packets more : List (List ℕ)) (number : ℕ) (bytes : List ℕ) → slice_get packets number ≡ Some bytes
     → slice_get (packets ++ more) number ≡ Some bytes
@@ -156,25 +126,57 @@ given_still packets more all e piece (number, bytes, is, has) = (
   has,
 )
 
+-- A request that ended in a step from p to q was performed and divides what was read, in both directions.
+module _ (own_a own_b id : ℕ) (p q : Ends) (w after : Courses) (s : StandBetween own_a own_b id p w)
+    (standing : AreFew after → StandBetween own_a own_b id q after)
+  where
+    flipped_after : AreFew after → Stand own_b own_a id q.b q.a q.packets_b q.packets_a after.ba after.ab
+    flipped_after few = flip own_a own_b id q.a q.b q.packets_a q.packets_b after.ab after.ba (standing few)
+
+    performed_ab : AreFew after → EndsReset p.a q.a id → is_to_be_reset after.ab ≡ false
+    performed_ab few =
+        all_performed own_a own_b id p.a q.a q.b q.packets_a q.packets_b after.ab after.ba (standing few)
+
+    performed_ba : AreFew after → EndsReset p.b q.b id → is_to_be_reset after.ba ≡ false
+    performed_ba few =
+        all_performed own_b own_a id p.b q.b q.a q.packets_b q.packets_a after.ba after.ab (flipped_after few)
+
+    ended_ab : (IsPresent q.a → IsPresent p.a) → IsFurther w.ab after.ab → AreFew after → (r : SentRequest)
+        → p.a.resets.own.active ≡ Some r → EndsReset p.a q.a id → IsDividedBy own_a r after.ab
+    ended_ab was further few =
+        divides_ended own_a own_b id p.a p.b q.a q.b p.packets_a p.packets_b q.packets_a q.packets_b w.ab w.ba after.ab
+        after.ba s (standing few) was further
+
+    ended_ba : (IsPresent q.b → IsPresent p.b) → IsFurther w.ba after.ba → AreFew after → (r : SentRequest)
+        → p.b.resets.own.active ≡ Some r → EndsReset p.b q.b id → IsDividedBy own_b r after.ba
+    ended_ba was further few =
+        divides_ended own_b own_a id p.b p.a q.b q.a p.packets_b p.packets_a q.packets_b q.packets_a w.ba w.ab after.ba
+        after.ab (flip own_a own_b id p.a p.b p.packets_a p.packets_b w.ab w.ba s) (flipped_after few) was further
+
 -- what A does
 pub a_leads : (own_a own_b id : ℕ) (step : Step) (p : Ends) (r : Reply) (q : Ends) (w : Courses)
     → StandBetween own_a own_b id p w
     → SideActs own_a own_b id (polls_side sides.A step) p.a p.b (message_read step r sides.A id) q.a p.packets_b
     q.packets_a w.ab w.ba
-    → message_read step r sides.B id ≡ None → q.b ≡ p.b → q.packets_b ≡ p.packets_b
+    → (IsPresent q.a → IsPresent p.a) → message_read step r sides.B id ≡ None → q.b ≡ p.b → q.packets_b ≡ p.packets_b
     → LeadsBoth own_a own_b id step p r q w
-a_leads own_a own_b id step p r q w s l none same silent =
+a_leads own_a own_b id step p r q w s l was none same silent =
     let m = l.moves in
     let ab : Course = m.out_after in
     let ba : Course = m.coming_after in
+    let after : Courses = record { ab = ab; ba = ba } in
     let left = goes_leaves w.ba ba m.goes in
-    let standing : AreFew (record { ab = ab; ba = ba }) → StandBetween own_a own_b id q (record { ab = ab; ba = ba }) =
-    λ (few : AreFew (record { ab = ab; ba = ba })).
+    let kept_ab = sends_kept w.ab ab m.sends s.kept_out in
+    let kept_ba = goes_kept w.ba ba m.goes s.kept_coming in
+    let further_ab = sender_further w.ab ab m.sends in
+    let further_ba = receiver_further w.ba ba m.goes in
+    let standing : AreFew after → StandBetween own_a own_b id q after =
+    λ (few : AreFew after).
     subst (λ (ps : List (List ℕ)). Stand own_a own_b id q.a q.b q.packets_a ps ab ba) (sym silent)
     (subst (λ (z : Shown). Stand own_a own_b id q.a z q.packets_a p.packets_b ab ba) (sym same)
     (l.stand few.0 few.1)) in
     record {
-      after = record { ab = ab; ba = ba };
+      after = after;
       ab_goes = (m.sends.events, m.sends.is);
       ba_goes = (m.goes.events, m.goes.is);
       ab_grows = m.seen;
@@ -183,14 +185,15 @@ a_leads own_a own_b id step p r q w s l none same silent =
           subst (λ (n : Option ReceivedMessage). Grows (IsGivenOut p.packets_a) own_a id n p.b w.ab.told ab.told)
           (sym none) (sends_leave w.ab ab m.sends).1;
       ba_read = m.grows;
-      ab_keeps = the_invariant_is_enough ab (sends_kept w.ab ab m.sends s.kept_out);
-      ba_keeps = the_invariant_is_enough ba (goes_kept w.ba ba m.goes s.kept_coming);
+      ab_keeps = the_invariant_is_enough ab kept_ab;
+      ba_keeps = the_invariant_is_enough ba kept_ba;
       stand = standing;
-      ab_performed = λ few ends.
-          all_performed own_a own_b id p.a q.a q.b q.packets_a q.packets_b ab ba (standing few) ends;
-      ba_performed = λ few ends.
-          all_performed own_b own_a id p.b q.b q.a q.packets_b q.packets_a ba ab
-          (flip own_a own_b id q.a q.b q.packets_a q.packets_b ab ba (standing few)) ends;
+      ab_performed = performed_ab own_a own_b id p q w after s standing;
+      ba_performed = performed_ba own_a own_b id p q w after s standing;
+      ab_ended = ended_ab own_a own_b id p q w after s standing was further_ab;
+      ba_ended = ended_ba own_a own_b id p q w after s standing (subst IsPresent same) further_ba;
+      ab_stays_divided = λ request. divides_still own_a request w.ab ab s.kept_out kept_ab further_ab;
+      ba_stays_divided = λ request. divides_still own_b request w.ba ba s.kept_coming kept_ba further_ba;
     }
 
 -- and what B does
@@ -198,20 +201,25 @@ pub b_leads : (own_a own_b id : ℕ) (step : Step) (p : Ends) (r : Reply) (q : E
     → StandBetween own_a own_b id p w
     → SideActs own_b own_a id (polls_side sides.B step) p.b p.a (message_read step r sides.B id) q.b p.packets_a
     q.packets_b w.ba w.ab
-    → message_read step r sides.A id ≡ None → q.a ≡ p.a → q.packets_a ≡ p.packets_a
+    → (IsPresent q.b → IsPresent p.b) → message_read step r sides.A id ≡ None → q.a ≡ p.a → q.packets_a ≡ p.packets_a
     → LeadsBoth own_a own_b id step p r q w
-b_leads own_a own_b id step p r q w s l none same silent =
+b_leads own_a own_b id step p r q w s l was none same silent =
     let m = l.moves in
     let ba : Course = m.out_after in
     let ab : Course = m.coming_after in
+    let after : Courses = record { ab = ab; ba = ba } in
     let left = goes_leaves w.ab ab m.goes in
-    let standing : AreFew (record { ab = ab; ba = ba }) → StandBetween own_a own_b id q (record { ab = ab; ba = ba }) =
-    λ (few : AreFew (record { ab = ab; ba = ba })).
+    let kept_ab = goes_kept w.ab ab m.goes s.kept_out in
+    let kept_ba = sends_kept w.ba ba m.sends s.kept_coming in
+    let further_ab = receiver_further w.ab ab m.goes in
+    let further_ba = sender_further w.ba ba m.sends in
+    let standing : AreFew after → StandBetween own_a own_b id q after =
+    λ (few : AreFew after).
     subst (λ (ps : List (List ℕ)). Stand own_a own_b id q.a q.b ps q.packets_b ab ba) (sym silent)
     (subst (λ (z : Shown). Stand own_a own_b id z q.b p.packets_a q.packets_b ab ba) (sym same)
     (flip own_b own_a id q.b p.a q.packets_b p.packets_a ba ab (l.stand few.1 few.0))) in
     record {
-      after = record { ab = ab; ba = ba };
+      after = after;
       ab_goes = (m.goes.events, m.goes.is);
       ba_goes = (m.sends.events, m.sends.is);
       ab_grows = grows_none (polls_side sides.A step) p.a q.a w.ab ab left.0 left.1;
@@ -220,12 +228,13 @@ b_leads own_a own_b id step p r q w s l none same silent =
       ba_read =
           subst (λ (n : Option ReceivedMessage). Grows (IsGivenOut p.packets_b) own_b id n p.a w.ba.told ba.told)
           (sym none) (sends_leave w.ba ba m.sends).1;
-      ab_keeps = the_invariant_is_enough ab (goes_kept w.ab ab m.goes s.kept_out);
-      ba_keeps = the_invariant_is_enough ba (sends_kept w.ba ba m.sends s.kept_coming);
+      ab_keeps = the_invariant_is_enough ab kept_ab;
+      ba_keeps = the_invariant_is_enough ba kept_ba;
       stand = standing;
-      ab_performed = λ few ends.
-          all_performed own_a own_b id p.a q.a q.b q.packets_a q.packets_b ab ba (standing few) ends;
-      ba_performed = λ few ends.
-          all_performed own_b own_a id p.b q.b q.a q.packets_b q.packets_a ba ab
-          (flip own_a own_b id q.a q.b q.packets_a q.packets_b ab ba (standing few)) ends;
+      ab_performed = performed_ab own_a own_b id p q w after s standing;
+      ba_performed = performed_ba own_a own_b id p q w after s standing;
+      ab_ended = ended_ab own_a own_b id p q w after s standing (subst IsPresent same) further_ab;
+      ba_ended = ended_ba own_a own_b id p q w after s standing was further_ba;
+      ab_stays_divided = λ request. divides_still own_a request w.ab ab s.kept_out kept_ab further_ab;
+      ba_stays_divided = λ request. divides_still own_b request w.ba ba s.kept_coming kept_ba further_ba;
     }

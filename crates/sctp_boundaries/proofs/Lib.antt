@@ -2,6 +2,7 @@ pub mod Acting
 pub mod Calling
 pub mod CallsSend
 pub mod EachCall
+pub mod Ended
 pub mod Gone
 pub mod Joined
 pub mod Kept

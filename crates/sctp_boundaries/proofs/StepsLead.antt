@@ -13,6 +13,7 @@ use Rattle.sctp_assoc.specs.declared.call.Reply.{Reply}
 use Rattle.sctp_assoc.specs.declared.call.Reply.TheVariants as replies
 use Rattle.sctp_assoc.specs.Replies.{Replies, RepliesAlone, TakesIn, packet_in}
 use Rattle.sctp_assoc.specs.Shown.{Shown}
+use Rattle.sctp_course_sides.specs.Turns.{IsPresent}
 use Rattle.sctp_steps.specs.declared.step.Side2.{Side2}
 use Rattle.sctp_steps.specs.declared.step.Side2.TheVariants as sides
 use Rattle.sctp_steps.specs.declared.step.Step.{Step}
@@ -24,6 +25,7 @@ use Rattle.sctp_boundaries.specs.Between.{Courses, IsGivenOut, Stand, StandBetwe
 use Rattle.sctp_boundaries.specs.Laws.{LeadsBoth, NamesIdentifiers, StepsKeepBoundaries, polls_side}
 use Rattle.sctp_boundaries.proofs.Acting.{FollowsBesideSending}
 use Rattle.sctp_boundaries.proofs.Calling.{is_poll, message_given}
+use Rattle.sctp_boundaries.proofs.Gone.{present_before}
 use Rattle.sctp_boundaries.proofs.Led.{SideActs, a_leads, b_leads, flip, moves_nothing}
 use Rattle.sctp_boundaries.proofs.SideActing.{IsOfOther, side_acts}
 
@@ -79,7 +81,7 @@ module _ (sent_beside : (P : ChunkPayloadData → Type 0) → FollowsBesideSendi
         (λ (polls : Bool). SideActs own_a own_b id polls p.a p.b (message_given call r id) q.a p.packets_b q.packets_a
         w.ab w.ba)
         (sym reads.2) l))
-        reads.1 same silent
+        (present_before call r p.a q.a p.packets_a q.packets_a h s.here_x) reads.1 same silent
 
     acts_at_b : (step : Step) (call : Call) → IsOfOther p.packets_a call
         → ReadsAs step sides.B call → Replies call p.b p.packets_b r q.b q.packets_b → q.a ≡ p.a
@@ -96,7 +98,7 @@ module _ (sent_beside : (P : ChunkPayloadData → Type 0) → FollowsBesideSendi
         (λ (polls : Bool). SideActs own_b own_a id polls p.b p.a (message_given call r id) q.b p.packets_a q.packets_b
         w.ba w.ab)
         (sym reads.2) l))
-        reads.1 same silent
+        (present_before call r p.b q.b p.packets_b q.packets_b h s.here_y) reads.1 same silent
 
     -- a step that calls a side, and gives out nothing
     called : {step : Step} (side : Side2) (call : Call)
@@ -156,7 +158,7 @@ module _ (sent_beside : (P : ChunkPayloadData → Type 0) → FollowsBesideSendi
         (subst (λ (z : Shown). SideActs own_a own_b id (polls_side sides.A step) p.a p.b None z p.packets_b p.packets_a
         w.ab w.ba) (sym same)
         (rests own_a own_b id (polls_side sides.A step) p.a p.b p.packets_a p.packets_b w.ab w.ba s))))
-        others (ap (λ (z : Ends). z.b) only) (ap (λ (z : Ends). z.packets_b) only)
+        (subst IsPresent same) others (ap (λ (z : Ends). z.b) only) (ap (λ (z : Ends). z.packets_b) only)
 
     rests_b : (step : Step) → q.b ≡ p.b → q ≡ record p { b = q.b } → message_read step r sides.B id ≡ None
         → message_read step r sides.A id ≡ None → LeadsBoth own_a own_b id step p r q w
@@ -171,7 +173,7 @@ module _ (sent_beside : (P : ChunkPayloadData → Type 0) → FollowsBesideSendi
         w.ba w.ab) (sym same)
         (rests own_b own_a id (polls_side sides.B step) p.b p.a p.packets_b p.packets_a w.ba w.ab
         (flip own_a own_b id p.a p.b p.packets_a p.packets_b w.ab w.ba s)))))
-        others (ap (λ (z : Ends). z.a) only) (ap (λ (z : Ends). z.packets_a) only)
+        (subst IsPresent same) others (ap (λ (z : Ends). z.a) only) (ap (λ (z : Ends). z.packets_a) only)
 
     none_or_some : (a b : Shown) (found : Option (List ℕ)) (now : ℕ) (reply : Reply)
         → Delivers a found now reply b

@@ -1,15 +1,18 @@
 -- What is promised of a stream between two associations across its resets.
 use Rattle.std.specs.Prelude.{◌≡◌, ◌<◌, ◌≤◌, ◌+◌, ◌-◌, ◌^◌, ⊤, ℕ, suc, Bool, false, if◌then◌else◌}
-use Rattle.std.specs.Prelude.{List, [], ◌∷◌, length, Option, Some, None}
+use Rattle.std.specs.Prelude.{true, List, [], ◌∷◌, length, Option, Some, None}
 use Rattle.std.specs.List.{AllByRecursion}
 use Rattle.std.specs.declared.net.ip_addr.IpAddr.{IpAddr}
 use Rattle.std.specs.declared.net.socket_addr.SocketAddr.{SocketAddr}
+use Rattle.sctp_serial.specs.Serial.{tsn}
 use Rattle.sctp_wire_types.specs.declared.chunk.ChunkInit.{ChunkInit}
 use Rattle.sctp_wire_types.specs.declared.config.ServerConfig.{ServerConfig}
 use Rattle.sctp_wire_types.specs.Config.{Settings}
-use Rattle.sctp_courses.specs.Course.{Course, fresh_course}
+use Rattle.sctp_reset_requests.specs.declared.own_request.SentRequest.{SentRequest}
+use Rattle.sctp_courses.specs.Course.{Course, boundary_at, fresh_course, is_named}
 use Rattle.sctp_courses.specs.Events.{Event, is_to_be_reset, run}
-use Rattle.sctp_courses.specs.Laws.{KeepsBoundaries}
+use Rattle.sctp_courses.specs.Laws.{IsDivided, KeepsBoundaries}
+use Rattle.sctp_reset_fit.specs.Stands.{last_below}
 use Rattle.sctp_assoc.specs.Created.{created, joined}
 use Rattle.sctp_assoc.specs.declared.call.Reply.{Reply}
 use Rattle.sctp_assoc.specs.Shown.{Shown}
@@ -49,11 +52,24 @@ pub record GrowsAsSeen (polls : Bool) (before after : Shown) (c d : Course) : Ty
   pub assigns : d.assigned ≤ c.assigned + (if polls then more_in_flight before after else 0)
   pub asks : length d.asked ≤ length c.asked + (if polls then suc (length before.resets.own.queued) else 0)
 
+-- What was read of a stream is divided by a request to reset it (RFC 6525 section 4.1). By its Re-configuration Request
+-- Sequence Number it is one of the course, the other side performed it, and its boundary is one past its Sender's Last
+-- Assigned TSN. What was read in the generation that it ended, and in those before, lies up to that TSN, and what was
+-- read in later ones lies past it.
+pub record IsDividedBy (initial : ℕ) (s : SentRequest) (c : Course) : Type 0 where
+  pub index : ℕ
+  pub number : s.request.number ≡ tsn initial index
+  pub performed : index < c.performed
+  pub named : is_named c.asked index ≡ true
+  pub last_tsn : s.last_tsn ≡ last_below initial (boundary_at c.asked index)
+  pub divides : AllByRecursion (IsDivided (boundary_at c.asked index) (c.past index)) c.told
+
 -- A step leads both courses on, and each of them grows no more than can be seen of its sender. What was read of each
 -- grows by the message that the step reads on the stream, in the generation that the stream is in and on the offsets of
 -- the DATA that it was made of, which the other side gave out; or by nothing. The boundaries are kept, and both sides
 -- stand between the courses while few requests and offsets were sent. Where a request of a side that names the stream
--- ends then, and not in failure, the other side performed each request that names it.
+-- ends then, and not in failure, the other side performed each request that names it, and that request divides what was
+-- read. What a request divided before it divides still.
 pub record LeadsBoth (own_a own_b id : ℕ) (step : Step) (p : Ends) (reply : Reply) (q : Ends) (w : Courses)
     : Type 0 where
   pub after : Courses
@@ -68,6 +84,12 @@ pub record LeadsBoth (own_a own_b id : ℕ) (step : Step) (p : Ends) (reply : Re
   pub stand : AreFew after → StandBetween own_a own_b id q after
   pub ab_performed : AreFew after → EndsReset p.a q.a id → is_to_be_reset after.ab ≡ false
   pub ba_performed : AreFew after → EndsReset p.b q.b id → is_to_be_reset after.ba ≡ false
+  pub ab_ended : AreFew after → (s : SentRequest) → p.a.resets.own.active ≡ Some s → EndsReset p.a q.a id
+      → IsDividedBy own_a s after.ab
+  pub ba_ended : AreFew after → (s : SentRequest) → p.b.resets.own.active ≡ Some s → EndsReset p.b q.b id
+      → IsDividedBy own_b s after.ba
+  pub ab_stays_divided : (s : SentRequest) → IsDividedBy own_a s w.ab → IsDividedBy own_a s after.ab
+  pub ba_stays_divided : (s : SentRequest) → IsDividedBy own_b s w.ba → IsDividedBy own_b s after.ba
 
 -- A step of a pair that stands between the courses of a stream does, whatever the step is and whether its side is open,
 -- lost or failed.
