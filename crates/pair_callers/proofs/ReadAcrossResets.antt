@@ -68,6 +68,10 @@ parts_once_more step p r q keeps own_a own_b id w named s =
             l.ba_read;
         ab_performed = l.ab_performed;
         ba_performed = l.ba_performed;
+        ab_ended = l.ab_ended;
+        ba_ended = l.ba_ended;
+        ab_stays_divided = l.ab_stays_divided;
+        ba_stays_divided = l.ba_stays_divided;
         stands = l.stand;
       },
     )

@@ -2,6 +2,7 @@
 use Rattle.std.specs.Prelude.{◌≡◌, ◌<◌, ◌≤◌, ◌+◌, ⊤, ℕ, true, false, List, [], Some, None}
 use Rattle.std.specs.List.{AllByRecursion}
 use Rattle.sctp_receive_queues.specs.Messages.{ReceivedMessage}
+use Rattle.sctp_reset_requests.specs.declared.own_request.SentRequest.{SentRequest}
 use Rattle.sctp_courses.specs.Course.{Course, boundary_at, is_named, offsets_told, times}
 use Rattle.sctp_courses.specs.Events.{is_to_be_reset}
 use Rattle.sctp_courses.specs.Laws.{IsDivided}
@@ -14,8 +15,8 @@ use Rattle.sctp_steps.specs.Ends.{Ends}
 use Rattle.sctp_steps.specs.Seen.{EndsReset, message_read}
 use Rattle.sctp_steps.specs.Steps.{Runs}
 use Rattle.sctp_boundaries.specs.Between.{AreFew, Courses, IsGivenOut, StandBetween}
-use Rattle.sctp_boundaries.specs.Laws.{GoesTo, GrowsAsSeen, KeepAlong, NamesIdentifiers, StandsFresh, fresh_courses}
-use Rattle.sctp_boundaries.specs.Laws.{polls_side}
+use Rattle.sctp_boundaries.specs.Laws.{GoesTo, GrowsAsSeen, IsDividedBy, KeepAlong, NamesIdentifiers, StandsFresh}
+use Rattle.sctp_boundaries.specs.Laws.{fresh_courses, polls_side}
 use Rattle.sctp_pair.specs.Across.{AreReadAlong}
 use Rattle.sctp_pair.specs.Callers.{AcceptFew}
 
@@ -37,8 +38,8 @@ IsParted c = (k : ℕ) → k < c.performed → is_named c.asked k ≡ true
     → AllByRecursion (IsDivided (boundary_at c.asked k) (c.past k)) c.told
 
 -- Of a pair that stood between courses a step led these on to v, whose senders sent no more than can be seen of them.
--- What was read is divided, what was read of the other direction stays, a request that ended in success was performed,
--- and the pair stands between the courses still.
+-- What was read is divided, what was read of the other direction stays, a request that ended in success was performed
+-- and divides what was read from then on, and the pair stands between the courses still.
 pub record IsPartedBy (own_a own_b id : ℕ) (step : Step) (p : Ends) (reply : Reply) (q : Ends) (w v : Courses)
     : Type 0 where
   pub ab_goes : GoesTo w.ab v.ab
@@ -51,6 +52,12 @@ pub record IsPartedBy (own_a own_b id : ℕ) (step : Step) (p : Ends) (reply : R
   pub ba_stays : message_read step reply sides.A id ≡ None → v.ba.told ≡ w.ba.told
   pub ab_performed : AreFew v → EndsReset p.a q.a id → is_to_be_reset v.ab ≡ false
   pub ba_performed : AreFew v → EndsReset p.b q.b id → is_to_be_reset v.ba ≡ false
+  pub ab_ended : AreFew v → (s : SentRequest) → p.a.resets.own.active ≡ Some s → EndsReset p.a q.a id
+      → IsDividedBy own_a s v.ab
+  pub ba_ended : AreFew v → (s : SentRequest) → p.b.resets.own.active ≡ Some s → EndsReset p.b q.b id
+      → IsDividedBy own_b s v.ba
+  pub ab_stays_divided : (s : SentRequest) → IsDividedBy own_a s w.ab → IsDividedBy own_a s v.ab
+  pub ba_stays_divided : (s : SentRequest) → IsDividedBy own_b s w.ba → IsDividedBy own_b s v.ba
   pub stands : AreFew v → StandBetween own_a own_b id q v
 
 abbrev pub PartsOnceMore : Step → Ends → Reply → Ends → Type 0
