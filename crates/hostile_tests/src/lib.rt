@@ -9,6 +9,8 @@ mod cut;
 #[cfg(test)]
 mod datagrams;
 #[cfg(test)]
+mod lost;
+#[cfg(test)]
 mod shown;
 #[cfg(test)]
 mod states;

@@ -11,7 +11,7 @@ use std::test::Fail;
 
 /// A name, whether it is a client or a server, which state it is in, and what leads there. All but `new` had an INIT,
 /// so that they know the peer, and their cookie was issued. `narrow` is a server whose receive buffer has four bytes.
-/// What is written is in flight from TSN 100 on.
+/// What is written is in flight from TSN 100 on. The lost ones were established.
 pub(crate) static STATES: &str = "\
 new = server = Closed =
 Closed = server = Closed = to-0 INIT
@@ -23,8 +23,12 @@ ShutdownPending = server = ShutdownPending = to-0 INIT; to-2 COOKIE_ECHO; write 
 ShutdownSent = server = ShutdownSent = to-0 INIT; to-2 COOKIE_ECHO; shutdown
 ShutdownReceived = server = ShutdownReceived = to-0 INIT; to-2 COOKIE_ECHO; write 3 2 1; to-2 SHUTDOWN
 ShutdownAckSent = server = ShutdownAckSent = to-0 INIT; to-2 COOKIE_ECHO; to-2 SHUTDOWN
-lost = server = Closed = to-0 INIT; to-2 COOKIE_ECHO; write 1; to-2 SACK_99_2_TO_2
-closed = server = Closed = to-0 INIT; to-2 COOKIE_ECHO; close
+lost-by-SACK = server = Closed = to-0 INIT; to-2 COOKIE_ECHO; write 1; to-2 SACK_99_2_TO_2
+lost-by-INIT = server = Closed = to-0 INIT; to-2 COOKIE_ECHO; to-0 INIT
+lost-by-ABORT = server = Closed = to-0 INIT; to-2 COOKIE_ECHO; to-2 ABORT
+lost-by-SHUTDOWN = server = Closed = to-0 INIT; to-2 COOKIE_ECHO; to-2 SHUTDOWN; to-2 SHUTDOWN_COMPLETE
+lost-by-full-buffer = narrow = Closed = to-0 INIT; to-2 COOKIE_ECHO; to-2 FIRST_OF_FIVE
+lost-by-close = server = Closed = to-0 INIT; to-2 COOKIE_ECHO; close
 narrow = narrow = Established = to-0 INIT; to-2 COOKIE_ECHO
 narrow-Closed = narrow = Closed = to-0 INIT
 ";

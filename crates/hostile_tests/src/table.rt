@@ -144,21 +144,8 @@ fn each_chunk_does_in_each_state_what_the_table_says(rt: HostRuntime) -> Result<
     check_rows(&rt, TABLE)
 }
 
-/// After a loss, by a SACK of what is not in flight, and after a close.
-#[test]
-fn after_a_loss_nothing_counts(rt: HostRuntime) -> Result<(), Fail> {
-    for line in TABLE.lines() {
-        let row = row_of(line).ok_or(line)?;
-        for state in ["lost", "closed"] {
-            let text = shown_in(rt.alloc(), state, row.steps)?;
-            assert_eq!(rt; text.as_str(), "nothing", "{} in {state}", row.steps);
-        }
-    }
-    Ok(())
-}
-
 /// The packets of the table, and the states before a loss.
-static PACKETS: [&str; 21] = [
+pub(crate) static PACKETS: [&str; 21] = [
     "to-0 INIT",
     "to-2 INIT_ACK HEARTBEAT",
     "to-2 COOKIE_ECHO HEARTBEAT",

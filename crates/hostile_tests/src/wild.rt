@@ -3,7 +3,8 @@ use crate::table::check_rows;
 use std::test::Fail;
 
 /// Packets that are refused as a whole: an INIT under a tag, or not alone, and a port 0 (RFC 4960 sections 8.5.1, 6.10
-/// and 3.1). INIT and INIT ACK with values that are forbidden are faults, in each state (sections 3.3.2 and 3.3.3).
+/// and 3.1). INIT and INIT ACK with values that are forbidden are faults, in each state (sections 3.3.2 and 3.3.3). A
+/// State Cookie counts if each byte of it is as it was issued.
 static GREETINGS: &str = "\
 to-2 INIT = new Closed Established = nothing
 to-0 INIT HEARTBEAT = new Closed Established = nothing
@@ -21,6 +22,9 @@ to-2 INIT_ACK_WITHOUT_COOKIE HEARTBEAT = Closed CookieEchoed Established = sends
 to-2 INIT_ACK_OF_TAG_0 HEARTBEAT = Closed = nothing
 to-2 INIT_ACK_OF_TAG_0 HEARTBEAT = CookieWait = lost closed, is Closed, no timer
 to-2 INIT_ACK_OF_TAG_0 HEARTBEAT = Established = lost closed, is Closed
+to-2 CHANGED_COOKIE_ECHO HEARTBEAT = Closed CookieWait CookieEchoed Established = sends HEARTBEAT_ACK
+to-2 SHORT_COOKIE_ECHO HEARTBEAT = Closed CookieWait CookieEchoed Established = sends HEARTBEAT_ACK
+to-2 LONG_COOKIE_ECHO HEARTBEAT = Closed CookieWait CookieEchoed Established = sends HEARTBEAT_ACK
 ";
 
 /// Packets with a chunk whose form is broken are refused as a whole: what stands before it does not count. What a value
@@ -93,7 +97,8 @@ to-2 FIRST_500; to-2 FORWARD_TSN; to-2 LAST_501 = Established = \
 opened 3, datagram, sends SACK, timer, point 502, DATA 2
 ";
 
-/// Requests to reset streams of which one is there, or none (RFC 6525 section 5.2).
+/// Requests to reset streams of which one is there, or none (RFC 6525 section 5.2); before an INIT, which says the
+/// number that the next one has; and of a stream whose unread rest FORWARD TSN drops.
 static RESETS: &str = "\
 to-2 RESET_OF_UNKNOWN HEARTBEAT = Established = sends RECONFIG performed, sends HEARTBEAT_ACK
 to-2 RESET_ALL_BEFORE_DATA HEARTBEAT = Established = sends RECONFIG performed, sends HEARTBEAT_ACK
@@ -114,6 +119,16 @@ final 0, finished 3, timer, point 500, DATA 1
 open 5; to-2 DATA; read 3; to-2 RESET_ALL = Established = \
 sends SACK, opened 3, datagram, readable 3, reads 1, sends RECONFIG of all, sends RECONFIG performed, \
 final 1, finished 3, final 0, finished 5, timer, point 500, DATA 1
+to-2 RECONFIG; to-0 INIT; to-2 RECONFIG = new = \
+sends RECONFIG in progress, sends INIT_ACK, sends RECONFIG performed, point 499
+to-2 RECONFIG; to-0 INIT; to-2 DATA_499 = new = \
+sends RECONFIG in progress, sends INIT_ACK, sends RECONFIG performed, point 499, DATA 1
+to-2 RESET_BEFORE_INIT; to-0 INIT; to-2 DATA; read 3; to-2 RESET_TWICE = new = \
+sends RECONFIG performed, sends INIT_ACK, opened 3, datagram, readable 3, reads 1, \
+sends RECONFIG of 3, sends RECONFIG performed, final 0, finished 3, timer, point 500, DATA 1
+to-2 LOOSE_FIRST_500; to-2 RESET_TWICE; to-2 FORWARD_501; read 3 = Established = \
+opened 3, datagram, sends RECONFIG of 3, sends RECONFIG performed, sends SACK, reads 0, finished 3, final 0, \
+timer, point 501, DATA 1
 ";
 
 /// DATA whose pieces contradict each other, DATA at both ends of what is new, DATA without a byte, and a piece that
