@@ -1,6 +1,7 @@
 -- What a read answers across resets was not read before.
-use Rattle.std.proofs.Common.{◌≡◌, refl, subst, ℕ, ◌+◌, ◌≤◌, List, [], ◌∷◌, ◌++◌, Option, Some, None, arith}
+use Rattle.std.proofs.Common.{◌≡◌, refl, sym, subst, ℕ, ◌+◌, ◌≤◌, List, [], ◌∷◌, ◌++◌, Option, Some, None, arith}
 use Rattle.std.specs.Prelude.{IfOk, Result, Ok, Err}
+use Rattle.std.specs.List.{AllByRecursion}
 use Rattle.std.proofs.lemmas.Bool.{eq-eqb}
 use Rattle.sctp_wire_types.specs.declared.chunk.ChunkPayloadData.{ChunkPayloadData}
 use Rattle.sctp_receive_queues.specs.Messages.{ReceivedMessage}
@@ -16,8 +17,14 @@ use Rattle.sctp_steps.specs.declared.step.Step.TheVariants as steps
 use Rattle.sctp_steps.specs.Ends.{Ends}
 use Rattle.sctp_steps.specs.Seen.{message_read}
 use Rattle.sctp_boundaries.specs.Between.{Courses, IsGivenOut, StandBetween}
-use Rattle.sctp_boundaries.specs.Laws.{StepKeepsBoundaries}
-use Rattle.pair_callers.specs.Resetting.{IsAnew, PartsOnceMore, ReadsAnew}
+use Rattle.sctp_boundaries.specs.Laws.{NamesIdentifiers, RunKeepsBoundaries, StandsFresh, StepKeepsBoundaries}
+use Rattle.sctp_boundaries.specs.Laws.{fresh_courses}
+use Rattle.sctp_steps.specs.Steps.{Runs}
+use Rattle.sctp_pair.specs.Across.{AreReadAlong, CameFresh, ReadSinceNew, ReadsOn}
+use Rattle.sctp_pair.specs.Callers.{AcceptFew}
+use Rattle.sctp_pair.proofs.FewInAll.{few_stay_few}
+use Rattle.pair_callers.specs.Resetting.{AcrossFromNew, IsAnew, PartsOnceMore, ReadsAnew, WrittenFromNew}
+use Rattle.pair_callers.proofs.FewAccepted.{made_alike}
 
 -- what was read last counts beside what was read before
 last_told : (o : ℕ) (before : List Told) (t : Told) → times o (offsets_told (before ++ t ∷ [])) ≤ 1
@@ -76,7 +83,45 @@ parts_once_more step p r q keeps own_a own_b id w named s =
       },
     )
 
+-- All steps of a new pair, both sides of which have the same payload size.
+module _ {size own_a own_b : ℕ} {p : Ends} (fresh : CameFresh (made_alike size own_a own_b) [] [] p)
+    (ss : List Step) (rs : List Reply) (q : Ends) (led : Runs ss rs p q) (across : ReadsOn ss rs p q)
+  where
+    begins : p ≡ fresh.came.begin
+    begins = fresh.came.led
+
+    read_since : AllByRecursion NamesIdentifiers ss → AcceptFew size size ss rs
+        → ReadSinceNew (made_alike size own_a own_b) fresh.came.begin ss rs q
+    read_since named few =
+        across (made_alike size own_a own_b) [] [] fresh
+        (few_stay_few ss rs p q led (made_alike size own_a own_b) [] [] fresh.came few) named
+
+    pub written_from_new : WrittenFromNew size ss rs
+    written_from_new named few polls = (read_since named few).written polls
+
+    pub across_from_new : (p.packets_a ≡ []) × (p.packets_b ≡ []) → RunKeepsBoundaries ss rs p q
+        → AcrossFromNew size own_a own_b ss rs
+    across_from_new silent keep =
+        let stands : StandsFresh own_a own_b p = subst (StandsFresh own_a own_b) (sym begins) fresh.fresh in
+        record {
+          begin = p;
+          fresh = stands;
+          silent = silent;
+          end = q;
+          led = led;
+          keep = λ id named. keep own_a own_b id fresh_courses named (stands id);
+          read = λ id named few.
+              subst (λ (z : Ends). AreReadAlong (made_alike size own_a own_b) id [] [] ss rs z fresh_courses q)
+              (sym begins) ((read_since named few).along id);
+        }
+
+-- what holds of a value that was answered by two things that do, and by three
 pub if_both_ok : {A E : Type 0} (r : Result A E) (P Q S : A → Type 0) → IfOk r P → IfOk r Q
     → ((a : A) → P a → Q a → S a) → IfOk r S
 if_both_ok (Ok a) P Q S h k f = f a h k
 if_both_ok (Err e) P Q S h k f = h
+
+pub if_three_ok : {A E : Type 0} (r : Result A E) (P Q R S : A → Type 0) → IfOk r P → IfOk r Q → IfOk r R
+    → ((a : A) → P a → Q a → R a → S a) → IfOk r S
+if_three_ok (Ok a) P Q R S h k l f = f a h k l
+if_three_ok (Err e) P Q R S h k l f = h

@@ -17,7 +17,7 @@ use Rattle.sctp_steps.specs.Steps.{Runs}
 use Rattle.sctp_boundaries.specs.Between.{AreFew, Courses, IsGivenOut, StandBetween}
 use Rattle.sctp_boundaries.specs.Laws.{GoesTo, GrowsAsSeen, IsDividedBy, KeepAlong, NamesIdentifiers, StandsFresh}
 use Rattle.sctp_boundaries.specs.Laws.{fresh_courses, polls_side}
-use Rattle.sctp_pair.specs.Across.{AreReadAlong}
+use Rattle.sctp_pair.specs.Across.{AreReadAlong, PollsAreFew, WereWritten}
 use Rattle.sctp_pair.specs.Callers.{AcceptFew}
 
 -- A message is made of all DATA of one message that is in these packets, and nothing of it was read before.
@@ -64,9 +64,11 @@ abbrev pub PartsOnceMore : Step → Ends → Reply → Ends → Type 0
 PartsOnceMore step p reply q = (own_a own_b id : ℕ) (w : Courses) → NamesIdentifiers step
     → StandBetween own_a own_b id p w → (v : Courses) × IsPartedBy own_a own_b id step p reply q w v
 
--- All steps of a pair that two tokens joined, or of a client and a server, which gave out nothing before them: whichever
--- the stream, the boundaries of its resets are kept along them.
-pub record PartsFromNew (own_a own_b : ℕ) (ss : List Step) (rs : List Reply) : Type 0 where
+-- All steps of a pair that two tokens joined, or of a client and a server, which gave out nothing before them and has
+-- this payload size at both sides. Whichever the stream, the boundaries of its resets are kept along them. Where each
+-- side accepts few pieces in all, what was read on the stream after each of them was written by the other side, whole,
+-- and none was read twice, as long as few requests and offsets were sent.
+pub record AcrossFromNew (size own_a own_b : ℕ) (ss : List Step) (rs : List Reply) : Type 0 where
   pub begin : Ends
   pub fresh : StandsFresh own_a own_b begin
   pub silent : (begin.packets_a ≡ []) × (begin.packets_b ≡ [])
@@ -74,13 +76,13 @@ pub record PartsFromNew (own_a own_b : ℕ) (ss : List Step) (rs : List Reply) :
   pub led : Runs ss rs begin end
   pub keep : (id : ℕ) → AllByRecursion NamesIdentifiers ss
       → KeepAlong own_a own_b id ss rs begin fresh_courses end
+  pub read : (id : ℕ) → AllByRecursion NamesIdentifiers ss → AcceptFew size size ss rs
+      → AreReadAlong (record { size_a = size; size_b = size; initial_a = own_a; initial_b = own_b }) id [] [] ss rs
+      begin fresh_courses end
 
--- All steps of such a pair, where each side accepts few pieces in all, of at most so many bytes each: whichever the
--- stream, what was read on it after each of them was written by the other side, whole, and none was read twice, as long
--- as few requests and offsets were sent.
-abbrev pub ReadFromNew : ℕ → ℕ → ℕ → List Step → List Reply → Type 0
-ReadFromNew size own_a own_b ss rs = AcceptFew size size ss rs → AllByRecursion NamesIdentifiers ss
-    → (begin end : Ends) × StandsFresh own_a own_b begin
-    × ((id : ℕ)
-    → AreReadAlong (record { size_a = size; size_b = size; initial_a = own_a; initial_b = own_b }) id [] [] ss rs begin
-    fresh_courses end)
+-- By the steps and their replies alone: where each stop and each close of a stream names an identifier of 16 bits, each
+-- side accepts fewer than 16,384 pieces in all, of at most so many bytes each, and is asked fewer than 2^31 times for
+-- packets to send, what was read on any stream was written by the other side, whole, and none was read twice.
+abbrev pub WrittenFromNew : ℕ → List Step → List Reply → Type 0
+WrittenFromNew size ss rs = AllByRecursion NamesIdentifiers ss → AcceptFew size size ss rs → PollsAreFew ss → (id : ℕ)
+    → WereWritten id ss rs

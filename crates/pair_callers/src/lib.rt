@@ -18,7 +18,9 @@ pub use delivering::{deliver_packet, expire_timers, step_once};
 pub use exchanging::exchange;
 pub use lasting::{poll_event, step_and_last};
 pub use reading::{read_message, step_and_tell};
-pub use resetting::{read_across_resets, run_across_resets, step_across_resets};
+pub use resetting::{
+    read_across_resets, run_across_resets, run_client_server_across_resets, step_across_resets,
+};
 pub use running::{
     give_first_packet, is_lost, join, run_and_count, run_and_tell, step_and_count, try_to_run,
 };

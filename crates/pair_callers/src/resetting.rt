@@ -1,6 +1,6 @@
 // Resetting: what a caller is told of a stream, whatever resets it went through.
 ghost use Rattle.std.specs.Prelude.{IfOk};
-ghost use Rattle.pair_callers.specs.Resetting.{PartsFromNew, PartsOnceMore, ReadFromNew, ReadsAnew};
+ghost use Rattle.pair_callers.specs.Resetting.{AcrossFromNew, PartsOnceMore, ReadsAnew, WrittenFromNew};
 
 use sctp_assoc::{
     AssociationId, ChunkInit, Error, Instant, ServerConfig, StreamId, TransportConfig,
@@ -26,9 +26,9 @@ pub fn step_across_resets(pair: &mut Pair, step: &Step) -> Reply
 }
 
 /// Joins two associations by their tokens and runs the steps: the boundaries of each stream's resets are kept along
-/// them, if each stop and each close of a stream names an identifier of 16 bits. If each side accepts fewer than 16,384
-/// pieces in all, each message that was read was written by the other side, whole, and none was read twice, whichever
-/// resets its stream went through.
+/// them, if each stop and each close of a stream names an identifier of 16 bits (`across`). If each side accepts fewer
+/// than 16,384 pieces in all, and is asked fewer than 2^31 times for packets to send, each message that was read was
+/// written by the other side, whole, and none was read twice, whichever resets its stream went through (`written`).
 pub fn run_across_resets(
     alloc: Global,
     config: &TransportConfig,
@@ -39,10 +39,9 @@ pub fn run_across_resets(
     remote_of_b: SocketAddr,
     steps: &[Step],
 ) -> Result<Vec<Reply>, Error>
-    ensures parts { IfOk result (λ replies.
-        PartsFromNew token_a.now.initial_tsn token_b.now.initial_tsn steps.now replies.items) }
-    ensures read { IfOk result (λ replies. ReadFromNew max_payload_size token_a.now.initial_tsn
+    ensures across { IfOk result (λ replies. AcrossFromNew max_payload_size token_a.now.initial_tsn
         token_b.now.initial_tsn steps.now replies.items) }
+    ensures written { IfOk result (λ replies. WrittenFromNew max_payload_size steps.now replies.items) }
 {
     let mut pair = Pair::snap(
         alloc,
@@ -71,8 +70,9 @@ pub fn run_client_server_across_resets(
     now: Instant,
     steps: &[Step],
 ) -> Result<Vec<Reply>, Error>
-    ensures parts { IfOk result (λ replies. PartsFromNew tsns.0 tsns.1 steps.now replies.items) }
-    ensures read { IfOk result (λ replies. ReadFromNew max_payload_size tsns.0 tsns.1 steps.now replies.items) }
+    ensures across { IfOk result (λ replies.
+        AcrossFromNew max_payload_size tsns.0 tsns.1 steps.now replies.items) }
+    ensures written { IfOk result (λ replies. WrittenFromNew max_payload_size steps.now replies.items) }
 {
     let mut pair = Pair::client_server(
         alloc,

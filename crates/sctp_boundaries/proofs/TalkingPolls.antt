@@ -1,26 +1,30 @@
--- A poll for packets of a present side that talks leads both courses of a stream on, and what it gives out is said then.
-use Rattle.std.proofs.Common.{◌≡◌, refl, sym, ◌∙◌, subst, inl, inr, ℕ, ◌+◌, ◌-◌, ◌≤◌, arith, Bool, true, false}
-use Rattle.std.proofs.Common.{List, length, Option, Some, None}
-use Rattle.std.proofs.lemmas.Bool.{true≢false}
+-- A poll for packets of a present side that talks leads both courses of a stream on, and what it gives out is said
+-- then.
+use Rattle.std.proofs.Common.{◌≡◌, refl, sym, ◌∙◌, subst, inl, inr, ⊎_elim, ℕ, ◌+◌, ◌-◌, ◌≤◌, arith, Bool, true, false}
+use Rattle.std.proofs.Common.{if◌then◌else◌, not, List, length, Option, Some, None, is_some}
+use Rattle.std.proofs.lemmas.Bool.{cases_Bool, true≢false}
 use Rattle.sctp_wire_types.specs.declared.chunk.Chunk.{Chunk}
 use Rattle.sctp_wire_types.specs.declared.chunk.Chunk.TheVariants as chunks
 use Rattle.sctp_wire_types.specs.declared.chunk.ChunkPayloadData.{ChunkPayloadData}
 use Rattle.sctp_wire.specs.declared.packet.Packet.{Packet}
 use Rattle.sctp_model.proofs.Lists.{all_both, all_get, all_weaker}
+use Rattle.sctp_reset_requests.specs.declared.own_request.SentRequest.{SentRequest}
 use Rattle.sctp_reset_requests.specs.Laws.{DataHoldsBack, NamesAreThoseListed}
 use Rattle.sctp_courses.specs.Course.{Course}
 use Rattle.sctp_reset_fit.specs.Keeping.{GoesOn}
 use Rattle.sctp_reset_fit.proofs.Keeping.{goes_nowhere}
 use Rattle.sctp_directions.specs.Acts.{Act, History}
 use Rattle.sctp_assoc.specs.declared.control.Control.TheVariants as controls
-use Rattle.sctp_assoc.specs.Gather.{polled}
+use Rattle.sctp_assoc.specs.Gather.{open_polled, polled}
 use Rattle.sctp_assoc.specs.Happened.{IsOfShutdown, PollsOn, acts_of_poll, forwards_of_poll}
 use Rattle.sctp_assoc.specs.Leads.{Binds}
 use Rattle.sctp_assoc.specs.Replies.{packet_in}
 use Rattle.sctp_assoc.specs.Shown.{Shown}
+use Rattle.sctp_assoc.specs.Shutdown.{completes_shutdown}
 use Rattle.sctp_sides.specs.Meeting.{Greets, IsTruthful, SaysWhatIsSo, Stage, WaitsTruthfully, stage_of}
 use Rattle.sctp_sides.specs.OneSide.{Call, call_refusal}
-use Rattle.sctp_sides.specs.SideLaws.{IsExchanged, OfEachChunk}
+use Rattle.sctp_sides.specs.SideLaws.{IsExchanged, OfEachChunk, PollsOnward}
+use Rattle.sctp_sides.proofs.Proved.{polls_keep_the_stage}
 use Rattle.sctp_sides.proofs.RunsListed.{works_unrefused}
 use Rattle.sctp_course_sides.specs.Follows.{ChunkComes, Follows}
 use Rattle.sctp_course_sides.specs.Honest.{BringsHonest, IsHonest}
@@ -33,10 +37,12 @@ use Rattle.sctp_course_sides.proofs.PollSpells.{poll_spells}
 use Rattle.sctp_course_sides.proofs.ReceiverCalls.{call_follows, keeps_call}
 use Rattle.sctp_course_sides.proofs.SenderPolls.{PollSends, poll_sends}
 use Rattle.sctp_course_sides.proofs.SentOn.{sends_nothing}
+use Rattle.sctp_course_sides.proofs.SentRequests.{room_for_first}
 use Rattle.sctp_course_sides.proofs.StageCalls.{call_stays_at}
 use Rattle.sctp_course_sides.proofs.StageChunks.{stays_put}
 use Rattle.sctp_course_sides.proofs.TruthInCalls.{call_answers, speaks_heard}
 use Rattle.sctp_boundaries.specs.Between.{IsSaid, OfEachDatagram, StandsAt}
+use Rattle.sctp_boundaries.specs.Laws.{more_in_flight}
 use Rattle.sctp_boundaries.proofs.Leading.{SideTalks}
 use Rattle.sctp_boundaries.proofs.SentNumbers.{sends_small}
 use Rattle.sctp_boundaries.proofs.Staying.{answers_still, datagrams_weaker, said_still}
@@ -82,7 +88,8 @@ all_three : (own peer id : ℕ) (s : Stage) (out coming : Course) (packet : Opti
     → OfEachChunk (SpeaksOfStage own s) packet → OfEachChunk (IsSaid own peer id s out coming) packet
 all_three own peer id s out coming None comes honest speaks = tt
 all_three own peer id s out coming (Some packet) comes honest speaks =
-    all_weaker (λ (chunk : Chunk). ChunkComes own id out chunk × (IsHonest peer coming chunk × SpeaksOfStage own s chunk))
+    all_weaker
+    (λ (chunk : Chunk). ChunkComes own id out chunk × (IsHonest peer coming chunk × SpeaksOfStage own s chunk))
     (IsSaid own peer id s out coming) packet.chunks (λ chunk all. (all.0, all.1.0, all.1.1))
     (all_both (ChunkComes own id out) (λ (chunk : Chunk). IsHonest peer coming chunk × SpeaksOfStage own s chunk)
     packet.chunks comes
@@ -99,6 +106,27 @@ record Receives (P : ChunkPayloadData → Type 0) (peer id : ℕ) (b : Shown) (s
 -- What is assigned was assigned before the first piece in flight, or is in flight.
 assigned_at_most : (base before after n m : ℕ) → n ≡ base + before → m ≡ base + after → m ≤ n + (after - before)
 assigned_at_most base before after n m e f = omega arith
+
+-- so it is of a poll that did not fail
+where_works : (failed : Bool) → failed ≡ false → (n m k : ℕ) → m ≤ n + k → m ≤ n + (if not failed then k else 0)
+where_works true e n m k l = absurd (true≢false e)
+where_works false e n m k l = l
+
+-- No poll that is carried out fails.
+polled_works : (x : Shown) (now : ℕ) → x.failed ≡ false → (polled x now).0.failed ≡ false
+polled_works x now working =
+    let on : PollsOnward x now = polls_keep_the_stage x now in
+    ⊎_elim
+    (λ (ends : completes_shutdown (open_polled x now).0 ≡ true).
+    (on.closes ends).failed ∙ on.front.failed ∙ working)
+    (λ (goes : completes_shutdown (open_polled x now).0 ≡ false). (on.same goes).failed ∙ working)
+    (cases_Bool (completes_shutdown (open_polled x now).0))
+
+-- a request goes out for the first time where none is active
+room_seen : (active : Option SentRequest) (n m : ℕ) → m ≤ n + room_for_first active
+    → m ≤ n + (if not (is_some active) then 1 else 0)
+room_seen None n m l = l
+room_seen (Some s) n m l = l
 
 module _ (held : DataHoldsBack) (those_listed : NamesAreThoseListed) (P : ChunkPayloadData → Type 0)
     (own peer id : ℕ) (s : Stage) (x : Shown) (out coming : Course) (present : IsPresent x)
@@ -121,9 +149,11 @@ module _ (held : DataHoldsBack) (those_listed : NamesAreThoseListed) (P : ChunkP
             sends = p.on;
             seen = record {
               assigns =
-                  assigned_at_most st.sent.base (length x.sender.queue.in_flight) (length b.sender.queue.in_flight)
-                  out.assigned p.after.assigned st.sends.assigned p.assigned;
-              asks = p.asks;
+                  where_works b.failed (polled_works x now present.working) out.assigned p.after.assigned
+                  (more_in_flight x b)
+                  (assigned_at_most st.sent.base (length x.sender.queue.in_flight) (length b.sender.queue.in_flight)
+                  out.assigned p.after.assigned st.sends.assigned p.assigned);
+              asks = room_seen x.resets.own.active (length out.asked) (length p.after.asked) p.asks;
             };
             goes = r.goes;
             grows = r.told;
@@ -178,7 +208,8 @@ module _ (held : DataHoldsBack) (those_listed : NamesAreThoseListed) (P : ChunkP
             → OfEachDatagram (IsSaid own peer id s p.after coming) (polled x now).1
         all_said p =
             let packets : List (List ℕ) = (polled x now).1 in
-            let Comes : List ℕ → Type 0 = λ (bytes : List ℕ). OfEachChunk (ChunkComes own id p.after) (packet_in bytes) in
+            let Comes : List ℕ → Type 0 =
+            λ (bytes : List ℕ). OfEachChunk (ChunkComes own id p.after) (packet_in bytes) in
             let Honest : List ℕ → Type 0 = λ (bytes : List ℕ). BringsHonest peer coming (packet_in bytes) in
             let Speaks : List ℕ → Type 0 = λ (bytes : List ℕ). OfEachChunk (SpeaksOfStage own s) (packet_in bytes) in
             all_weaker (λ (bytes : List ℕ). Comes bytes × (Honest bytes × Speaks bytes))

@@ -1,6 +1,6 @@
 -- What is promised of a stream between two associations across its resets.
-use Rattle.std.specs.Prelude.{◌≡◌, ◌<◌, ◌≤◌, ◌+◌, ◌-◌, ◌^◌, ⊤, ℕ, suc, Bool, false, if◌then◌else◌}
-use Rattle.std.specs.Prelude.{true, List, [], ◌∷◌, length, Option, Some, None}
+use Rattle.std.specs.Prelude.{◌≡◌, ◌<◌, ◌≤◌, ◌+◌, ◌-◌, ◌^◌, ◌&&◌, ⊤, ℕ, Bool, true, false, if◌then◌else◌, not}
+use Rattle.std.specs.Prelude.{List, [], ◌∷◌, length, Option, Some, None, is_some}
 use Rattle.std.specs.List.{AllByRecursion}
 use Rattle.std.specs.declared.net.ip_addr.IpAddr.{IpAddr}
 use Rattle.std.specs.declared.net.socket_addr.SocketAddr.{SocketAddr}
@@ -45,12 +45,12 @@ polls_side x step = false
 abbrev pub more_in_flight : Shown → Shown → ℕ
 more_in_flight before after = length after.sender.queue.in_flight - length before.sender.queue.in_flight
 
--- What a course grows by can be seen of its sender, as it is before and after. Where that is asked for packets, no more
--- offsets are assigned than it has pieces more in flight, and no more requests are sent for the first time than it had
--- queued, and one that it makes. Else there are none.
+-- What a course grows by can be seen of its sender, as it is before and after. Where that is asked for packets and does
+-- not fail, no more offsets are assigned than it has pieces more in flight; and one request at most is sent for the
+-- first time, where none was active (RFC 6525 section 5.1.1). Else there are none.
 pub record GrowsAsSeen (polls : Bool) (before after : Shown) (c d : Course) : Type 0 where
-  pub assigns : d.assigned ≤ c.assigned + (if polls then more_in_flight before after else 0)
-  pub asks : length d.asked ≤ length c.asked + (if polls then suc (length before.resets.own.queued) else 0)
+  pub assigns : d.assigned ≤ c.assigned + (if polls && not after.failed then more_in_flight before after else 0)
+  pub asks : length d.asked ≤ length c.asked + (if polls && not (is_some before.resets.own.active) then 1 else 0)
 
 -- What was read of a stream is divided by a request to reset it (RFC 6525 section 4.1). By its Re-configuration Request
 -- Sequence Number it is one of the course, the other side performed it, and its boundary is one past its Sender's Last

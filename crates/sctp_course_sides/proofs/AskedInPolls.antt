@@ -1,5 +1,5 @@
 -- The requests that a poll gives, before its DATA and behind it, are of the course that it leads on.
-use Rattle.std.proofs.Common.{◌≡◌, refl, sym, ap, ◌∙◌, subst, ℕ, suc, ◌+◌, ◌-◌, ◌%◌, ◌^◌, ◌≤◌, arith, Bool}
+use Rattle.std.proofs.Common.{◌≡◌, refl, sym, ap, ◌∙◌, subst, ℕ, ◌+◌, ◌-◌, ◌%◌, ◌^◌, ◌≤◌, arith, Bool}
 use Rattle.std.proofs.Common.{true, false, ◌==◌, ◌⊎◌, if◌then◌else◌, fold, length, List, [], ◌∷◌, ◌++◌, slice_get}
 use Rattle.std.proofs.Common.{Option, Some, None}
 use Rattle.std.specs.List.{AllByRecursion}
@@ -14,6 +14,7 @@ use Rattle.sctp_reset_requests.specs.Ids.{has_id}
 use Rattle.sctp_reset_requests.specs.Laws.{DataHoldsBack, NamesAreThoseListed}
 use Rattle.sctp_reset_requests.specs.Own.{OwnView, asked, last_tsn_of, repeated, sent_first}
 use Rattle.sctp_reset_requests.specs.Peer.{PeerView}
+use Rattle.sctp_reset_requests.specs.declared.own_request.SentRequest.{SentRequest}
 use Rattle.sctp_resets.specs.Resets.{ResetsView, with_asked, with_own}
 use Rattle.sctp_courses.specs.Course.{Course}
 use Rattle.sctp_reset_fit.specs.Stands.{last_below}
@@ -34,7 +35,7 @@ use Rattle.sctp_course_sides.specs.Spelled.{control_requests, request_in, reques
 use Rattle.sctp_course_sides.proofs.SentOn.{sends_grow, sends_nothing, sends_then}
 use Rattle.sctp_course_sides.specs.Sends.{AreSmall}
 use Rattle.sctp_course_sides.proofs.SentRequests.{IsAskedByNames, OwnLeads, OwnSends, again_sends, first_sends}
-use Rattle.sctp_course_sides.proofs.SentRequests.{made_once, made_sends, still_by_names}
+use Rattle.sctp_course_sides.proofs.SentRequests.{made_leaves_active, made_sends, room_for_first, still_by_names}
 
 -- A side sends a course, stands where its history says, and its requests have numbers of 32 bits.
 pub record SendsNow (initial id : ℕ) (a : Shown) (h : History) (c : Course) : Type 0 where
@@ -42,33 +43,27 @@ pub record SendsNow (initial id : ℕ) (a : Shown) (h : History) (c : Course) : 
   pub small : AreSmall a.resets.own.active a.resets.own.queued
   pub first : a.sender.queue.first_tsn ≡ tsn h.own h.base
 
--- Requests that go out led the course on, and are of it; nothing was assigned. Those that were asked for and those that
--- are queued are no more than before, when so many were queued.
+-- So many requests of a side may go out for the first time now.
+abbrev pub room_of : Shown → ℕ
+room_of a = room_for_first a.resets.own.active
+
+-- Requests that go out led the course on, and are of it; nothing was assigned. Those that were asked for, and the room
+-- for one more, are no more than before, when there was so much room.
 pub record AsksOn (initial id : ℕ) (h : History) (c : Course) (before : ℕ) (b : Shown)
     (given : List ParamOutgoingResetRequest) : Type 0 where
   pub after : Course
   pub on : SendsOn c after
-  pub count : length after.asked + length b.resets.own.queued ≤ length c.asked + before
+  pub count : length after.asked + room_of b ≤ length c.asked + before
   pub sends : SendsNow initial id b h after
   pub are_asked : AllByRecursion (IsAskedByNames initial id after) given
 
--- Numbers of requests
+-- Numbers
 
 as_many : (n m : ℕ) → n ≡ m → n ≤ m
 as_many n m e = omega arith
 
 at_most_then : (n m k : ℕ) → n ≤ m → m ≤ k → n ≤ k
 at_most_then n m k l j = omega arith
-
-plus_at_most : (n m k : ℕ) → m ≤ k → n + m ≤ n + k
-plus_at_most n m k l = omega arith
-
--- one more on both sides
-one_more_both : (n m k l : ℕ) → n + m ≤ k + l → n + suc m ≤ k + suc l
-one_more_both n m k l j = omega arith
-
-next_is_more : (n : ℕ) → n ≤ suc n
-next_is_more n = omega arith
 
 -- The requests that go out before DATA.
 
@@ -136,31 +131,30 @@ module _ (initial id : ℕ) (h : History) where
     -- what its requests led on, it leads on
     asks_by : (a b : Shown) (c : Course) (given : List ParamOutgoingResetRequest) → SendsNow initial id a h c
         → b.sender ≡ a.sender → b.resets ≡ (let r = a.resets in record r { own = b.resets.own })
-        → OwnLeads initial id a.resets.debts.failed a.sender.queue c (length a.resets.own.queued) b.resets.own given
-        → AsksOn initial id h c (length a.resets.own.queued) b given
+        → OwnLeads initial id a.resets.debts.failed a.sender.queue c (room_of a) b.resets.own given
+        → AsksOn initial id h c (room_of a) b given
     asks_by a b c given s sender resets o = record {
       after = o.after;
       on = o.on;
       count =
-          as_many (length o.after.asked + length b.resets.own.queued) (length c.asked + length a.resets.own.queued)
-          o.count;
+          as_many (length o.after.asked + room_of b) (length c.asked + room_of a) o.count;
       sends = own_changed a b c o.after s sender resets o.assigned o.mine o.sends;
       are_asked = o.are_asked;
     }
 
     -- none goes out
     asks_nothing : (a : Shown) (c : Course) → SendsNow initial id a h c
-        → AsksOn initial id h c (length a.resets.own.queued) a []
+        → AsksOn initial id h c (room_of a) a []
     asks_nothing a c s = record {
       after = c;
       on = sends_nothing c;
-      count = as_many (length c.asked + length a.resets.own.queued) _ refl;
+      count = as_many (length c.asked + room_of a) _ refl;
       sends = s;
       are_asked = tt;
     }
 
     first_led : (a : Shown) (c : Course) → SendsNow initial id a h c
-        → OwnLeads initial id a.resets.debts.failed a.sender.queue c (length a.resets.own.queued)
+        → OwnLeads initial id a.resets.debts.failed a.sender.queue c (room_of a)
         (sent_first a.resets.own a.sender.queue).0 (listed (sent_first a.resets.own a.sender.queue).1)
     first_led a c s =
         first_sends those_listed initial id a.resets.debts.failed a.sender.queue a.resets.own c (own_sends a c s) held
@@ -170,8 +164,8 @@ module _ (initial id : ℕ) (h : History) where
 
     placed_asks : (a : Shown) (packets : List (List ℕ)) (c : Course)
         (x : OwnView × Option ParamOutgoingResetRequest) → SendsNow initial id a h c
-        → OwnLeads initial id a.resets.debts.failed a.sender.queue c (length a.resets.own.queued) x.0 (listed x.1)
-        → AsksOn initial id h c (length a.resets.own.queued)
+        → OwnLeads initial id a.resets.debts.failed a.sender.queue c (room_of a) x.0 (listed x.1)
+        → AsksOn initial id h c (room_of a)
         (with_request_placed (a, packets) (with_own a.resets x)).0 (listed x.1)
     placed_asks a packets c (o, None) s l =
         asks_by a (with_request_placed (a, packets) (with_own a.resets (o, None))).0 c [] s refl refl l
@@ -179,7 +173,7 @@ module _ (initial id : ℕ) (h : History) where
         asks_by a (with_request_placed (a, packets) (with_own a.resets (o, Some param))).0 c (param ∷ []) s refl refl l
 
     given_asks : (x : Shown × List (List ℕ)) (k : Control) (c : Course) → SendsNow initial id x.0 h c
-        → AsksOn initial id h c (length x.0.resets.own.queued) (with_control_given x k).0 (request_in x.0 k)
+        → AsksOn initial id h c (room_of x.0) (with_control_given x k).0 (request_in x.0 k)
     given_asks (a, packets) (controls.Packet k) c s = asks_nothing a c s
     given_asks (a, packets) controls.OwnRequest c s =
         placed_asks a packets c (sent_first a.resets.own a.sender.queue) s (first_led a c s)
@@ -192,7 +186,7 @@ module _ (initial id : ℕ) (h : History) where
       after = t.after;
       on = sends_then c s.after t.after s.on t.on;
       count =
-          at_most_then (length t.after.asked + length b.resets.own.queued) (length s.after.asked + later)
+          at_most_then (length t.after.asked + room_of b) (length s.after.asked + later)
           (length c.asked + total) t.count room;
       sends = t.sends;
       are_asked =
@@ -201,31 +195,17 @@ module _ (initial id : ℕ) (h : History) where
           (still_by_names initial id s.after t.after (sends_grow s.after t.after t.on)) s.are_asked) t.are_asked;
     }
 
-    -- where more were queued
-    asks_within : (a : Shown) (c : Course) (before total : ℕ) (given : List ParamOutgoingResetRequest)
-        → AsksOn initial id h c before a given → before ≤ total → AsksOn initial id h c total a given
-    asks_within a c before total given s l = record {
-      after = s.after;
-      on = s.on;
-      count =
-          at_most_then (length s.after.asked + length a.resets.own.queued) (length c.asked + before)
-          (length c.asked + total) s.count (plus_at_most (length c.asked) before total l);
-      sends = s.sends;
-      are_asked = s.are_asked;
-    }
-
     all_ask : (ks : List Control) (x : Shown × List (List ℕ)) (c : Course) → SendsNow initial id x.0 h c
-        → AsksOn initial id h c (length x.0.resets.own.queued) (fold with_control_given x ks).0 (requests_in ks x)
+        → AsksOn initial id h c (room_of x.0) (fold with_control_given x ks).0 (requests_in ks x)
     all_ask [] x c s = asks_nothing x.0 c s
     all_ask (k ∷ ks) x c s =
         let y = with_control_given x k in
         let first = given_asks x k c s in
-        asks_then y.0 (fold with_control_given y ks).0 c (length x.0.resets.own.queued)
-        (length y.0.resets.own.queued) (length x.0.resets.own.queued) (request_in x.0 k) (requests_in ks y) first
-        first.count (all_ask ks y first.after first.sends)
+        asks_then y.0 (fold with_control_given y ks).0 c (room_of x.0) (room_of y.0) (room_of x.0) (request_in x.0 k)
+        (requests_in ks y) first first.count (all_ask ks y first.after first.sends)
 
     pub control_asks : (a : Shown) (c : Course) → SendsNow initial id a h c
-        → AsksOn initial id h c (length a.resets.own.queued) (control_polled a).0 (control_requests a)
+        → AsksOn initial id h c (room_of a) (control_polled a).0 (control_requests a)
     control_asks a c s =
         all_ask a.control (without_control a, []) c
         (own_changed a (without_control a) c c s refl refl refl refl (own_sends a c s))
@@ -233,8 +213,8 @@ module _ (initial id : ℕ) (h : History) where
     -- Behind DATA
 
     again_asks : (a : Shown) (c : Course) (x : OwnView × Option ParamOutgoingResetRequest) → SendsNow initial id a h c
-        → OwnLeads initial id a.resets.debts.failed a.sender.queue c (length a.resets.own.queued) x.0 (listed x.1)
-        → AsksOn initial id h c (length a.resets.own.queued) (with_request_again a (with_own a.resets x)).0 (listed x.1)
+        → OwnLeads initial id a.resets.debts.failed a.sender.queue c (room_of a) x.0 (listed x.1)
+        → AsksOn initial id h c (room_of a) (with_request_again a (with_own a.resets x)).0 (listed x.1)
     again_asks a c (o, None) s l =
         asks_by a (with_request_again a (with_own a.resets (o, None))).0 c [] s refl refl l
     again_asks a c (o, Some param) s l =
@@ -249,25 +229,25 @@ module _ (initial id : ℕ) (h : History) where
         own_changed a (with_request_asked a (with_asked a.resets (o, false))) c c s refl refl refl refl l
 
     sent_asks : (a : Shown) (c : Course) (x : OwnView × Option ParamOutgoingResetRequest) → SendsNow initial id a h c
-        → OwnLeads initial id a.resets.debts.failed a.sender.queue c (length a.resets.own.queued) x.0 (listed x.1)
-        → AsksOn initial id h c (length a.resets.own.queued) (with_request_sent a (with_own a.resets x)).0 (listed x.1)
+        → OwnLeads initial id a.resets.debts.failed a.sender.queue c (room_of a) x.0 (listed x.1)
+        → AsksOn initial id h c (room_of a) (with_request_sent a (with_own a.resets x)).0 (listed x.1)
     sent_asks a c (o, None) s l =
         asks_by a (with_request_sent a (with_own a.resets (o, None))).0 c [] s refl refl l
     sent_asks a c (o, Some param) s l =
         asks_by a (with_request_sent a (with_own a.resets (o, Some param))).0 c (param ∷ []) s refl refl l
 
     first_asks : (none : Bool) (a : Shown) (c : Course) → SendsNow initial id a h c
-        → AsksOn initial id h c (length a.resets.own.queued) (first_request_if none a).0 (first_listed none a)
+        → AsksOn initial id h c (room_of a) (first_request_if none a).0 (first_listed none a)
     first_asks true a c s = asks_nothing a c s
     first_asks false a c s = sent_asks a c (sent_first a.resets.own a.sender.queue) s (first_led a c s)
 
-    made_queued : (a : Shown) (x : OwnView × Bool) (n : ℕ) → length x.0.queued ≤ n
-        → length (with_request_asked a (with_asked a.resets x)).resets.own.queued ≤ n
-    made_queued a (o, true) n l = l
-    made_queued a (o, false) n l = l
+    made_active : (a : Shown) (x : OwnView × Bool)
+        → (with_request_asked a (with_asked a.resets x)).resets.own.active ≡ x.0.active
+    made_active a (o, true) = refl
+    made_active a (o, false) = refl
 
     behind_asks : (y : Shown × List (List ℕ)) (c : Course) → SendsNow initial id y.0 h c
-        → AsksOn initial id h c (suc (length y.0.resets.own.queued)) (first_request_behind y).0
+        → AsksOn initial id h c (room_of y.0) (first_request_behind y).0
         (first_listed (length (request_made y.0).control == 0) (request_made y.0))
     behind_asks (b, packets) c s =
         let d = request_made b in
@@ -276,36 +256,32 @@ module _ (initial id : ℕ) (h : History) where
         made_asks b c (asked b.resets.own b.sender.queue b.resets.peer) s
         (made_sends those_listed initial id b.resets.debts.failed b.sender.queue b.resets.own c (own_sends b c s)
         b.resets.peer) in
-        let once : length d.resets.own.queued ≤ suc (length b.resets.own.queued) =
-        made_queued b (asked b.resets.own b.sender.queue b.resets.peer) (suc (length b.resets.own.queued))
-        (made_once b.resets.own b.sender.queue b.resets.peer) in
-        subst (λ (z : Shown). AsksOn initial id h c (suc (length b.resets.own.queued)) z (first_listed none d))
+        let active : d.resets.own.active ≡ b.resets.own.active =
+        made_active b (asked b.resets.own b.sender.queue b.resets.peer)
+        ∙ made_leaves_active b.resets.own b.sender.queue b.resets.peer in
+        subst (λ (z : Shown). AsksOn initial id h c (room_of b) z (first_listed none d))
         (sym (both_first packets (first_request_polled d)))
-        (asks_within (first_request_polled d).0 c (length d.resets.own.queued) (suc (length b.resets.own.queued))
-        (first_listed none d) (first_asks none d c made) once)
+        (subst
+        (λ (o : Option SentRequest).
+        AsksOn initial id h c (room_for_first o) (first_request_polled d).0 (first_listed none d)) active
+        (first_asks none d c made))
 
     asks_if : (established : Bool) (a : Shown) (c : Course) → SendsNow initial id a h c
-        → AsksOn initial id h c (suc (length a.resets.own.queued))
+        → AsksOn initial id h c (room_of a)
         (if established then first_request_behind (repeat_polled a) else (a, [])).0
         (if established then requests_of a else [])
     asks_if true a c s =
-        let again : AsksOn initial id h c (length a.resets.own.queued) (repeat_polled a).0
-        (listed (repeated a.resets.own).1) =
+        let again : AsksOn initial id h c (room_of a) (repeat_polled a).0 (listed (repeated a.resets.own).1) =
         again_asks a c (repeated a.resets.own) s
         (again_sends those_listed initial id a.resets.debts.failed a.sender.queue a.resets.own c (own_sends a c s)) in
         let y : Shown = (repeat_polled a).0 in
         let b = request_made y in
-        asks_then y (first_request_behind (repeat_polled a)).0 c (length a.resets.own.queued)
-        (suc (length y.resets.own.queued)) (suc (length a.resets.own.queued)) (listed (repeated a.resets.own).1)
-        (first_listed (length b.control == 0) b) again
-        (one_more_both (length again.after.asked) (length y.resets.own.queued) (length c.asked)
-        (length a.resets.own.queued) again.count)
+        asks_then y (first_request_behind (repeat_polled a)).0 c (room_of a) (room_of y) (room_of a)
+        (listed (repeated a.resets.own).1) (first_listed (length b.control == 0) b) again again.count
         (behind_asks (repeat_polled a) again.after again.sends)
-    asks_if false a c s =
-        asks_within a c (length a.resets.own.queued) (suc (length a.resets.own.queued)) [] (asks_nothing a c s)
-        (next_is_more (length a.resets.own.queued))
+    asks_if false a c s = asks_nothing a c s
 
     pub requests_ask : (a : Shown) (c : Course) → SendsNow initial id a h c
-        → AsksOn initial id h c (suc (length a.resets.own.queued)) (requests_polled a).0 (requests_sent a)
+        → AsksOn initial id h c (room_of a) (requests_polled a).0 (requests_sent a)
     unfolding requests_polled
     requests_ask a c s = asks_if (is_established a.state) a c s

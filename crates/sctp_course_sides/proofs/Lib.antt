@@ -6,7 +6,6 @@ pub mod BesideInChunks
 pub mod BesideInPolls
 pub mod CarriedRequests
 pub mod ChunksHold
-pub mod ControlGiven
 pub mod DataComes
 pub mod FollowsWeaker
 pub mod ForwardComes
@@ -47,7 +46,6 @@ pub mod TalkingChunks
 pub mod TruthBeside
 pub mod TruthInCalls
 pub mod TruthInChunks
-pub mod TruthInPackets
 pub mod TruthInPolls
 pub mod TruthInSteps
 pub mod TruthOfRequests

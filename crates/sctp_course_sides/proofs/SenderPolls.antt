@@ -1,6 +1,6 @@
 -- A poll for packets leads the course of each stream of a side on: by the requests that go out before DATA, by the
 -- offsets that its DATA gets, and by the requests behind that. What it gives out is of the course that it led to.
-use Rattle.std.proofs.Common.{◌≡◌, refl, sym, ap, ◌∙◌, subst, ℕ, suc, ◌+◌, ◌<◌, ◌≤◌, arith, ⊎_elim}
+use Rattle.std.proofs.Common.{◌≡◌, refl, sym, ap, ◌∙◌, subst, ℕ, ◌+◌, ◌<◌, ◌≤◌, arith, ⊎_elim}
 use Rattle.std.proofs.Common.{Bool, true, false, not, if◌then◌else◌, length, List, [], ◌∷◌, ◌++◌, slice_get}
 use Rattle.std.specs.List.{AllByRecursion, position_or_len}
 use Rattle.std.proofs.lemmas.Bool.{and_parts, cases_Bool, cond-false, false≢true, true≢false}
@@ -41,12 +41,12 @@ use Rattle.sctp_course_sides.specs.Honest.{RequestNames}
 use Rattle.sctp_course_sides.specs.Sends.{Sends, SendsOn}
 use Rattle.sctp_course_sides.specs.Spelled.{control_requests}
 use Rattle.sctp_course_sides.proofs.AskedInPolls.{AsksOn, SendsNow, control_asks, last_tsns}
-use Rattle.sctp_course_sides.proofs.AskedInPolls.{requests_ask}
+use Rattle.sctp_course_sides.proofs.AskedInPolls.{requests_ask, room_of}
 use Rattle.sctp_course_sides.proofs.SendsBeside.{leads_data, sends_as, sends_behind}
 use Rattle.sctp_course_sides.proofs.SentData.{IsOfPoll, SendsActs, acts_send}
 use Rattle.sctp_course_sides.proofs.SentOn.{Grows, sends_grow, sends_nothing, sends_then}
 use Rattle.sctp_course_sides.proofs.SentOn.{still_of_course}
-use Rattle.sctp_course_sides.proofs.SentRequests.{IsAskedByNames, still_by_names}
+use Rattle.sctp_course_sides.proofs.SentRequests.{IsAskedByNames, room_for_first, still_by_names}
 use Rattle.sctp_wire_types.specs.declared.param.ParamOutgoingResetRequest.{ParamOutgoingResetRequest}
 use Rattle.sctp_course_sides.specs.Sends.{AreSmall}
 
@@ -154,21 +154,21 @@ run_sends initial id a h c now s = run_if _ initial id a h c now s
 -- Numbers of requests
 
 -- behind those that went out
-asks_at_most : (after left n m k l : ℕ) → after + left ≤ m + suc l → m ≡ n → l ≡ k → after ≤ n + suc k
+asks_at_most : (after left n m k l : ℕ) → after + left ≤ m + l → m ≡ n → l ≡ k → after ≤ n + k
 asks_at_most after left n m k l j e f = omega arith
 
-asks_none : (n k : ℕ) → n ≤ n + suc k
+asks_none : (n k : ℕ) → n ≤ n + k
 asks_none n k = omega arith
 
 -- before DATA and behind it
-asks_in_all : (after middle left n k : ℕ) → middle + left ≤ n + k → after ≤ middle + suc left → after ≤ n + suc k
+asks_in_all : (after middle left n k : ℕ) → middle + left ≤ n + k → after ≤ middle + left → after ≤ n + k
 asks_in_all after middle left n k l j = omega arith
 
 -- The exchange of a poll led the course on.
 pub record ExchangeSends (initial id : ℕ) (b : Shown) (now : ℕ) (h : History) (c : Course) : Type 0 where
   pub after : Course
   pub on : SendsOn c after
-  pub asks : length after.asked ≤ length c.asked + suc (length b.resets.own.queued)
+  pub asks : length after.asked ≤ length c.asked + room_of b
   pub sends : SendsNow initial id (exchange_polled b now).0 h after
   pub of_course : AllByRecursion (IsOfCourse initial id after) (all_data_given (acts_of_exchange b now) (parts b h))
   pub are_asked : AllByRecursion (IsAskedByNames initial id after)
@@ -203,16 +203,16 @@ module _ (held : DataHoldsBack) (those_listed : NamesAreThoseListed) (initial id
         let sent : SendsNow initial id x h d =
         sends_behind initial id b x h c d q (data_resets b now) queue history acted.asked acted.performed acted.leads s
         first in
-        let asked : AsksOn initial id h d (suc (length x.resets.own.queued)) y (requests_sent x) =
+        let asked : AsksOn initial id h d (room_of x) y (requests_sent x) =
         requests_ask initial id h held those_listed x d sent in
         let grows : Grows d asked.after = sends_grow d asked.after asked.on in
         record {
           after = asked.after;
           on = sends_then c d asked.after acted.on asked.on;
           asks =
-              asks_at_most (length asked.after.asked) (length y.resets.own.queued) (length c.asked) (length d.asked)
-              (length b.resets.own.queued) (length x.resets.own.queued) asked.count (ap length acted.asked)
-              (ap (λ (r : ResetsView). length r.own.queued) (data_resets b now));
+              asks_at_most (length asked.after.asked) (room_of y) (length c.asked) (length d.asked) (room_of b)
+              (room_of x) asked.count (ap length acted.asked)
+              (ap (λ (r : ResetsView). room_for_first r.own.active) (data_resets b now));
           sends =
               subst (λ (w : Shown). SendsNow initial id w h asked.after) (sym there)
               (sends_as initial id y (after_requests y) h asked.after refl refl asked.sends);
@@ -230,7 +230,7 @@ module _ (held : DataHoldsBack) (those_listed : NamesAreThoseListed) (initial id
     silence_sends e = record {
       after = c;
       on = sends_nothing c;
-      asks = asks_none (length c.asked) (length b.resets.own.queued);
+      asks = asks_none (length c.asked) (room_of b);
       sends =
           subst (λ (w : Shown × List (List ℕ)). SendsNow initial id w.0 h c)
           (sym (cond-false (exchanges_data b.state) (forward_after (ack_after (requests_after (data_after b now))))
@@ -247,12 +247,12 @@ module _ (held : DataHoldsBack) (those_listed : NamesAreThoseListed) (initial id
     any_exchange_sends = ⊎_elim exchange_sends silence_sends (cases_Bool (exchanges_data b.state))
 
 -- A poll led the course on; the side is lost where the poll closed the association. What is assigned now was assigned
--- before or is in flight, and no more was asked for than what was queued, and one request that it makes.
+-- before or is in flight, and no more was asked for than one request, where none was active.
 pub record PollSends (initial id now : ℕ) (a : Shown) (h : History) (c : Course) : Type 0 where
   pub after : Course
   pub on : SendsOn c after
   pub assigned : after.assigned ≡ h.base + length (polled a now).0.sender.queue.in_flight
-  pub asks : length after.asked ≤ length c.asked + suc (length a.resets.own.queued)
+  pub asks : length after.asked ≤ length c.asked + room_of a
   pub sends : (polled a now).0.lost ≡ false → Sends initial id (polled a now).0 h after
   pub small : (polled a now).0.lost ≡ false
       → AreSmall (polled a now).0.resets.own.active (polled a now).0.resets.own.queued
@@ -290,7 +290,7 @@ module _ (held : DataHoldsBack) (those_listed : NamesAreThoseListed) (initial id
           marked = binds.marked;
         })
 
-    asked : AsksOn initial id h c (length a.resets.own.queued) b (control_requests a)
+    asked : AsksOn initial id h c (room_of a) b (control_requests a)
     asked =
         control_asks initial id h held those_listed a c (record { sends = s; small = small; first = binds.first })
 
@@ -378,8 +378,8 @@ module _ (held : DataHoldsBack) (those_listed : NamesAreThoseListed) (initial id
       on = sends_then c asked.after last asked.on exchanged.on;
       assigned = assigned_now;
       asks =
-          asks_in_all (length last.asked) (length asked.after.asked) (length b.resets.own.queued) (length c.asked)
-          (length a.resets.own.queued) asked.count exchanged.asks;
+          asks_in_all (length last.asked) (length asked.after.asked) (room_of b) (length c.asked) (room_of a)
+          asked.count exchanged.asks;
       sends = λ stands. (all_sends stands).sends;
       small = λ stands. (all_sends stands).small;
       data_is =

@@ -48,15 +48,20 @@ pub record OwnSends (initial id : ℕ) (failed : List ℕ) (q : Outbound) (o : O
   pub held_back : is_to_be_reset c ≡ true → (has_stream q id ≡ false)
       × ((is_reset_by o.active id ≡ true) ⊎ (has_id id failed ≡ true))
 
+-- So many requests may go out for the first time now: one, where none is active.
+abbrev pub room_for_first : Option SentRequest → ℕ
+room_for_first None = 1
+room_for_first (Some s) = 0
+
 -- The requests of a side led the course on, and are of it; nothing was assigned. One that went out for the first time
--- is queued no more, of so many before.
+-- took the room that there was for it before.
 pub record OwnLeads (initial id : ℕ) (failed : List ℕ) (q : Outbound) (c : Course) (before : ℕ) (o : OwnView)
     (given : List ParamOutgoingResetRequest) : Type 0 where
   pub after : Course
   pub on : SendsOn c after
   pub assigned : after.assigned ≡ c.assigned
   pub mine : after.mine ≡ c.mine
-  pub count : length after.asked + length o.queued ≡ length c.asked + before
+  pub count : length after.asked + room_for_first o.active ≡ length c.asked + before
   pub sends : OwnSends initial id failed q o after
   pub are_asked : AllByRecursion (IsAskedByNames initial id after) given
 
@@ -107,38 +112,36 @@ empty_of xs f =
     ⊎_elim (λ (e : eqb (length xs) 0 ≡ true). nil_from_length xs (eqb-true (length xs) 0 e))
     (λ (e : eqb (length xs) 0 ≡ false). absurd (true≢false (sym (ap not e) ∙ f))) (cases_Bool (eqb (length xs) 0))
 
--- A request is made at most.
+-- The requests that are made leave the active one.
 
-next_is_more : (n : ℕ) → n ≤ suc n
-next_is_more n = omega arith
+active_some : (none : Bool) (o : OwnView) (ids : List ℕ) (last : ℕ)
+    → (if◌then◌else◌ {A = OwnView × Bool} none (o, false) (with_request o last false ids, true)).0.active ≡ o.active
+active_some true o ids last = refl
+active_some false o ids last = refl
 
-as_many : (n m : ℕ) → n ≡ m → n ≤ m
-as_many n m e = omega arith
+active_for : (o : OwnView) (ids : List ℕ) (last : Option ℕ) → (asked_for ids last o).0.active ≡ o.active
+active_for o ids None = refl
+active_for o ids (Some last) = active_some (length ids == 0) o ids last
 
-once_some : (none : Bool) (o : OwnView) (ids : List ℕ) (last : ℕ)
-    → length (if◌then◌else◌ {A = OwnView × Bool} none (o, false) (with_request o last false ids, true)).0.queued
-    ≤ suc (length o.queued)
-once_some true o ids last = next_is_more (length o.queued)
-once_some false o ids last =
-    as_many _ _
-    (one_more o.queued
-    (record { number = o.next_number; response_number = last; names_all = false; ids = ids }))
+active_if : (open_still : Bool) (o : OwnView) (x : OwnView × Bool) → x.0.active ≡ o.active
+    → (if open_still then (o, false) else x).0.active ≡ o.active
+active_if true o x e = refl
+active_if false o x e = e
 
-once_for : (o : OwnView) (ids : List ℕ) (last : Option ℕ)
-    → length (asked_for ids last o).0.queued ≤ suc (length o.queued)
-once_for o ids None = next_is_more (length o.queued)
-once_for o ids (Some last) = once_some (length ids == 0) o ids last
+pub made_leaves_active : (o : OwnView) (q : Outbound) (p : PeerView) → (asked o q p).0.active ≡ o.active
+made_leaves_active o q p =
+    active_if (is_some o.active || not (length o.queued == 0)) o (asked_for (quiet_ids o q) p.last_completed o)
+    (active_for o (quiet_ids o q) p.last_completed)
 
-once_if : (open_still : Bool) (o : OwnView) (x : OwnView × Bool) → length x.0.queued ≤ suc (length o.queued)
-    → length (if open_still then (o, false) else x).0.queued ≤ suc (length o.queued)
-once_if true o x l = next_is_more (length o.queued)
-once_if false o x l = l
+-- So does one that goes out again, in what room there is.
+room_again : (due : Bool) (active : Option SentRequest)
+    → room_for_first (with_repeat due active) ≡ room_for_first active
+room_again due None = refl
+room_again due (Some s) = refl
 
-pub made_once : (o : OwnView) (q : Outbound) (p : PeerView)
-    → length (asked o q p).0.queued ≤ suc (length o.queued)
-made_once o q p =
-    once_if (is_some o.active || not (length o.queued == 0)) o (asked_for (quiet_ids o q) p.last_completed o)
-    (once_for o (quiet_ids o q) p.last_completed)
+-- one that goes out takes it
+room_taken : (n m : ℕ) → m ≡ suc n → m + 0 ≡ n + 1
+room_taken n m e = omega arith
 
 -- where the course goes on, the request is still one of it
 pub still_by_names : (initial id : ℕ) (c d : Course) → Grows c d → (p : ParamOutgoingResetRequest)
@@ -218,7 +221,7 @@ module _ (those_listed : NamesAreThoseListed) (initial id : ℕ) where
           again_if s.repeat_due c s l by_ids.0,
         )
 
-    pub again_sends : OwnLeads initial id failed q c (length o.queued) (repeated o).0 (listed (repeated o).1)
+    pub again_sends : OwnLeads initial id failed q c (room_for_first o.active) (repeated o).0 (listed (repeated o).1)
     again_sends =
         let x = again_of o.active refl in
         record {
@@ -226,7 +229,7 @@ module _ (those_listed : NamesAreThoseListed) (initial id : ℕ) where
           on = sends_nothing c;
           assigned = refl;
           mine = refl;
-          count = refl;
+          count = ap (λ (n : ℕ). length c.asked + n) (room_again false o.active);
           sends = x.0;
           are_asked = x.1;
         }
@@ -298,10 +301,10 @@ module _ (those_listed : NamesAreThoseListed) (initial id : ℕ) where
     module _ (held : DataHoldsBack) (last_is : last_tsn_of q ≡ last_below initial c.assigned) where
       -- none does
       none_goes : sent_first o q ≡ (o, None)
-          → OwnLeads initial id failed q c (length o.queued) (sent_first o q).0 (listed (sent_first o q).1)
+          → OwnLeads initial id failed q c (room_for_first o.active) (sent_first o q).0 (listed (sent_first o q).1)
       none_goes e =
           subst (λ (x : OwnView × Option ParamOutgoingResetRequest).
-          OwnLeads initial id failed q c (length o.queued) x.0 (listed x.1))
+          OwnLeads initial id failed q c (room_for_first o.active) x.0 (listed x.1))
           (sym e)
           (record {
             after = c;
@@ -379,18 +382,21 @@ module _ (those_listed : NamesAreThoseListed) (initial id : ℕ) where
           named_streams : AllByRecursion NamesStreams (r ∷ rs)
           named_streams = subst (AllByRecursion NamesStreams) open_before h.by_ids
 
-          one_goes : OwnLeads initial id failed q c (length o.queued) (sent_first o q).0 (listed (sent_first o q).1)
+          one_goes : OwnLeads initial id failed q c (room_for_first o.active) (sent_first o q).0
+              (listed (sent_first o q).1)
           one_goes =
               subst
               (λ (y : OwnView × Option ParamOutgoingResetRequest).
-              OwnLeads initial id failed q c (length o.queued) y.0 (listed y.1))
+              OwnLeads initial id failed q c (room_for_first o.active) y.0 (listed y.1))
               (sym there)
               (record {
                 after = after;
                 on = sends_by c after (Event.Asks (resets id r)) refl refl;
                 assigned = refl;
                 mine = refl;
-                count = sym plus ∙ ap (λ (qs : List OwnRequest). length c.asked + length qs) (sym oldest);
+                count =
+                    room_taken (length c.asked) (length (c.asked ++ x ∷ [])) (one_more c.asked x)
+                    ∙ ap (λ (a : Option SentRequest). length c.asked + room_for_first a) (sym none);
                 sends = record {
                   numbers =
                       h.numbers
@@ -410,7 +416,7 @@ module _ (those_listed : NamesAreThoseListed) (initial id : ℕ) where
 
       first_if : (goes : Bool) (r : OwnRequest) (rs : List OwnRequest) → may_go r q ≡ goes → o.active ≡ None
           → o.queued ≡ r ∷ rs
-          → OwnLeads initial id failed q c (length o.queued) (sent_first o q).0 (listed (sent_first o q).1)
+          → OwnLeads initial id failed q c (room_for_first o.active) (sent_first o q).0 (listed (sent_first o q).1)
       first_if true r rs e none oldest =
           let there : sent_first o q
           ≡ (record o { queued = rs; active = Some (sent_of r q) }, Some (sent_param (sent_of r q))) =
@@ -420,16 +426,17 @@ module _ (those_listed : NamesAreThoseListed) (initial id : ℕ) where
           let there : sent_first o q ≡ (o, None) = rw (none, oldest, e) refl in none_goes there
 
       first_queued : (queued : List OwnRequest) → o.active ≡ None → o.queued ≡ queued
-          → OwnLeads initial id failed q c (length o.queued) (sent_first o q).0 (listed (sent_first o q).1)
+          → OwnLeads initial id failed q c (room_for_first o.active) (sent_first o q).0 (listed (sent_first o q).1)
       first_queued [] none e =
           let there : sent_first o q ≡ (o, None) = rw (none, e) refl in none_goes there
       first_queued (r ∷ rs) none e = first_if (may_go r q) r rs refl none e
 
       first_active : (active : Option SentRequest) → o.active ≡ active
-          → OwnLeads initial id failed q c (length o.queued) (sent_first o q).0 (listed (sent_first o q).1)
+          → OwnLeads initial id failed q c (room_for_first o.active) (sent_first o q).0 (listed (sent_first o q).1)
       first_active None e = first_queued o.queued e refl
       first_active (Some s) e =
           let there : sent_first o q ≡ (o, None) = rw e refl in none_goes there
 
-      pub first_sends : OwnLeads initial id failed q c (length o.queued) (sent_first o q).0 (listed (sent_first o q).1)
+      pub first_sends : OwnLeads initial id failed q c (room_for_first o.active) (sent_first o q).0
+          (listed (sent_first o q).1)
       first_sends = first_active o.active refl

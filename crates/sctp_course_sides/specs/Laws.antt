@@ -13,8 +13,7 @@ use Rattle.sctp_course_sides.specs.Follows.{Follows}
 use Rattle.sctp_course_sides.specs.Turns.{KeepsAlong, Turn}
 
 -- A side that follows the course of a stream keeps its boundaries, over every list of calls and whatever the peer sends
--- by the course between them. Where P is so of each DATA that comes, it is so of
--- all that messages are made of.
+-- by the course between them. Where P is so of each DATA that comes, it is so of all that messages are made of.
 abbrev pub OneSideKeepsBoundaries : (ChunkPayloadData → Type 0) → Type 0
 OneSideKeepsBoundaries P =
     (initial id : ℕ) (turns : List Turn) (a : Shown) (h : History) (c : Course) → Follows P initial id a h c

@@ -1,6 +1,6 @@
--- Since a pair was new that stood between fresh courses of a stream, what was read on the stream was written, whether it
--- was reset in between or not.
-use Rattle.std.proofs.Common.{◌≡◌, refl, sym, ap, ◌∙◌, subst, ℕ, suc, List, [], ◌∷◌, ◌++◌, length}
+-- Since a pair was new that stood between fresh courses of a stream, what was read on the stream was written, whether
+-- it was reset in between or not.
+use Rattle.std.proofs.Common.{◌≡◌, refl, sym, ap, ◌∙◌, subst, ℕ, suc, ◌+◌, ◌<◌, ◌^◌, List, [], ◌∷◌, ◌++◌, length}
 use Rattle.std.specs.List.{AllByRecursion}
 use Rattle.std.proofs.lemmas.List.{append-nil, append_assoc}
 use Rattle.sctp_receive_queues.specs.Messages.{ReceivedMessage}
@@ -12,15 +12,17 @@ use Rattle.sctp_steps.specs.declared.step.Step.{Step}
 use Rattle.sctp_steps.specs.Ends.{Ends}
 use Rattle.sctp_steps.specs.Seen.{message_read}
 use Rattle.sctp_steps.specs.Steps.{Runs, writing_of}
-use Rattle.sctp_boundaries.specs.Between.{Courses, StandBetween}
+use Rattle.sctp_boundaries.specs.Between.{AreFew, Courses, StandBetween}
 use Rattle.sctp_boundaries.specs.Laws.{LeadsBoth, NamesIdentifiers, StepsKeepBoundaries, fresh_courses}
-use Rattle.sctp_pair.specs.Across.{AreReadAlong, CameFresh, ReadsOn, WasAccepted, WereWritten}
+use Rattle.sctp_pair.specs.Across.{AreReadAlong, CameFresh, ReadsOn, WasAccepted, WereWritten, polls_in}
 use Rattle.sctp_pair.specs.Callers.{LedSafely, Made, WrittenMessage, message_accepted, messages_of, messages_read}
 use Rattle.sctp_pair.specs.Callers.{messages_written, tallied_by, world_of}
 use Rattle.sctp_pair.specs.Counted.{FitsCounted, Tally, nothing_tallied}
 use Rattle.sctp_pair.specs.World.{IsWorldStep, World, accepted_at}
 use Rattle.sctp_pair.proofs.Callers.{comes_on}
 use Rattle.sctp_pair.proofs.CountedRuns.{IsMade, begun_made, stays_made}
+use Rattle.sctp_pair.proofs.FewSent.{AreCounted, counted_on, few_first, few_rest, few_sent, nothing_counted}
+use Rattle.sctp_pair.proofs.FewSent.{polls_once}
 use Rattle.sctp_pair.proofs.GivenAndAccepted.{what_was_given_out_was_accepted}
 use Rattle.sctp_pair.proofs.GrowingPlans.{plan_grew}
 use Rattle.sctp_pair.proofs.ReadAcross.{ReadNow, read_nothing, read_on, written_at_indexes}
@@ -152,6 +154,39 @@ module _ (keeps : StepsKeepBoundaries) where
   along m id done answers [] (r ∷ rs) w t c q made fits led named stand now = absurd led
   along m id done answers (s ∷ ss) [] w t c q made fits led named stand now = absurd led
 
+  -- Where few of all steps ask for packets to send, so many of those that are done, what all of them read was written.
+  all_along : (m : Made) (id : ℕ) (done : List Step) (answers : List Reply) (ss : List Step) (rs : List Reply)
+      (w : World) (t : Tally) (c : Courses) (q : Ends) (polls_a polls_b : ℕ) → IsMade m w → FitsCounted t w.ends w
+      → LedSafely m ss rs w t q → AllByRecursion NamesIdentifiers ss
+      → StandBetween m.initial_a m.initial_b id w.ends c → Now m id done answers w c
+      → AreCounted polls_a polls_b w c → polls_a + polls_in sides.A ss < 2 ^ 31
+      → polls_b + polls_in sides.B ss < 2 ^ 31 → WereWritten id (done ++ ss) (answers ++ rs)
+  all_along m id done answers [] [] w t c q polls_a polls_b made fits led named stand now counted few_a few_b =
+      subst (λ (ks : List Step). WereWritten id ks (answers ++ [])) (sym (append-nil done))
+      (subst (λ (ns : List Reply). WereWritten id done ns) (sym (append-nil answers))
+      (were_written m id done answers w c now))
+  all_along m id done answers (s ∷ ss) (r ∷ rs) w t c q polls_a polls_b made fits (v, step, safe, there, next)
+      (first, named) stand now counted few_a few_b =
+      let l = keeps s w.ends r v.ends step.ends_step m.initial_a m.initial_b id c first stand in
+      let on : Now m id (done ++ s ∷ []) (answers ++ r ∷ []) v l.after =
+      now_on m id done answers s r w v c t made fits step l now in
+      let so_far : AreCounted (polls_a + polls_once sides.A s) (polls_b + polls_once sides.B s) v l.after =
+      counted_on m.initial_a m.initial_b id s r w v c step fits.fits.stand there.fits.stand l polls_a polls_b counted in
+      let few : AreFew l.after =
+      few_sent polls_a (polls_once sides.A s) (polls_in sides.A ss) polls_b (polls_once sides.B s)
+      (polls_in sides.B ss) v l.after so_far few_a few_b there.fits.within in
+      let rest : WereWritten id ((done ++ s ∷ []) ++ ss) ((answers ++ r ∷ []) ++ rs) =
+      all_along m id (done ++ s ∷ []) (answers ++ r ∷ []) ss rs v (tallied_by m s r t) l.after q
+      (polls_a + polls_once sides.A s) (polls_b + polls_once sides.B s) (stays_made step made) there next named
+      (l.stand few) on so_far (few_rest polls_a (polls_once sides.A s) (polls_in sides.A ss) few_a)
+      (few_rest polls_b (polls_once sides.B s) (polls_in sides.B ss) few_b) in
+      subst (λ (ks : List Step). WereWritten id ks (answers ++ r ∷ rs)) (append_assoc done (s ∷ []) ss)
+      (subst (λ (ns : List Reply). WereWritten id ((done ++ s ∷ []) ++ ss) ns) (append_assoc answers (r ∷ []) rs) rest)
+  all_along m id done answers [] (r ∷ rs) w t c q polls_a polls_b made fits led named stand now counted few_a few_b =
+      absurd led
+  all_along m id done answers (s ∷ ss) [] w t c q polls_a polls_b made fits led named stand now counted few_a few_b =
+      absurd led
+
   -- steps behind others, since the pair was new
   pub reads_on : (more : List Step) (answers : List Reply) (p q : Ends) → Runs more answers p q
       → ReadsOn more answers p q
@@ -162,9 +197,17 @@ module _ (keeps : StepsKeepBoundaries) where
         came = came;
         fresh = f.fresh;
         named = all_join NamesIdentifiers ss more f.named named;
-      } in (
-        fresh,
-        λ id.
+      } in
+      record {
+        fresh = fresh;
+        same = refl;
+        along = λ id.
             along m id [] [] (ss ++ more) (rs ++ answers) (world_of m came.begin) nothing_tallied fresh_courses q
-            (begun_made m came.begin) came.new came.safely fresh.named (fresh.fresh id) (now_new m id came.begin),
-      )
+            (begun_made m came.begin) came.new came.safely fresh.named (fresh.fresh id) (now_new m id came.begin);
+        written = λ polls id.
+            all_along m id [] [] (ss ++ more) (rs ++ answers) (world_of m came.begin) nothing_tallied fresh_courses q
+            0 0 (begun_made m came.begin) came.new came.safely fresh.named (fresh.fresh id)
+            (now_new m id came.begin) (nothing_counted (world_of m came.begin))
+            (few_first (polls_in sides.A (ss ++ more)) polls.of_a)
+            (few_first (polls_in sides.B (ss ++ more)) polls.of_b);
+      }

@@ -14,6 +14,7 @@ pub mod PastReads
 pub mod PastSpans
 pub mod ComingData
 pub mod FewInAll
+pub mod FewSent
 mod ForwardsMade
 pub mod GivenAndAccepted
 pub mod GrowingPlans

@@ -124,7 +124,7 @@ no_piece test none p index d can =
     false≢true
     (sym none ∙ sym (ap (λ (ps : List InFlight). test (slice_get ps index)) d.nothing_in_flight) ∙ can)
 
-no_message : (test : Option Waiting → Bool) → test None ≡ false → (p : Parts) (index : ℕ) → IsAllSent p
+pub no_message : (test : Option Waiting → Bool) → test None ≡ false → (p : Parts) (index : ℕ) → IsAllSent p
     → test (slice_get p.queue.pending index) ≡ true → ⊥
 no_message test none p index d can =
     false≢true (sym none ∙ sym (ap (λ (ms : List Waiting). test (slice_get ms index)) d.nothing_waits) ∙ can)
@@ -284,7 +284,8 @@ after_both x p mid first second goes said more = record {
 }
 
 -- where all was sent before such an act, it is sent behind it
-old_leaves_all_sent : (act : Act) (p : Parts) → GivesUpOrAgain act → Can act p → IsAllSent p → IsAllSent (done act p)
+pub old_leaves_all_sent : (act : Act) (p : Parts) → GivesUpOrAgain act → Can act p → IsAllSent p
+    → IsAllSent (done act p)
 old_leaves_all_sent (Act.Started now) p g can d = record {
   nothing_waits = ap (λ (ms : List Waiting). map (waiting_started now) ms) d.nothing_waits;
   nothing_in_flight = ap (λ (ps : List InFlight). map (sent_started now) ps) d.nothing_in_flight;

@@ -34,7 +34,8 @@ use Rattle.sctp_assoc.specs.declared.shutdown.ShutdownDue.{ShutdownDue}
 use Rattle.sctp_sides.specs.Ending.{IsInOrder, is_any_due}
 use Rattle.sctp_sides.proofs.Proved.{acts_tied, closed_sides_exchange_nothing, done_append, established_sides_talk}
 use Rattle.sctp_sides.proofs.Proved.{forwardings_are_silent, other_polls_do_nothing_in_front}
-use Rattle.sctp_sides.proofs.Proved.{polls_complete_what_is_due, polls_end_last, polls_keep_the_stage, polls_lead_on_in_front}
+use Rattle.sctp_sides.proofs.Proved.{polls_complete_what_is_due, polls_end_last, polls_keep_the_stage}
+use Rattle.sctp_sides.proofs.Proved.{polls_lead_on_in_front}
 use Rattle.sctp_sides.proofs.Proved.{given_append, more_are_past, more_is_asked_past, no_reset_is_past_only}
 use Rattle.sctp_sides.proofs.Proved.{polls_give_and_report, polls_reset_no_more}
 use Rattle.sctp_sides.proofs.Proved.{polls_outside_an_exchange_give_what_waits, the_same_handshake_is_the_same_stage}
@@ -54,7 +55,8 @@ use Rattle.sctp_pair.specs.Fits.{AreSaid, IsPieceIfData, IsSaidBy}
 use Rattle.sctp_assoc.specs.Replies.{Fails, GivesOut, HadFailed, LosesSome, packet_in}
 use Rattle.sctp_pair.proofs.SaidStaysSaid.{StageGoesOn, forward_stays_said, said_grows}
 use Rattle.sctp_pair.proofs.BetweenDirections.{ClosedAt, Faces, Goes, Holds, None_brought, OpenAt, SettlesQuietly}
-use Rattle.sctp_pair.proofs.BetweenDirections.{StandsAt, Surroundings, can_back, can_front, does_by_goes, goes_on, moved}
+use Rattle.sctp_pair.proofs.BetweenDirections.{StandsAt, Surroundings, can_back, can_front, does_by_goes, goes_on}
+use Rattle.sctp_pair.proofs.BetweenDirections.{moved}
 use Rattle.sctp_pair.proofs.BetweenDirections.{goes_by_receiver, goes_nowhere, other_by_receiver, sound_after, spans_of}
 use Rattle.sctp_pair.proofs.BetweenDirections.{spans_stay_put}
 use Rattle.sctp_pair.proofs.ForwardsMade.{few_for_a_forward, new_data_says_the_same, with_queue}
@@ -321,8 +323,8 @@ module _ {x : Surroundings} {a b : Shown} {packets : List (List ℕ)} (f : Faces
         holds = holds;
         said = each_packet (IsGivenBy x.coming.over acts forwards a b h) (SaysAt now) packets
             (given_said f b new.out2 report.0.coming2 h acts forwards gone s (λ e c is. exchanged c is))
-            (polls_say_their_acts x.coming.over acts forwards a b h packets s.resets.resets s.truthful.plain again control
-            s.binds poll);
+            (polls_say_their_acts x.coming.over acts forwards a b h packets s.resets.resets s.truthful.plain again
+            control s.binds poll);
         no_more = inl past;
         all_sent =
             λ d. (let left = all_old_leaves_all_sent os p polling.old_are can_old d in
@@ -355,8 +357,8 @@ module _ {x : Surroundings} {a b : Shown} {packets : List (List ℕ)} (f : Faces
         said = each_packet (IsGivenBy x.coming.over acts forwards a b h) (SaysAt x) packets
             (given_said f b x.out x.coming h acts forwards (λ t o. f.both t ∙ o) s
             (λ e c is. absurd (false≢true (sym outside ∙ e))))
-            (polls_say_their_acts x.coming.over acts forwards a b h packets s.resets.resets s.truthful.plain again control
-            s.binds poll);
+            (polls_say_their_acts x.coming.over acts forwards a b h packets s.resets.resets s.truthful.plain again
+            control s.binds poll);
         no_more = inr refl;
         all_sent = λ d. refl;
       }
@@ -502,7 +504,7 @@ completes_none a e =
     && a.shutdown_due.shutdown_complete) e
 
 -- both tests of a pair of them
-all_sent_is : (a : Shown) (h : History) → all_acknowledged a ≡ true → IsAllSent (parts a h)
+pub all_sent_is : (a : Shown) (h : History) → all_acknowledged a ≡ true → IsAllSent (parts a h)
 all_sent_is a h e =
     let both = and_parts (length a.sender.queue.pending == 0) (length a.sender.queue.in_flight == 0) e in
     record {
@@ -516,7 +518,7 @@ third_of true y z e = refl
 third_of false true z e = refl
 third_of false false z e = e
 
-complete_is_due : (due : ShutdownDue) → due.shutdown_complete ≡ true → is_any_due due ≡ true
+pub complete_is_due : (due : ShutdownDue) → due.shutdown_complete ≡ true → is_any_due due ≡ true
 complete_is_due due e = third_of due.shutdown due.shutdown_ack due.shutdown_complete e
 
 -- what a poll does where it gives no SHUTDOWN COMPLETE

@@ -120,8 +120,8 @@ stays_in_span (a ∷ ss) (r ∷ rs) s = not (ends_span a r s) && stays_in_span s
 stays_in_span [] rs s = true
 stays_in_span (a ∷ ss) [] s = true
 
--- On a stream that neither side stopped (by a stop, or by a close of both halves), and that the other side kept in order,
--- what either side read is, message by message and in order, a front of what the other side wrote on it.
+-- On a stream that neither side stopped (by a stop, or by a close of both halves), and that the other side kept in
+-- order, what either side read is, message by message and in order, a front of what the other side wrote on it.
 abbrev pub ReadsAreFronts : List Step → List Reply → Type 0
 ReadsAreFronts ss rs = (x : Side2) (s : ℕ) → stays_in_span ss rs s ≡ true → stays_in_order ss rs x s ≡ true
     → IsFrontOf (read_in ss rs (other_side x) s) (written_in ss rs x s)
@@ -145,8 +145,8 @@ AreAt (message ∷ messages) (index ∷ indexes) written =
 AreAt [] (index ∷ indexes) written = ⊥
 AreAt (message ∷ messages) [] written = ⊥
 
--- On each stream that neither side stopped, in order or not, each message that either side read was written by the other
--- side, whole, and is read at most once.
+-- On each stream that neither side stopped, in order or not, each message that either side read was written by the
+-- other side, whole, and is read at most once.
 abbrev pub ReadsWereWritten : List Step → List Reply → Type 0
 ReadsWereWritten ss rs = (x : Side2) (s : ℕ) → stays_in_span ss rs s ≡ true
     → (indexes : List ℕ) × AreDistinct indexes
@@ -243,3 +243,8 @@ abbrev pub FewStayFew : List Step → List Reply → Ends → Type 0
 FewStayFew more answers p =
     (m : Made) (ss : List Step) (rs : List Reply) → CameBy m ss rs p
     → AcceptFew m.size_a m.size_b (ss ++ more) (rs ++ answers) → StaysFew m (tally_of m ss rs) more answers p
+
+-- So it is of all steps that lead from p to q.
+abbrev pub FewAcceptedStayFew : Type 0
+FewAcceptedStayFew = (more : List Step) (answers : List Reply) (p q : Ends) → Runs more answers p q
+    → FewStayFew more answers p

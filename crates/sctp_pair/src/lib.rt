@@ -2,9 +2,12 @@
 //! packets, of which any is delivered, again and in any order.
 #![tactic(auto)]
 
+mod accepted;
+mod delivery;
 mod pair;
 mod sides;
 
+pub use accepted::given_out_data_was_accepted;
 pub use pair::Pair;
 pub use sctp_assoc::Reply;
 pub use sctp_steps::{Side2, Step};

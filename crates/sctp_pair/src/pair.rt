@@ -9,12 +9,13 @@ ghost use Rattle.std.specs.Borrow.{Lends, sem};
 ghost use Rattle.sctp_assoc.specs.contracts.association.Association as association;
 ghost use Rattle.sctp_pair.specs.contracts.pair.Pair.{the_row};
 ghost use Rattle.sctp_steps.specs.Ends.{JoinRefuses, packets_of, end_of, with_end};
-ghost use Rattle.sctp_steps.specs.Steps.{ComesTo, Delivers, Runs, SendsAt, Steps};
+ghost use Rattle.sctp_steps.specs.Steps.{ComesTo, Runs, SendsAt, Steps};
 ghost use Rattle.sctp_boundaries.specs.Laws.{RunKeepsBoundaries, StandsFresh, StepKeepsBoundaries};
 ghost use Rattle.sctp_pair.specs.World.{World, empty_world};
 ghost use Rattle.sctp_pair.specs.Counted.{FitsCounted, LeadsCounted, RunsCounted, Tally, nothing_tallied};
 ghost use Rattle.sctp_pair.specs.Fits.{Fits, LeadsSafely, RunsSafely};
 
+use crate::delivery::deliver;
 use crate::{Reply, Side2, Step};
 use bytes::Bytes;
 use sctp_assoc::{
@@ -278,12 +279,15 @@ impl Pair {
     /// Of a pair that `snap` or `client_server` made, every stream's resets divide what is read (`boundaries`): each
     /// message that is read is made of DATA that the other side gave out and that is in no other message, and each
     /// request that the other side performed divides what is read on the stream by generations: what was sent before it
-    /// is read in earlier ones, what was sent after it in later ones (docs/MODEL.md, courses). It holds as long as fewer
-    /// than 2^31 offsets and requests were sent in either direction.
+    /// is read in earlier ones, what was sent after it in later ones (docs/MODEL.md, courses). It holds as long as
+    /// fewer than 2^31 offsets and requests were sent in either direction.
     ///
     /// Of such a pair each message that is read on any stream is one that the other side's accepted writes gave, whole,
-    /// and none comes twice, whether a `Stop` or a `CloseStream` reset the stream in between or not (`across`). It holds
-    /// as long as both is so: few pieces unacknowledged and few messages unread, few offsets and requests sent.
+    /// and none comes twice, whether a `Stop` or a `CloseStream` reset the stream in between or not (`across`). It
+    /// holds as long as both premises do: few pieces unacknowledged and few messages unread, few offsets and requests
+    /// sent. A caller need not know the second one: it holds wherever fewer than 2^31 of all steps since the pair was
+    /// made are `PollTransmit` of A, and fewer than 2^31 that of B. (A poll sends one request at most for the first
+    /// time.)
     ///
     /// More is said over worlds, which docs/MODEL.md has in words. From each world that the pair fits, the steps lead
     /// from world to world, in each of which the pair stands. As long as each so far is within the limits, it is safe
@@ -486,22 +490,5 @@ impl Pair {
                 now,
             ),
         }
-    }
-}
-
-// Hands a packet that the other side gave out to an association. A packet that finds no memory to be read is lost. A
-// failed association refuses each datagram, whatever it spells.
-fn deliver(
-    association: &mut Association,
-    packets: &[Bytes],
-    number: u64,
-    remote: SocketAddr,
-    now: Instant,
-) -> Reply
-    ensures { Delivers association.old (slice_get packets.now number) now result association.new }
-{
-    match packets.get(number as usize) {
-        Some(packet) => calls::handle_datagram(association, packet, remote, now),
-        None => Reply::NoSuchPacket,
     }
 }

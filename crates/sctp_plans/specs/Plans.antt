@@ -9,7 +9,7 @@ use Rattle.sctp_receive_queues.specs.Pieces.{has_tsn}
 use Rattle.sctp_model.specs.Messages.{Plan, is_last, message_at, message_of, piece_of, place_at}
 
 -- DATA is a piece of what was accepted: its TSN stands on an offset of the plan, and it carries what that place says,
--- but for its stream sequence number.
+-- but for its payload type, order and stream sequence number.
 pub record IsOfPlan (initial : ℕ) (p : Plan) (c : ChunkPayloadData) : Type 0 where
   pub offset : ℕ
   pub known : offset < length p.places
