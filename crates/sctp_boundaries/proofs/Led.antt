@@ -19,8 +19,7 @@ use Rattle.sctp_steps.specs.declared.step.Side2.TheVariants as sides
 use Rattle.sctp_steps.specs.declared.step.Step.{Step}
 use Rattle.sctp_steps.specs.Ends.{Ends}
 use Rattle.sctp_steps.specs.Seen.{EndsReset, message_read}
-use Rattle.sctp_boundaries.specs.Between.{AreFew, AreMeeting, AreTalking, Courses, IsGivenOut, IsPresentOrGone, Stand}
-use Rattle.sctp_boundaries.specs.Between.{StandBetween}
+use Rattle.sctp_boundaries.specs.Between.{AreFew, AreMeeting, AreTalking, Courses, IsGivenOut, Stand, StandBetween}
 use Rattle.sctp_boundaries.specs.Laws.{GrowsAsSeen, IsDividedBy, LeadsBoth, polls_side}
 use Rattle.sctp_boundaries.proofs.Ended.{IsFurther, all_performed, divides_ended, divides_still, receiver_further}
 use Rattle.sctp_boundaries.proofs.Ended.{sender_further}
