@@ -1,5 +1,5 @@
-use Rattle.sctp_ended.proofs.ClosedOverCalls.{ended_generations_of_reached_sides_take_in_nothing}
-use Rattle.sctp_ended.proofs.ClosedOverCalls.{ended_generations_take_in_nothing}
+use Rattle.sctp_ended.proofs.Closed.{ended_generations_of_reached_sides_take_in_nothing}
+use Rattle.sctp_ended.proofs.Closed.{ended_generations_take_in_nothing}
 use Rattle.sctp_ended.proofs.ended_generations_take_in_nothing.Goals as goal
 
 pub returns : goal.returns
