@@ -1,0 +1,5 @@
+mod ChannelCalls
+mod OpenMessages
+mod Reading
+mod Refusals
+mod Spelled
