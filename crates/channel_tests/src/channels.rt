@@ -1,5 +1,5 @@
 // Channels over two associations: who opens, acknowledges, sends and receives, and what is refused.
-use crate::play::{Call, Side, played};
+use crate::play::{Call, Side, played, played_behind};
 use sctp_assoc::PayloadProtocolIdentifier as Kind;
 use std::test::Fail;
 
@@ -41,6 +41,27 @@ fn both_sides_send_and_receive(rt: HostRuntime) -> Result<(), Fail> {
         "open\nsent 3\nnone\naccepted 0 4 0\n33\nacknowledged\nacknowledged\n6f6e65\nnone\nsent 3\n\
         acknowledged\n74776f\nnone\n";
     assert_eq!(rt; played(rt.alloc(), &calls)?.as_str(), expected);
+    Ok(())
+}
+
+#[test]
+fn messages_whose_packets_come_in_reverse_are_received_in_order(
+    rt: HostRuntime,
+) -> Result<(), Fail> {
+    let reversed = [OPENS.1, Call::Send(b"one"), Call::Send(b"two")];
+    let calls = [
+        ACCEPTS,
+        (Side::B, Call::Send(b"x")),
+        ACKNOWLEDGES,
+        B_RECEIVES,
+        B_RECEIVES,
+        B_RECEIVES,
+    ];
+    let expected = "open\nsent 3\nsent 3\naccepted 0 4 0\n33\nacknowledged\n6f6e65\n74776f\nnone\n";
+    assert_eq!(rt;
+        played_behind(rt.alloc(), &reversed, &calls)?.as_str(),
+        expected
+    );
     Ok(())
 }
 

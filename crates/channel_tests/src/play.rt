@@ -1,5 +1,5 @@
 // What is done with two channels on stream 1, and what each call answers.
-use crate::sides::{cross, joined};
+use crate::sides::{cross, deliver_in_reverse, joined, keep_sent};
 use dcep_channel::{AssocPort, Channel, ChannelError};
 use sctp_assoc::{Association, Chunks, Error, PayloadProtocolIdentifier};
 use std::alloc::Global;
@@ -30,8 +30,17 @@ pub(crate) enum Call<'a> {
 
 /// What the calls answer, a word for each.
 pub(crate) fn played(alloc: Global, calls: &[(Side, Call<'_>)]) -> Result<String, ChannelError> {
+    played_behind(alloc, &[], calls)
+}
+
+/// The same, but first side A makes calls. It is polled behind each, and the packets come to side B in reverse.
+pub(crate) fn played_behind(
+    alloc: Global,
+    reversed: &[Call<'_>],
+    calls: &[(Side, Call<'_>)],
+) -> Result<String, ChannelError> {
     match joined(alloc, (1, 100), (2, 500)) {
-        Ok(mut a) => meet(alloc, &mut a, calls),
+        Ok(mut a) => meet(alloc, &mut a, reversed, calls),
         Err(error) => Err(ChannelError::Beneath(error.number())),
     }
 }
@@ -39,10 +48,11 @@ pub(crate) fn played(alloc: Global, calls: &[(Side, Call<'_>)]) -> Result<String
 fn meet(
     alloc: Global,
     a: &mut Association,
+    reversed: &[Call<'_>],
     calls: &[(Side, Call<'_>)],
 ) -> Result<String, ChannelError> {
     match joined(alloc, (2, 500), (1, 100)) {
-        Ok(mut b) => carry_out(alloc, a, &mut b, calls),
+        Ok(mut b) => carry_out(alloc, a, &mut b, reversed, calls),
         Err(error) => Err(ChannelError::Beneath(error.number())),
     }
 }
@@ -51,11 +61,13 @@ fn carry_out(
     alloc: Global,
     a: &mut Association,
     b: &mut Association,
+    reversed: &[Call<'_>],
     calls: &[(Side, Call<'_>)],
 ) -> Result<String, ChannelError> {
     let mut text = String::new(alloc);
     let mut at_a = None;
     let mut at_b = None;
+    send_in_reverse(alloc, a, b, &mut at_a, reversed, &mut text)?;
     for (side, call) in calls {
         match side {
             Side::A => push_answer(alloc, a, &mut at_a, *call, &mut text)?,
@@ -67,6 +79,29 @@ fn carry_out(
         }
     }
     Ok(text)
+}
+
+// What A sends behind each of these calls comes to B in reverse.
+fn send_in_reverse(
+    alloc: Global,
+    a: &mut Association,
+    b: &mut Association,
+    seat: &mut Option<Channel>,
+    calls: &[Call<'_>],
+    text: &mut String,
+) -> Result<(), ChannelError> {
+    let mut kept = Vec::new(alloc);
+    for call in calls {
+        push_answer(alloc, a, seat, *call, text)?;
+        text.push_str("\n")?;
+        if keep_sent(a, &mut kept).is_err() {
+            text.push_str("lost\n")?;
+        }
+    }
+    if deliver_in_reverse(b, kept.as_slice()).is_err() {
+        text.push_str("lost\n")?;
+    }
+    Ok(())
 }
 
 // Writes what a call answers; of a refusal its number.

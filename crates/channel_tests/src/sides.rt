@@ -61,6 +61,26 @@ fn pass(from: &mut Association, to: &mut Association, millis: u64) -> Result<(),
     }
 }
 
+/// What a side is due to send is kept behind what was kept before.
+pub(crate) fn keep_sent(
+    association: &mut Association,
+    kept: &mut Vec<Option<Transmit>>,
+) -> Result<(), Error> {
+    kept.push(association.poll_transmit(Instant::from_millis(0))?)?;
+    Ok(())
+}
+
+/// A side gets what was kept, the last of it first.
+pub(crate) fn deliver_in_reverse(
+    association: &mut Association,
+    kept: &[Option<Transmit>],
+) -> Result<(), Error> {
+    for sent in kept.iter().rev() {
+        hand_over(association, sent)?;
+    }
+    Ok(())
+}
+
 /// Each side gets what the other one is due to send, until all of a long message went over. A round takes longer than
 /// an acknowledgement is delayed.
 pub(crate) fn cross(a: &mut Association, b: &mut Association) -> Result<(), Error> {
