@@ -1,0 +1,10 @@
+pub mod ChannelLeads
+pub mod DeedsLead
+pub mod Fronts
+pub mod Lists
+pub mod NewChannels
+pub mod PortDeeds
+pub mod RunsJoined
+pub mod SeatCalls
+pub mod SeatsGrow
+pub mod StreamSteps
