@@ -122,19 +122,19 @@ reads_grow (Some m) before after (g, e, l) =
     omega (arith, f, more)
 
 -- On each stream, at most so many of the messages that were accepted were not read.
-abbrev IsRead : (ℕ → ℕ) → Direction → Type 0
+abbrev pub IsRead : (ℕ → ℕ) → Direction → Type 0
 IsRead waiting w = (s : ℕ) → length (w.sender.plan.accepted s) ≤ length (w.reads s) + waiting s
 
 -- A step of the direction from side x.
 module _ {x : Side2} {step : Step} {r : Reply} {w : World} {q : Ends} {initial : ℕ} {before after : Direction}
     (h : IsDirectionStep step r x (other_side x) w q initial before after) where
-  pieces_counted : {n : ℕ} → HasAccepted n before → HasAccepted (n + pieces_of before.sender.plan.size x step r) after
+  pub pieces_counted : {n : ℕ} → HasAccepted n before → HasAccepted (n + pieces_of before.sender.plan.size x step r) after
   pieces_counted a =
       let more : AcceptsMore (λ s. accepted_at step r x s w) before after =
       record { size = h.size; accepted = h.accepted } in
       writing_counted x (writing_of step) r w more a
 
-  reads_counted : (waiting : ℕ → ℕ) → IsRead waiting before
+  pub reads_counted : (waiting : ℕ → ℕ) → IsRead waiting before
       → IsRead (λ s. waiting s + one_written step r x s - one_read step r (other_side x) s) after
   reads_counted waiting a s =
       let grown = ap (λ (ms : List Message). length ms) (h.accepted s) in
@@ -149,7 +149,7 @@ module _ {x : Side2} {step : Step} {r : Reply} {w : World} {q : Ends} {initial :
   module _ {loose : ℕ → Bool} {own peer : ℕ} {coming : Direction} {begin : Shown}
       (stands : Stands loose own peer (end_of x q) after coming) (since : Since initial begin after coming) where
     -- Where few are left, the next direction is within the limits.
-    stays_within : {pieces : ℕ} {waiting : ℕ → ℕ} → IsFew pieces waiting initial begin → IsWithin before
+    pub stays_within : {pieces : ℕ} {waiting : ℕ → ℕ} → IsFew pieces waiting initial begin → IsWithin before
         → IsSound after → HasAccepted pieces after → IsRead waiting after → IsWithin after
     stays_within {pieces} few within sound accepted read =
         let places = offsets_counted pieces after accepted sound.invariant in
