@@ -120,6 +120,14 @@ impl Association {
         self.handshake.peer_verification_tag
     }
 
+    /// This side's SCTP port and the peer's, which stand in the packets that are given out (RFC 4960 section 3.1): those
+    /// of the configuration, at a server those of the INIT that came.
+    pub fn ports(&self) -> (u16, u16)
+        ensures { result ≡ (self.now.handshake.source_port, self.now.handshake.destination_port) }
+    {
+        (self.handshake.source_port, self.handshake.destination_port)
+    }
+
     /// On how many streams this side may send, and on how many it may receive, as far as both sides agreed so far
     /// (RFC 4960 section 5.1.1). No call enforces them.
     pub fn stream_counts(&self) -> (u16, u16)
