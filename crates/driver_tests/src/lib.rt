@@ -2,6 +2,8 @@
 #![tactic(auto)]
 
 #[cfg(test)]
+mod aborts;
+#[cfg(test)]
 mod datagrams;
 #[cfg(test)]
 mod endings;

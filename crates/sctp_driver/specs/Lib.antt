@@ -1,5 +1,7 @@
+pub mod Aborting
 pub mod Driving
 pub mod Messages
+pub mod Paths
 pub mod Sending
 pub mod Streams
 pub mod Tags

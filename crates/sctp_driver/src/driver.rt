@@ -43,7 +43,7 @@ pub struct Driver {
     pub(crate) alloc: Global,
     pub(crate) association: Association,
     own_tag: u32,
-    waiting: VecDeque<Bytes>,
+    pub(crate) waiting: VecDeque<Bytes>,
     pub(crate) kept: VecDeque<Kept>,
 }
 

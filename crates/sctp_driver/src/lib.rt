@@ -16,22 +16,25 @@
 //! it anew.
 //!
 //! `shutdown` ends an association gracefully, once all that either side accepted is acknowledged; `close` ends it at
-//! once. After `shutdown`, go on with the loop until `is_drained`. `poll_endpoint_event` tells whoever holds the driver
-//! that `shutdown` was called here.
+//! once, and so does `abort`, which tells the peer why. After `shutdown`, go on with the loop until `is_drained`.
+//! `poll_endpoint_event` tells whoever holds the driver that `shutdown` was called here.
 //!
 //! Moments are nanoseconds from one that you choose. Every call is safe in every state and at every moment. It refuses
 //! by name what it cannot do, and its page says what is left then.
 #![tactic(auto)]
 
+mod aborting;
 mod driver;
 mod lending;
 mod messages;
+mod paths;
 mod sending;
 mod streams;
 mod tags;
 
 pub use driver::Driver;
 pub use messages::ReadAnswer;
+pub use paths::Path;
 pub use sctp_assoc::{
     AssociationError, AssociationStats, ChunkInit, DataChannelStats, EndpointEvent, Error, Event,
     PayloadProtocolIdentifier, ReliabilityType, StreamEvent, StreamResetError, TransportConfig,
