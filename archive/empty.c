@@ -11,6 +11,7 @@ sctp_assoc_code sctp_assoc_write_at(sctp_assoc *slot, uint16_t stream, uint32_t 
 sctp_assoc_code sctp_assoc_read_at(sctp_assoc *slot, uint16_t stream, uint8_t *buffer, size_t room, size_t *length,
                                    uint32_t *payload_type);
 sctp_assoc_code sctp_assoc_stream_ids_at(sctp_assoc *slot, uint16_t *ids, size_t room, size_t *count);
+sctp_assoc_code sctp_assoc_abort_at(sctp_assoc *slot, const uint8_t *reason, size_t length);
 
 /* What an empty buffer is taken to lie at. Nothing is read or written there. */
 static uint16_t nowhere;
@@ -36,4 +37,8 @@ sctp_assoc_code sctp_assoc_read(sctp_assoc *slot, uint16_t stream, uint8_t *buff
 
 sctp_assoc_code sctp_assoc_stream_ids(sctp_assoc *slot, uint16_t *ids, size_t room, size_t *count) {
     return sctp_assoc_stream_ids_at(slot, room ? ids : &nowhere, room, count);
+}
+
+sctp_assoc_code sctp_assoc_abort(sctp_assoc *slot, const uint8_t *reason, size_t length) {
+    return sctp_assoc_abort_at(slot, length ? reason : (const uint8_t *)&nowhere, length);
 }

@@ -1,5 +1,6 @@
-mod DriversLeft
 mod AsBox
+mod DriversLeft
 mod EndpointEvents
 mod Listings
+mod LongReasons
 mod Refusals

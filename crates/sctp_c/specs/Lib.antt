@@ -6,3 +6,4 @@ pub mod Lists
 pub mod Releases
 pub mod Slots
 pub mod Totals
+pub mod Watches

@@ -7,6 +7,7 @@ ghost use Rattle.sctp_assoc.specs.Calls.{Refuses};
 ghost use Rattle.sctp_assoc.specs.Closing.{closed_by};
 ghost use Rattle.sctp_assoc.specs.Created.{client, create_refusal, join_refusal, joined, server};
 ghost use Rattle.sctp_assoc.specs.Shutdown.{shutdown_begun, shutdown_refusal};
+ghost use Rattle.sctp_driver.specs.Aborting.{Aborts, IsTooLong};
 ghost use Rattle.sctp_driver.specs.Driving.{RunsOutOfMemory, begun_with, with_association};
 ghost use Rattle.sctp_c.specs.Codes.{code_of};
 ghost use Rattle.sctp_c.specs.Configs.{settings_of, token_chunk};
@@ -191,6 +192,27 @@ pub extern "C" fn sctp_assoc_close(slot: &mut Slot, alloc: Global) -> u32
         return EMPTY_SLOT;
     };
     let answer = driver.close();
+    slot.put(driver);
+    code_of(answer)
+}
+
+/// Ends the association by an ABORT.
+#[unsafe(no_mangle)]
+#[tactic(auto, using(crate::proofs::Refusals::when_done, crate::proofs::Refusals::when_failed, crate::proofs::Refusals::when_memory, crate::proofs::LongReasons::when_long))]
+pub extern "C" fn sctp_assoc_abort(slot: &mut Slot, alloc: Global, reason: &[u8]) -> u32
+    ensures done { result ≡ 0 → OnHeld slot.old.handle.driver slot.new.handle.driver
+        (λ d e. Aborts d reason.now e) }
+    ensures empty { slot.old.handle.driver ≡ None → (result ≡ 1) × (slot.new.handle.driver ≡ None) }
+    ensures refused { result ≡ 10 → slot.new.handle.driver ≡ slot.old.handle.driver }
+    ensures long { result ≡ 27 → OnHeld slot.old.handle.driver slot.new.handle.driver
+        (λ d e. IsTooLong d.association reason.now × (e ≡ d)) }
+    ensures memory { result ≡ 2 → OnHeld slot.old.handle.driver slot.new.handle.driver
+        (λ d e. (e ≡ d) ⊎ RunsOutOfMemory d e) }
+{
+    let Some(mut driver) = slot.take(alloc) else {
+        return EMPTY_SLOT;
+    };
+    let answer = driver.abort(reason);
     slot.put(driver);
     code_of(answer)
 }

@@ -1,8 +1,8 @@
 -- A datagram by which an association was lost spells a packet, and the walk over its chunks finds the end.
 use Rattle.std.proofs.Common.{◌≡◌, ◌≢◌, refl, sym, ap, ◌∙◌, subst, ℕ, Bool, true, false, cond, List, Option, Some, None}
-use Rattle.std.proofs.Common.{Result, Ok, Err, IfOk, IfSome, OnOk, is_ok, drop, length, ◌<◌, ◌==◌, not}
+use Rattle.std.proofs.Common.{Result, Ok, Err, IfOk, IfSome, OnOk, is_ok, drop, length, ◌<◌, ◌==◌, not, ◌&&◌, ⊎_elim, inl, inr}
 use Rattle.std.proofs.lemmas.Bool.{lt-ltb}
-use Rattle.std.specs.Prelude.{IsErrOf, IsSome, OnErr, nat_lt}
+use Rattle.std.specs.Prelude.{◌⊎◌, IsErrOf, IsSome, OnErr, nat_lt}
 use Rattle.sctp_crc.specs.Crc.{sum_of_packet}
 use Rattle.sctp_wire_types.specs.declared.chunk.Chunk.{Chunk}
 use Rattle.sctp_wire_types.specs.declared.error.Error.{Error}
@@ -25,6 +25,7 @@ use Rattle.sctp_driver.specs.Tags.{answer_to, packet_in}
 use Rattle.sctp_watch.specs.declared.ends.End.{End}
 use Rattle.sctp_watch.specs.declared.ends.End.TheVariants as ends
 use Rattle.sctp_watch.specs.Ends.{end_among, ended_by}
+use Rattle.sctp_watch.specs.Watching.{end_after}
 
 -- ---- the walk over a datagram
 
@@ -94,7 +95,7 @@ module _ (d e : Driving) (now : ℕ) (alive : d.association.lost ≡ false) (los
 
   by_packet : (packet : Option Packet) → e ≡ with_association d (after_packet d.association packet now)
       → IsSome packet
-  by_packet (Some packet) is = tt
+  by_packet (Some packet) is = refl
   by_packet None is =
       absurd (same_not (is ∙ ap (with_association d) (no_packet d.association.lost d.association)))
 
@@ -128,4 +129,14 @@ module _ (d e : Driving) (now : ℕ) (alive : d.association.lost ≡ false) (los
 
 pub same_end : (packet : Option Packet) (end : End) → IsSome packet → Ends end packet → end ≡ ended_by packet
 same_end (Some packet) end some is = is
-same_end None end some is = absurd some
+same_end None end some is = absurd cc
+
+-- ---- what a watch knows behind the call
+
+module _ (d e : Driving) (end found : End) (known : Option End) where
+  pub told : d.association.lost ≡ false → e.association.lost ≡ true → found ≡ end
+      → Some found ≡ end_after d e end known
+  told alive lost same = rw (alive, lost) (ap Some same)
+
+  pub untold : (not d.association.lost && e.association.lost) ≡ false → known ≡ end_after d e end known
+  untold none = rw none refl

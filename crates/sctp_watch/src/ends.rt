@@ -154,13 +154,17 @@ fn end_among(chunks: &[u8]) -> End
     otherwise
 }
 
-/// The end that a datagram brings to the association that it closes.
-#[tactic(auto, using(crate::proofs::Drained::short_read, crate::proofs::Drained::whole_read))]
-pub(crate) fn end_by(datagram: &[u8]) -> End
+// The chunks of a datagram: what is behind its common header.
+fn chunks_in(datagram: &[u8]) -> &[u8]
+    ensures { result.now ≡ drop 12 datagram.now }
+{
+    &datagram[COMMON_HEADER_SIZE.min(datagram.len())..]
+}
+
+/// The end that a datagram brings to the association that it closes: the first ABORT in it with its first cause, without
+/// one SHUTDOWN COMPLETE, else a fault. It takes no memory.
+pub fn end_by(datagram: &[u8]) -> End
     ensures { IfSome (packet_in datagram.now) (λ packet. result ≡ ended_by (Some packet)) }
 {
-    if datagram.len() < COMMON_HEADER_SIZE {
-        return End::Fault;
-    }
-    end_among(&datagram[COMMON_HEADER_SIZE..])
+    end_among(chunks_in(datagram))
 }

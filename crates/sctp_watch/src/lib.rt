@@ -8,7 +8,7 @@ mod observer;
 mod traffic;
 mod watch;
 
-pub use ends::{Cause, End};
+pub use ends::{Cause, End, end_by};
 pub use observer::{Direction, Observer, handle_datagram_observed, poll_transmit_observed};
 pub use traffic::Traffic;
 pub use watch::Watch;

@@ -27,6 +27,8 @@ pub enum Direction {
 /// Is told of each datagram that passes a driver, as to write it to a file. `Notes` is what is proved of its one call;
 /// an observer of which nothing is to be proved says `λ direction now bytes before after. Unit {0}`.
 pub trait Observer {
+    ghost use Rattle.sctp_watch.specs.declared.observer.Direction.{Direction};
+
     ghost Notes: { Direction → ℕ → List ℕ → Self → Self → Type 0 };
 
     /// A datagram passed at the moment `now`, in nanoseconds.

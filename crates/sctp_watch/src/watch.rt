@@ -73,7 +73,7 @@ impl Watch {
     /// As `Driver::handle_datagram`. The datagram is counted if it is taken. If it ends the association, the first
     /// ABORT in it is told with its first cause, even where a fault stands in front of it; without one a SHUTDOWN
     /// COMPLETE is the end of a shutdown, and anything else a fault.
-    #[tactic(auto, using(crate::proofs::Drained::packet_came, crate::proofs::Drained::same_end))]
+    #[tactic(auto, using(crate::proofs::Drained::packet_came, crate::proofs::Drained::same_end, crate::proofs::Drained::told))]
     pub fn handle_datagram(
         &mut self,
         driver: &mut Driver,
