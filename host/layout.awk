@@ -5,45 +5,59 @@ BEGIN {
     for (k in types)
         size[types[k]] = align[types[k]] = sizes[k]
     align["Global"] = 1
-    split("Slot Config Identity Token Counters Told Totals", structs)
+    split("Slot Config Identity Token Counters Told Totals PathValues Watch", structs)
     split("sctp_assoc sctp_assoc_config sctp_assoc_identity sctp_assoc_token sctp_assoc_counters sctp_assoc_event" \
-        " sctp_assoc_totals", names)
-    for (k in structs)
-        name_of[structs[k]] = names[k]
+        " sctp_assoc_totals sctp_assoc_path_values sctp_assoc_watch", names)
     field_of["handle"] = "at"
 }
+
+/^pub struct .* \{$/ { struct = $3 }
+
+# A field: its name and its type. What is ghost takes no room.
+struct && /^    (pub )?[a-z_]+: / {
+    sub(/^    (pub )?/, "")
+    k = ++count[struct]
+    field[struct, k] = substr($1, 1, length($1) - 1)
+    type[struct, k] = $2
+    sub(/,$/, "", type[struct, k])
+    elements[struct, k] = type[struct, k] ~ /^\[/ ? $3 + 0 : 1
+    gsub(/^\[|;$/, "", type[struct, k])
+}
+
+struct && /^}/ { struct = "" }
 
 function up_to(offset, boundary) {
     return int((offset + boundary - 1) / boundary) * boundary
 }
 
-/^pub struct .* \{$/ { struct = $3; offset = 0; boundary = 1; fields = "" }
-
-# A field: its name and its type. What is ghost takes no room.
-struct && /^    (pub )?[a-z_]+: / {
-    sub(/^    (pub )?/, "")
-    field = substr($1, 1, length($1) - 1)
-    type = $2
-    sub(/,$/, "", type)
-    elements = type ~ /^\[/ ? $3 + 0 : 1
-    sub(/^\[|;$/, "", type)
-    sub(/;$/, "", type)
-    if (!(type in align)) {
-        print "host/layout.awk knows no type " type > "/dev/stderr"
+# Sets the size of a type and to what it is aligned, and where the fields of a struct lie.
+function lay_out(name,    k, offset, boundary) {
+    if (name in align)
+        return
+    if (!count[name]) {
+        print "host/layout.awk knows no type " name > "/dev/stderr"
         exit 1
     }
-    offset = up_to(offset, align[type])
-    boundary = boundary > align[type] ? boundary : align[type]
-    taken = elements * size[type]
-    if (name_of[struct])
-        fields = fields name_of[struct] "." (field in field_of ? field_of[field] : field) " " offset " " taken "\n"
-    offset += taken
+    boundary = 1
+    for (k = 1; k <= count[name]; k++) {
+        lay_out(type[name, k])
+        offset = up_to(offset, align[type[name, k]])
+        place[name, k] = offset
+        offset += elements[name, k] * size[type[name, k]]
+        boundary = boundary > align[type[name, k]] ? boundary : align[type[name, k]]
+    }
+    size[name] = up_to(offset, boundary)
+    align[name] = boundary
 }
 
-struct && /^}/ {
-    size[struct] = up_to(offset, boundary)
-    align[struct] = boundary
-    if (name_of[struct])
-        printf "%s %d\n%s", name_of[struct], size[struct], fields
-    struct = ""
+END {
+    for (s = 1; s in structs; s++) {
+        lay_out(structs[s])
+        print names[s], size[structs[s]]
+        for (k = 1; k <= count[structs[s]]; k++) {
+            called = field[structs[s], k]
+            print names[s] "." (called in field_of ? field_of[called] : called), place[structs[s], k],
+                elements[structs[s], k] * size[type[structs[s], k]]
+        }
+    }
 }

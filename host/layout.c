@@ -88,6 +88,32 @@ static void totals(void) {
     FIELD(sctp_assoc_totals, fast_retransmissions);
 }
 
+static void path(void) {
+    sctp_assoc_path_values filled = {0, 0, 0, 0, 0, 0};
+    (void)filled;
+    STRUCT(sctp_assoc_path_values);
+    FIELD(sctp_assoc_path_values, mtu);
+    FIELD(sctp_assoc_path_values, congestion_window);
+    FIELD(sctp_assoc_path_values, slow_start_threshold);
+    FIELD(sctp_assoc_path_values, peer_window);
+    FIELD(sctp_assoc_path_values, bytes_in_flight);
+    FIELD(sctp_assoc_path_values, smoothed_round_trip_ms);
+}
+
+static void watch(void) {
+    sctp_assoc_watch filled = SCTP_ASSOC_WATCH_NEW;
+    (void)filled;
+    STRUCT(sctp_assoc_watch);
+    FIELD(sctp_assoc_watch, datagrams_sent);
+    FIELD(sctp_assoc_watch, bytes_sent);
+    FIELD(sctp_assoc_watch, datagrams_received);
+    FIELD(sctp_assoc_watch, bytes_received);
+    FIELD(sctp_assoc_watch, end);
+    FIELD(sctp_assoc_watch, cause);
+    FIELD(sctp_assoc_watch, reason_length);
+    FIELD(sctp_assoc_watch, reason);
+}
+
 static void block(void) {
     sctp_assoc_block filled = {0, 0};
     (void)filled;
@@ -104,6 +130,8 @@ int main(void) {
     counters();
     event();
     totals();
+    path();
+    watch();
     block();
     return 0;
 }

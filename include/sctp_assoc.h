@@ -16,14 +16,15 @@
  *      after each write, since no timer runs for what waits to go out.
  *   5. Sleep until the moment of sctp_assoc_poll_timeout, or until a datagram comes.
  *
- * To end, call sctp_assoc_shutdown and go on with the loop until sctp_assoc_is_drained; or, at once, sctp_assoc_close.
+ * To end, call sctp_assoc_shutdown and go on with the loop until sctp_assoc_is_drained; or, at once, sctp_assoc_abort,
+ * which tells the peer why, or sctp_assoc_close, which tells it nothing.
  *
  * Each call may be made in any state, in any order and at any moment. What it can't do it refuses by a code. Beyond
  * that C owes this:
  * - A slot begins with all its bytes 0 and is changed by these calls alone. It isn't copied while it holds an
  *   association (moving it is fine). One call at a time; it may go from one thread to another between calls.
  * - No pointer is NULL, except for bytes or identifiers of which there are 0. What a call writes to doesn't overlap
- *   anything else that it gets, and needs no value before.
+ *   anything else that it gets, and needs no value before, but for a watch (sctp_assoc_watch).
  * - A `bool` is 0 or 1. Nothing here is called from a signal handler, or from the child of a fork of a process with
  *   threads.
  * - The library takes memory by malloc and realloc and gives it back by free. A program that defines rattle_alloc,
@@ -81,11 +82,12 @@ typedef uint32_t sctp_assoc_code;
  *   sctp_assoc_handle_datagram               all is as before, or the association has failed
  *   sctp_assoc_handle_timeout                the association has failed
  *   sctp_assoc_poll_transmit                 the association has failed, and what was due is lost
+ *   sctp_assoc_abort                         nothing changed, or the association has failed
  *   sctp_assoc_close, _stop, _close_stream   the association has failed
  *   sctp_assoc_read                          the message stays, or the association has failed
  *   all other calls                          nothing changed
- * sctp_assoc_is_failed tells whether it has. Then it is over, and each later call that has the code SCTP_ASSOC_FAILED
- * answers that. */
+ * A watched call leaves what the call leaves that it makes. sctp_assoc_is_failed tells whether the association has
+ * failed. Then it is over, and each later call that has the code SCTP_ASSOC_FAILED answers that. */
 #define SCTP_ASSOC_NO_MEMORY 2
 /* There is none: no datagram is due, no event waits, no message is ready, no stream is to be accepted, or no timer
  * runs. */
@@ -107,7 +109,7 @@ typedef uint32_t sctp_assoc_code;
 #define SCTP_ASSOC_NOT_ESTABLISHED 16       /* messages are written in Established alone (RFC 4960 section 4) */
 #define SCTP_ASSOC_CANNOT_RESET 17          /* the reset of a stream is asked for in Established alone */
 #define SCTP_ASSOC_STREAM_CLOSED 26         /* this half of the stream is closed */
-#define SCTP_ASSOC_MESSAGE_TOO_LONG 27      /* the message is longer than max_send_message_size */
+#define SCTP_ASSOC_MESSAGE_TOO_LONG 27      /* longer than max_send_message_size; or a reason of over 65,527 bytes */
 #define SCTP_ASSOC_EMPTY_MESSAGE 28         /* a message has one byte at least */
 
 /* ---- Configuration ---- */
@@ -201,6 +203,14 @@ sctp_assoc_code sctp_assoc_shutdown(sctp_assoc *slot);
  * FAILED, NO_MEMORY (the association has failed). */
 sctp_assoc_code sctp_assoc_close(sctp_assoc *slot);
 
+/* Closes the association at once, as sctp_assoc_close does, and tells the peer by an ABORT (RFC 4960 section 9.1): it
+ * waits for sctp_assoc_poll_transmit, behind the datagrams that wait already. `reason` stands in its cause
+ * User-Initiated Abort (section 3.3.10.12): text for people, 0 to 65,527 bytes, and best so short that the path takes
+ * it. A closed association stays as it is, and before the peer has answered the handshake nobody is told. The ABORT
+ * isn't repeated: if it is lost, the peer learns nothing of the end. Codes: DONE, EMPTY_SLOT, FAILED, MESSAGE_TOO_LONG,
+ * NO_MEMORY (nothing changed, or the association has failed). */
+sctp_assoc_code sctp_assoc_abort(sctp_assoc *slot, const uint8_t *reason, size_t length);
+
 /* ---- Datagrams and moments ---- */
 
 /* What became of a datagram. */
@@ -226,6 +236,7 @@ sctp_assoc_code sctp_assoc_handle_datagram(sctp_assoc *slot, uint64_t now, const
  *   FORWARD TSN                 20 and 4 for each ordered stream on which messages are given up; past 16,381 streams
  *                               none is sent
  *   HEARTBEAT ACK               at most as long as the HEARTBEAT that came
+ *   ABORT                       20 and the reason of sctp_assoc_abort (rounded up to 4)
  *   all others                  up to 100
  * One request resets all streams that were closed here since the last request was answered, or that the peer reset by
  * one of its own. So with max_payload_size 1200 a datagram has more than 1228 bytes if the peer leaves more than 300
@@ -333,6 +344,19 @@ sctp_assoc_code sctp_assoc_stats(sctp_assoc *slot, sctp_assoc_totals *totals);
 /* Writes the retransmission timeout, in ms (RFC 4960 section 6.3.1). It can be asked in a failed association too. */
 sctp_assoc_code sctp_assoc_rto(sctp_assoc *slot, uint64_t *ms);
 
+/* How much the path to the peer takes, and how much is under way on it. 32 bytes. */
+typedef struct sctp_assoc_path_values {
+    uint32_t mtu;                    /* bytes; max_payload_size and 28: DATA chunks are bundled up to this length */
+    uint32_t congestion_window;      /* bytes (RFC 4960 section 7.2) */
+    uint32_t slow_start_threshold;   /* bytes (section 7.2.1); at first the first window that the peer offered */
+    uint32_t peer_window;            /* bytes; the peer's receive window as it last said it, less the bytes in flight */
+    uint64_t bytes_in_flight;        /* of DATA that went out and is neither acknowledged nor given up */
+    uint64_t smoothed_round_trip_ms; /* section 6.3.1; 0 before the first measurement */
+} sctp_assoc_path_values;
+
+/* Writes what is known of the path to the peer. Of a closed or failed association it is what was known last. */
+sctp_assoc_code sctp_assoc_path(sctp_assoc *slot, sctp_assoc_path_values *path);
+
 /* ---- Streams ----
  *
  * A stream is named by its identifier, 0 to 65,535.
@@ -434,6 +458,79 @@ sctp_assoc_code sctp_assoc_set_low_mark(sctp_assoc *slot, uint16_t stream, size_
  * it or above is told by SCTP_ASSOC_EVENT_BUFFERED_HIGH. Setting it tells nothing. */
 sctp_assoc_code sctp_assoc_high_mark(sctp_assoc *slot, uint16_t stream, size_t *bytes);
 sctp_assoc_code sctp_assoc_set_high_mark(sctp_assoc *slot, uint16_t stream, size_t bytes);
+
+/* ---- Watching: what passed, and why it ended ----
+ *
+ * A watch stands beside a slot, counts the datagrams of its association and notes why that ended. It is plain data of
+ * the program: it takes no memory from the heap, and there is nothing to free. It begins with all its bytes 0 and is
+ * changed by the watched calls alone. A slot that gets a new association gets a new watch, too.
+ *
+ * A watched call makes the call whose name it has, answers its code and leaves what that leaves. Make these five in
+ * place of those, all through the life of the association: what goes past the watch isn't counted, and an end that
+ * another call brings isn't noted. Who wants no watch makes the calls without one, which cost nothing more for this.
+ */
+
+/* Why the association ended. Of `end` of a watch; NONE until it has ended. */
+#define SCTP_ASSOC_END_NONE 0
+#define SCTP_ASSOC_END_CLOSED 1           /* sctp_assoc_watched_close closed it */
+#define SCTP_ASSOC_END_ABORTED 2          /* sctp_assoc_watched_abort did */
+#define SCTP_ASSOC_END_SHUT_DOWN 3        /* a shutdown of either side went to its end */
+#define SCTP_ASSOC_END_ABORT_CAME 4       /* an ABORT of the peer; `cause` and `reason` */
+#define SCTP_ASSOC_END_FAULT 5            /* another fault of the peer: an ERROR, or a chunk that breaks the protocol */
+#define SCTP_ASSOC_END_BUFFER_EXHAUSTED 6 /* the receive buffer is full of what can never be read */
+
+/* 168 bytes. A number that reaches UINT64_MAX stays there. */
+typedef struct sctp_assoc_watch {
+    uint64_t datagrams_sent;     /* given out by sctp_assoc_watched_poll_transmit */
+    uint64_t bytes_sent;         /* their bytes */
+    uint64_t datagrams_received; /* handed in, and taken (SCTP_ASSOC_TAKEN) */
+    uint64_t bytes_received;     /* their bytes */
+    uint32_t end;                /* SCTP_ASSOC_END_.. */
+    uint16_t cause;              /* of ABORT_CAME: the code of the ABORT's first cause (RFC 4960 section 3.3.10; 12 is
+                                  * User-Initiated Abort), 0 if it has none */
+    uint16_t reason_length;      /* of ABORT_CAME: how many bytes `reason` has, up to 128 */
+    uint8_t reason[128];         /* the first bytes of that cause's value: whatever the peer wrote there */
+} sctp_assoc_watch;
+
+/* sctp_assoc_watch watch = SCTP_ASSOC_WATCH_NEW; */
+#define SCTP_ASSOC_WATCH_NEW {0, 0, 0, 0, 0, 0, 0, {0}}
+
+sctp_assoc_code sctp_assoc_watched_handle_datagram(sctp_assoc *slot, sctp_assoc_watch *watch, uint64_t now,
+                                                   const uint8_t *datagram, size_t length, uint32_t *fate);
+sctp_assoc_code sctp_assoc_watched_poll_transmit(sctp_assoc *slot, sctp_assoc_watch *watch, uint64_t now,
+                                                 uint8_t *buffer, size_t room, size_t *length);
+sctp_assoc_code sctp_assoc_watched_poll_event(sctp_assoc *slot, sctp_assoc_watch *watch, sctp_assoc_event *event);
+sctp_assoc_code sctp_assoc_watched_close(sctp_assoc *slot, sctp_assoc_watch *watch);
+sctp_assoc_code sctp_assoc_watched_abort(sctp_assoc *slot, sctp_assoc_watch *watch, const uint8_t *reason,
+                                         size_t length);
+
+/* ---- An observer of datagrams ----
+ *
+ * Is told of each datagram that was taken or given out, once it was, such as to write a capture. `outgoing` says which,
+ * and `user` is what the program handed in. It may not make a call on the slot or the watch. The two calls below stand
+ * in this header alone: a watched call, and the observer after it if that answered DONE.
+ */
+typedef void sctp_assoc_observer(void *user, bool outgoing, uint64_t now, const uint8_t *datagram, size_t length);
+
+static inline sctp_assoc_code sctp_assoc_observed_handle_datagram(sctp_assoc *slot, sctp_assoc_watch *watch,
+                                                                  sctp_assoc_observer *observer, void *user,
+                                                                  uint64_t now, const uint8_t *datagram,
+                                                                  size_t length, uint32_t *fate) {
+    sctp_assoc_code code = sctp_assoc_watched_handle_datagram(slot, watch, now, datagram, length, fate);
+    if (code == SCTP_ASSOC_DONE && *fate == SCTP_ASSOC_TAKEN)
+        observer(user, false, now, datagram, length);
+    return code;
+}
+
+static inline sctp_assoc_code sctp_assoc_observed_poll_transmit(sctp_assoc *slot, sctp_assoc_watch *watch,
+                                                                sctp_assoc_observer *observer, void *user,
+                                                                uint64_t now, uint8_t *buffer, size_t room,
+                                                                size_t *length) {
+    sctp_assoc_code code = sctp_assoc_watched_poll_transmit(slot, watch, now, buffer, room, length);
+    if (code == SCTP_ASSOC_DONE)
+        observer(user, true, now, buffer, *length);
+    return code;
+}
 
 /* ---- A heap of the program's own ----
  *
