@@ -1,0 +1,341 @@
+/* A watch of each side, and an observer: what passed is counted and told, and each end of an association is noted at
+ * both sides. ABORTs with a reason, the path, and the codes of these calls. */
+#include "support.h"
+
+#define STREAM 7
+
+enum { IN, OUT };
+
+static sctp_assoc ends[2];
+static sctp_assoc_watch watches[2];
+static sctp_assoc_config config;
+static sctp_assoc_path_values path;
+static sctp_assoc_event event;
+static uint8_t bytes[70000];
+static size_t length;
+static uint32_t fate;
+static uint64_t now;
+
+/* What an observer of each end was told: datagrams and bytes, of each way. */
+static struct told {
+    uint64_t datagrams, bytes;
+    uint64_t last; /* the moment */
+} told[2][2];
+
+static void observe(void *user, bool outgoing, uint64_t moment, const uint8_t *datagram, size_t size) {
+    struct told *way = (struct told *)user + outgoing;
+    CHECK(is_sealed(datagram, size) && moment >= way->last);
+    way->datagrams++;
+    way->bytes += size;
+    way->last = moment;
+}
+
+/* Whether an end has a datagram to send, which is left in `bytes`. */
+static bool sends(int end) {
+    return done(sctp_assoc_observed_poll_transmit(&ends[end], &watches[end], observe, told[end], now, bytes,
+                                                  sizeof bytes, &length));
+}
+
+static void receives(int end) {
+    CHECK(done(sctp_assoc_observed_handle_datagram(&ends[end], &watches[end], observe, told[end], now, bytes, length,
+                                                   &fate)));
+}
+
+static void carry(void) {
+    for (bool any = true; any;) {
+        any = false;
+        for (int end = 0; end < 2; end++)
+            while (sends(end)) {
+                receives(!end);
+                any = true;
+            }
+    }
+}
+
+/* Lets timers expire for so many ms. */
+static void wait(uint64_t ms) {
+    for (uint64_t until = now + ms * MS; now < until; now += 100 * MS)
+        for (int end = 0; end < 2; end++) {
+            CHECK(done(sctp_assoc_handle_timeout(&ends[end], now)));
+            carry();
+        }
+}
+
+static bool is_told(int end, uint32_t kind) {
+    while (done(sctp_assoc_watched_poll_event(&ends[end], &watches[end], &event)))
+        if (event.kind == kind)
+            return true;
+    return false;
+}
+
+/* A client and a server with a watch each, after their handshake. */
+static void begin(void) {
+    sctp_assoc_identity client = identity(1), server = identity(2);
+    memset(watches, 0, sizeof watches);
+    memset(told, 0, sizeof told);
+    now = 0;
+    CHECK(done(sctp_assoc_client(&ends[0], &config, PAYLOAD_SIZE, &client, now)));
+    CHECK(done(sctp_assoc_server(&ends[1], &config, PAYLOAD_SIZE, &server, now)));
+    carry();
+    for (int end = 0; end < 2; end++)
+        CHECK(is_told(end, SCTP_ASSOC_EVENT_CONNECTED) && watches[end].end == SCTP_ASSOC_END_NONE);
+    CHECK(done(sctp_assoc_open_stream(&ends[0], STREAM, SCTP_ASSOC_PPID_BINARY)));
+}
+
+static void write_bytes(size_t count) {
+    fill(bytes, count, 1);
+    CHECK(done(sctp_assoc_write(&ends[0], STREAM, SCTP_ASSOC_PPID_OF_STREAM, bytes, count)));
+}
+
+/* ---- What passed ---- */
+
+/* What an end counted is what its observer was told, and what one end sent the other one received. */
+static void is_counted(void) {
+    for (int end = 0; end < 2; end++) {
+        const sctp_assoc_watch *watch = &watches[end];
+        CHECK(watch->datagrams_sent == told[end][OUT].datagrams && watch->bytes_sent == told[end][OUT].bytes);
+        CHECK(watch->datagrams_received == told[end][IN].datagrams && watch->bytes_received == told[end][IN].bytes);
+        CHECK(watch->datagrams_sent == watches[!end].datagrams_received);
+        CHECK(watch->bytes_sent == watches[!end].bytes_received);
+    }
+}
+
+/* INIT, INIT ACK, COOKIE ECHO and COOKIE ACK; then a message of 100 bytes in a datagram of 128, and its SACK of 28. */
+static void counts(void) {
+    begin();
+    is_counted();
+    CHECK(watches[0].datagrams_sent == 2 && watches[1].datagrams_sent == 2);
+    uint64_t before[2] = {watches[0].bytes_sent, watches[1].bytes_sent};
+    write_bytes(100);
+    carry();
+    wait(300);
+    is_counted();
+    CHECK(watches[0].datagrams_sent == 3 && watches[0].bytes_sent == before[0] + 128);
+    CHECK(watches[1].datagrams_sent == 3 && watches[1].bytes_sent == before[1] + 28);
+    free_both(ends);
+}
+
+/* What is not taken, or finds no room, is neither counted nor told. */
+static void counts_no_other(void) {
+    begin();
+    write_bytes(100);
+    CHECK(sctp_assoc_observed_poll_transmit(&ends[0], &watches[0], observe, told[0], now, bytes, 127, &length) ==
+          SCTP_ASSOC_NO_ROOM);
+    CHECK(watches[0].datagrams_sent == 2 && told[0][OUT].datagrams == 2);
+    CHECK(sends(0) && length == 128);
+    receives(0);
+    CHECK(fate == SCTP_ASSOC_OTHER_TAG);
+    bytes[100] ^= 1;
+    receives(1);
+    CHECK(fate == SCTP_ASSOC_NO_PACKET);
+    CHECK(watches[0].datagrams_received == 2 && watches[1].datagrams_received == 2);
+    CHECK(told[0][IN].datagrams == 2 && told[1][IN].datagrams == 2);
+    bytes[100] ^= 1;
+    receives(1);
+    CHECK(fate == SCTP_ASSOC_TAKEN);
+    is_counted();
+    free_both(ends);
+}
+
+/* ---- Why it ended ---- */
+
+static bool is_drained(int end) {
+    bool answer;
+    CHECK(done(sctp_assoc_is_drained(&ends[end], &answer)));
+    return answer;
+}
+
+/* An end is noted, stays so whatever is asked for after it, and the application is told it as LOST. */
+static void ended(int end, uint32_t kind) {
+    CHECK(is_drained(end) && watches[end].end == kind);
+    CHECK(done(sctp_assoc_watched_close(&ends[end], &watches[end])));
+    CHECK(done(sctp_assoc_watched_abort(&ends[end], &watches[end], NULL, 0)));
+    CHECK(is_told(end, SCTP_ASSOC_EVENT_LOST) && watches[end].end == kind);
+    CHECK(kind == SCTP_ASSOC_END_ABORT_CAME || (watches[end].cause == 0 && watches[end].reason_length == 0));
+}
+
+static void by_close(void) {
+    begin();
+    CHECK(done(sctp_assoc_watched_close(&ends[0], &watches[0])));
+    carry();
+    ended(0, SCTP_ASSOC_END_CLOSED);
+    CHECK(watches[1].end == SCTP_ASSOC_END_NONE && !is_drained(1));
+    free_both(ends);
+}
+
+static void by_shutdown(void) {
+    begin();
+    write_bytes(100);
+    CHECK(done(sctp_assoc_shutdown(&ends[1])));
+    carry();
+    wait(1000);
+    ended(0, SCTP_ASSOC_END_SHUT_DOWN);
+    ended(1, SCTP_ASSOC_END_SHUT_DOWN);
+    is_counted();
+    free_both(ends);
+}
+
+/* The reason of an ABORT is noted at the peer, up to its first 128 bytes; 12 is the cause User-Initiated Abort. */
+static void by_abort(size_t reason_length) {
+    begin();
+    uint8_t reason[300];
+    fill(reason, sizeof reason, 3);
+    CHECK(done(sctp_assoc_watched_abort(&ends[0], &watches[0], reason, reason_length)));
+    carry();
+    ended(0, SCTP_ASSOC_END_ABORTED);
+    ended(1, SCTP_ASSOC_END_ABORT_CAME);
+    CHECK(watches[1].cause == 12 && watches[1].reason_length == (reason_length < 128 ? reason_length : 128));
+    CHECK(memcmp(watches[1].reason, reason, watches[1].reason_length) == 0);
+    is_counted();
+    free_both(ends);
+}
+
+/* The server gets a packet with these chunks behind a DATA chunk of the client, or in its place. */
+static void gets(const uint8_t *chunks, size_t size, bool behind_data) {
+    begin();
+    write_bytes(4);
+    CHECK(sends(0) && length == 32);
+    length = behind_data ? length : 12;
+    memcpy(bytes + length, chunks, size);
+    length += size;
+    seal(bytes, length);
+    receives(1);
+    CHECK(fate == SCTP_ASSOC_TAKEN);
+}
+
+/* ABORTs without a cause, behind another chunk, and with two causes, of which the first counts. */
+static void by_abort_of_peer(void) {
+    const uint8_t bare[] = {6, 0, 0, 4};
+    const uint8_t two_causes[] = {6, 0, 0, 20, 0, 13, 0, 8, 'l', 'a', 't', 'e', 0, 12, 0, 8, 'd', 'o', 'n', 'e'};
+    gets(bare, sizeof bare, false);
+    ended(1, SCTP_ASSOC_END_ABORT_CAME);
+    CHECK(watches[1].cause == 0 && watches[1].reason_length == 0);
+    free_both(ends);
+    gets(two_causes, sizeof two_causes, true);
+    ended(1, SCTP_ASSOC_END_ABORT_CAME);
+    CHECK(watches[1].cause == 13 && watches[1].reason_length == 4 && memcmp(watches[1].reason, "late", 4) == 0);
+    free_both(ends);
+}
+
+/* An ERROR with the cause Invalid Stream Identifier. */
+static void by_fault(void) {
+    const uint8_t error[] = {9, 0, 0, 12, 0, 1, 0, 8, 0, 1, 0, 0};
+    gets(error, sizeof error, false);
+    ended(1, SCTP_ASSOC_END_FAULT);
+    free_both(ends);
+}
+
+/* A message that doesn't fit into the receive buffer can never be read. The event tells it. */
+static void by_exhaustion(void) {
+    config.max_receive_buffer_size = 1500;
+    begin();
+    write_bytes(6000);
+    for (int turn = 0; turn < 100 && !is_drained(1); turn++) {
+        carry();
+        wait(1000);
+    }
+    CHECK(is_told(1, SCTP_ASSOC_EVENT_LOST) && event.reason == SCTP_ASSOC_REASON_BUFFER_EXHAUSTED);
+    CHECK(watches[1].end == SCTP_ASSOC_END_BUFFER_EXHAUSTED && watches[1].reason_length == 0);
+    free_both(ends);
+    config = default_config();
+}
+
+/* ---- The path ---- */
+
+/* A congestion window of 4,380 bytes at first (RFC 4960 section 7.2.1). A SACK takes 200 ms: that is the round trip. */
+static void tells_path(void) {
+    begin();
+    CHECK(done(sctp_assoc_path(&ends[0], &path)));
+    CHECK(path.mtu == PAYLOAD_SIZE + 28 && path.congestion_window == 4380);
+    CHECK(path.slow_start_threshold == config.max_receive_buffer_size);
+    CHECK(path.peer_window == config.max_receive_buffer_size && path.bytes_in_flight == 0);
+    write_bytes(1000);
+    CHECK(sends(0));
+    receives(1);
+    CHECK(done(sctp_assoc_path(&ends[0], &path)) && path.bytes_in_flight == 1000);
+    CHECK(path.peer_window == config.max_receive_buffer_size - 1000);
+    now = 200 * MS;
+    CHECK(done(sctp_assoc_handle_timeout(&ends[1], now)));
+    carry();
+    CHECK(done(sctp_assoc_path(&ends[0], &path)) && path.bytes_in_flight == 0 && path.smoothed_round_trip_ms == 200);
+    CHECK(done(sctp_assoc_watched_close(&ends[0], &watches[0])));
+    CHECK(done(sctp_assoc_path(&ends[0], &path)) && path.smoothed_round_trip_ms == 200);
+    free_both(ends);
+}
+
+/* ---- Codes ---- */
+
+static void empty_slot(void) {
+    sctp_assoc none = SCTP_ASSOC_EMPTY;
+    sctp_assoc_watch watch = SCTP_ASSOC_WATCH_NEW, unchanged = SCTP_ASSOC_WATCH_NEW;
+    CHECK(sctp_assoc_path(&none, &path) == SCTP_ASSOC_EMPTY_SLOT);
+    CHECK(sctp_assoc_abort(&none, NULL, 0) == SCTP_ASSOC_EMPTY_SLOT);
+    CHECK(sctp_assoc_watched_handle_datagram(&none, &watch, 0, bytes, 20, &fate) == SCTP_ASSOC_EMPTY_SLOT);
+    CHECK(sctp_assoc_watched_poll_transmit(&none, &watch, 0, NULL, 0, &length) == SCTP_ASSOC_EMPTY_SLOT);
+    CHECK(sctp_assoc_watched_poll_event(&none, &watch, &event) == SCTP_ASSOC_EMPTY_SLOT);
+    CHECK(sctp_assoc_watched_close(&none, &watch) == SCTP_ASSOC_EMPTY_SLOT);
+    CHECK(sctp_assoc_watched_abort(&none, &watch, NULL, 0) == SCTP_ASSOC_EMPTY_SLOT);
+    CHECK(memcmp(&watch, &unchanged, sizeof watch) == 0);
+}
+
+/* An ABORT that is refused changes nothing; one before the handshake tells nobody. NULL stands for no bytes. */
+static void refused_abort(void) {
+    begin();
+    CHECK(sctp_assoc_watched_abort(&ends[0], &watches[0], bytes, 65528) == SCTP_ASSOC_MESSAGE_TOO_LONG);
+    refused_from = growths + 1, refused_to = UINT64_MAX;
+    CHECK(sctp_assoc_watched_abort(&ends[0], &watches[0], bytes, 5) == SCTP_ASSOC_NO_MEMORY);
+    refused_from = refused_to = 0;
+    CHECK(!is_drained(0) && watches[0].end == SCTP_ASSOC_END_NONE);
+    write_bytes(1);
+    CHECK(sctp_assoc_abort(&ends[0], bytes, 65527) == SCTP_ASSOC_DONE && is_drained(0));
+    CHECK(sends(0) && length == SCTP_ASSOC_MAX_DATAGRAM && !sends(0));
+    CHECK(watches[0].end == SCTP_ASSOC_END_NONE); /* the watch was not asked */
+    free_both(ends);
+
+    sctp_assoc_identity client = identity(1);
+    CHECK(done(sctp_assoc_client(&ends[0], &config, PAYLOAD_SIZE, &client, 0)));
+    CHECK(done(sctp_assoc_abort(&ends[0], NULL, 0)) && is_drained(0) && !sends(0));
+    CHECK(sctp_assoc_watched_handle_datagram(&ends[0], &watches[0], 0, NULL, 0, &fate) == SCTP_ASSOC_DONE);
+    CHECK(fate == SCTP_ASSOC_NO_PACKET);
+    CHECK(sctp_assoc_free(&ends[0]) == SCTP_ASSOC_DONE);
+}
+
+/* An association that found no memory refuses all but the question. */
+static void failed_end(void) {
+    begin();
+    write_bytes(1);
+    refused_from = growths + 1, refused_to = UINT64_MAX;
+    CHECK(sctp_assoc_watched_poll_transmit(&ends[0], &watches[0], 0, bytes, sizeof bytes, &length) ==
+          SCTP_ASSOC_NO_MEMORY);
+    refused_from = refused_to = 0;
+    CHECK(sctp_assoc_watched_poll_transmit(&ends[0], &watches[0], 0, bytes, sizeof bytes, &length) ==
+          SCTP_ASSOC_FAILED);
+    CHECK(sctp_assoc_watched_handle_datagram(&ends[0], &watches[0], 0, bytes, 20, &fate) == SCTP_ASSOC_FAILED);
+    CHECK(sctp_assoc_watched_poll_event(&ends[0], &watches[0], &event) == SCTP_ASSOC_FAILED);
+    CHECK(sctp_assoc_watched_close(&ends[0], &watches[0]) == SCTP_ASSOC_FAILED);
+    CHECK(sctp_assoc_watched_abort(&ends[0], &watches[0], bytes, 1) == SCTP_ASSOC_FAILED);
+    CHECK(sctp_assoc_abort(&ends[0], bytes, 1) == SCTP_ASSOC_FAILED);
+    CHECK(watches[0].datagrams_sent == 2 && watches[0].end == SCTP_ASSOC_END_NONE);
+    CHECK(done(sctp_assoc_path(&ends[0], &path)) && path.mtu == PAYLOAD_SIZE + 28);
+    free_both(ends);
+}
+
+int main(void) {
+    config = default_config();
+    counts();
+    counts_no_other();
+    by_close();
+    by_shutdown();
+    by_abort(3);
+    by_abort(0);
+    by_abort(300);
+    by_abort_of_peer();
+    by_fault();
+    by_exhaustion();
+    tells_path();
+    empty_slot();
+    refused_abort();
+    failed_end();
+    puts("watching: ok");
+    return 0;
+}
