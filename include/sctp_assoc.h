@@ -277,7 +277,8 @@ sctp_assoc_code sctp_assoc_handle_timeout(sctp_assoc *slot, uint64_t now);
 #define SCTP_ASSOC_REASON_NO_INIT_ACK 1         /* of HANDSHAKE_FAILED: INIT wasn't answered */
 #define SCTP_ASSOC_REASON_NO_COOKIE_ACK 2       /* of HANDSHAKE_FAILED: COOKIE ECHO wasn't answered */
 #define SCTP_ASSOC_REASON_CLOSED 3              /* of LOST: the end of a shutdown of either side, sctp_assoc_close, an
-                                                 * ABORT or another fault of the peer */
+                                                 * ABORT of either side or another fault of the peer; a watch tells
+                                                 * which (SCTP_ASSOC_END_..) */
 #define SCTP_ASSOC_REASON_BUFFER_EXHAUSTED 4    /* of LOST: the receive buffer is full of what can never be read */
 #define SCTP_ASSOC_REASON_OTHER 5               /* not told so far */
 #define SCTP_ASSOC_REASON_RESET_DENIED 6        /* of RESET_FAILED: the peer denied it (RFC 6525 section 4.4) */
@@ -322,8 +323,8 @@ sctp_assoc_code sctp_assoc_is_closing(sctp_assoc *slot, bool *answer);
 /* Whether the state is Closed: that of a server before its handshake, and of any side after a loss. */
 sctp_assoc_code sctp_assoc_is_closed(sctp_assoc *slot, bool *answer);
 
-/* Whether the association was lost: by a fault, by sctp_assoc_close, or at the end of a shutdown. Nothing is left then
- * but the datagrams, events and messages that wait at the slot. */
+/* Whether the association was lost: by a fault, by sctp_assoc_close or _abort, or at the end of a shutdown. Nothing is
+ * left then but the datagrams, events and messages that wait at the slot. */
 sctp_assoc_code sctp_assoc_is_drained(sctp_assoc *slot, bool *answer);
 
 /* Whether an earlier call found no memory in its middle. Then the association is over. */

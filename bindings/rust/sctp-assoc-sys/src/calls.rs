@@ -1,6 +1,6 @@
 use crate::{
     sctp_assoc, sctp_assoc_code, sctp_assoc_config, sctp_assoc_counters, sctp_assoc_event, sctp_assoc_identity,
-    sctp_assoc_token, sctp_assoc_totals,
+    sctp_assoc_path_values, sctp_assoc_token, sctp_assoc_totals, sctp_assoc_watch,
 };
 
 extern "C" {
@@ -47,6 +47,8 @@ extern "C" {
     pub fn sctp_assoc_shutdown(slot: *mut sctp_assoc) -> sctp_assoc_code;
     /// Closes the association at once; nothing is told to the peer.
     pub fn sctp_assoc_close(slot: *mut sctp_assoc) -> sctp_assoc_code;
+    /// Closes the association at once, and tells the peer by an ABORT with this reason (RFC 4960 section 9.1).
+    pub fn sctp_assoc_abort(slot: *mut sctp_assoc, reason: *const u8, length: usize) -> sctp_assoc_code;
 
     /// Takes in one datagram that came at `now`; `fate` says what became of it, by one of the four from
     /// [`SCTP_ASSOC_TAKEN`](crate::SCTP_ASSOC_TAKEN) on.
@@ -88,6 +90,8 @@ extern "C" {
     pub fn sctp_assoc_stats(slot: *mut sctp_assoc, totals: *mut sctp_assoc_totals) -> sctp_assoc_code;
     /// Writes the retransmission timeout, in ms.
     pub fn sctp_assoc_rto(slot: *mut sctp_assoc, ms: *mut u64) -> sctp_assoc_code;
+    /// Writes what is known of the path to the peer.
+    pub fn sctp_assoc_path(slot: *mut sctp_assoc, path: *mut sctp_assoc_path_values) -> sctp_assoc_code;
 
     /// Makes a stream on this side.
     pub fn sctp_assoc_open_stream(slot: *mut sctp_assoc, stream: u16, payload_type: u32) -> sctp_assoc_code;
@@ -155,4 +159,38 @@ extern "C" {
     pub fn sctp_assoc_high_mark(slot: *mut sctp_assoc, stream: u16, bytes: *mut usize) -> sctp_assoc_code;
     /// Sets the high mark.
     pub fn sctp_assoc_set_high_mark(slot: *mut sctp_assoc, stream: u16, bytes: usize) -> sctp_assoc_code;
+
+    /// [`sctp_assoc_handle_datagram`], which the watch counts.
+    pub fn sctp_assoc_watched_handle_datagram(
+        slot: *mut sctp_assoc,
+        watch: *mut sctp_assoc_watch,
+        now: u64,
+        datagram: *const u8,
+        length: usize,
+        fate: *mut u32,
+    ) -> sctp_assoc_code;
+    /// [`sctp_assoc_poll_transmit`], which the watch counts.
+    pub fn sctp_assoc_watched_poll_transmit(
+        slot: *mut sctp_assoc,
+        watch: *mut sctp_assoc_watch,
+        now: u64,
+        buffer: *mut u8,
+        room: usize,
+        length: *mut usize,
+    ) -> sctp_assoc_code;
+    /// [`sctp_assoc_poll_event`], by which the watch notes that the receive buffer was exhausted.
+    pub fn sctp_assoc_watched_poll_event(
+        slot: *mut sctp_assoc,
+        watch: *mut sctp_assoc_watch,
+        event: *mut sctp_assoc_event,
+    ) -> sctp_assoc_code;
+    /// [`sctp_assoc_close`], which the watch notes.
+    pub fn sctp_assoc_watched_close(slot: *mut sctp_assoc, watch: *mut sctp_assoc_watch) -> sctp_assoc_code;
+    /// [`sctp_assoc_abort`], which the watch notes.
+    pub fn sctp_assoc_watched_abort(
+        slot: *mut sctp_assoc,
+        watch: *mut sctp_assoc_watch,
+        reason: *const u8,
+        length: usize,
+    ) -> sctp_assoc_code;
 }

@@ -34,7 +34,7 @@ pub const SCTP_ASSOC_NOT_ESTABLISHED: sctp_assoc_code = 16;
 pub const SCTP_ASSOC_CANNOT_RESET: sctp_assoc_code = 17;
 /// This half of the stream is closed.
 pub const SCTP_ASSOC_STREAM_CLOSED: sctp_assoc_code = 26;
-/// The message is longer than the limit.
+/// The message is longer than the limit, or the reason of an ABORT longer than 65,527 bytes.
 pub const SCTP_ASSOC_MESSAGE_TOO_LONG: sctp_assoc_code = 27;
 /// A message has one byte at least.
 pub const SCTP_ASSOC_EMPTY_MESSAGE: sctp_assoc_code = 28;
@@ -86,7 +86,7 @@ pub const SCTP_ASSOC_REASON_NONE: u32 = 0;
 pub const SCTP_ASSOC_REASON_NO_INIT_ACK: u32 = 1;
 /// COOKIE ECHO was not answered.
 pub const SCTP_ASSOC_REASON_NO_COOKIE_ACK: u32 = 2;
-/// The end of a shutdown, a close, an ABORT or another fault of the peer.
+/// The end of a shutdown, a close, an ABORT of either side or another fault of the peer.
 pub const SCTP_ASSOC_REASON_CLOSED: u32 = 3;
 /// The receive buffer is full of what can never be read.
 pub const SCTP_ASSOC_REASON_BUFFER_EXHAUSTED: u32 = 4;
@@ -96,6 +96,21 @@ pub const SCTP_ASSOC_REASON_OTHER: u32 = 5;
 pub const SCTP_ASSOC_REASON_RESET_DENIED: u32 = 6;
 /// The peer reported an error for the reset of a stream, or did not answer.
 pub const SCTP_ASSOC_REASON_RESET_FAILED: u32 = 7;
+
+/// Of a watch: the association has not ended.
+pub const SCTP_ASSOC_END_NONE: u32 = 0;
+/// [`sctp_assoc_watched_close`](crate::sctp_assoc_watched_close) closed it.
+pub const SCTP_ASSOC_END_CLOSED: u32 = 1;
+/// [`sctp_assoc_watched_abort`](crate::sctp_assoc_watched_abort) closed it.
+pub const SCTP_ASSOC_END_ABORTED: u32 = 2;
+/// A shutdown of either side went to its end.
+pub const SCTP_ASSOC_END_SHUT_DOWN: u32 = 3;
+/// An ABORT of the peer.
+pub const SCTP_ASSOC_END_ABORT_CAME: u32 = 4;
+/// Another fault of the peer.
+pub const SCTP_ASSOC_END_FAULT: u32 = 5;
+/// The receive buffer is full of what can never be read.
+pub const SCTP_ASSOC_END_BUFFER_EXHAUSTED: u32 = 6;
 
 /// None of the payload protocol identifiers with a name (RFC 8831 section 8).
 pub const SCTP_ASSOC_PPID_UNKNOWN: u32 = 0;

@@ -123,3 +123,58 @@ pub struct sctp_assoc_totals {
     /// DATA chunks that were sent again fast (RFC 4960 section 7.2.4).
     pub fast_retransmissions: u64,
 }
+
+/// How much the path to the peer takes, and how much is under way on it.
+#[repr(C)]
+#[derive(Clone, Copy, Debug, Default)]
+pub struct sctp_assoc_path_values {
+    /// The greatest payload of a DATA chunk and 28, in bytes: DATA chunks are bundled up to this length.
+    pub mtu: u32,
+    /// The congestion window, in bytes (RFC 4960 section 7.2).
+    pub congestion_window: u32,
+    /// The slow start threshold, in bytes (RFC 4960 section 7.2.1).
+    pub slow_start_threshold: u32,
+    /// The peer's receive window as it last said it, less the bytes in flight.
+    pub peer_window: u32,
+    /// Bytes of DATA that went out and are neither acknowledged nor given up.
+    pub bytes_in_flight: u64,
+    /// In ms (RFC 4960 section 6.3.1); 0 before the first measurement.
+    pub smoothed_round_trip_ms: u64,
+}
+
+/// What passed through the watched calls of an association, and why it ended. It begins as [`sctp_assoc_watch::NEW`]
+/// and is changed by these calls alone.
+#[repr(C)]
+#[derive(Clone, Copy, Debug)]
+pub struct sctp_assoc_watch {
+    /// Datagrams that were given out.
+    pub datagrams_sent: u64,
+    /// Their bytes.
+    pub bytes_sent: u64,
+    /// Datagrams that were handed in and taken.
+    pub datagrams_received: u64,
+    /// Their bytes.
+    pub bytes_received: u64,
+    /// Why it ended: `SCTP_ASSOC_END_..`.
+    pub end: u32,
+    /// The code of the first cause of the ABORT that came, 0 if it has none (RFC 4960 section 3.3.10).
+    pub cause: u16,
+    /// How many bytes of `reason` there are.
+    pub reason_length: u16,
+    /// The first bytes of that cause's value.
+    pub reason: [u8; 128],
+}
+
+impl sctp_assoc_watch {
+    /// Of an association through which nothing passed.
+    pub const NEW: sctp_assoc_watch = sctp_assoc_watch {
+        datagrams_sent: 0,
+        bytes_sent: 0,
+        datagrams_received: 0,
+        bytes_received: 0,
+        end: 0,
+        cause: 0,
+        reason_length: 0,
+        reason: [0; 128],
+    };
+}

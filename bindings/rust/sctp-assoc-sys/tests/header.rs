@@ -101,6 +101,26 @@ fn structs_are_laid_out_as_in_the_header() {
     layout!(sctp_assoc_counters, messages_sent, bytes_sent, messages_received, bytes_received);
     layout!(sctp_assoc_event, kind, reason, stream, counters);
     layout!(sctp_assoc_totals, data_chunks, sacks, retransmission_timeouts, ack_timeouts, fast_retransmissions);
+    layout!(
+        sctp_assoc_path_values,
+        mtu,
+        congestion_window,
+        slow_start_threshold,
+        peer_window,
+        bytes_in_flight,
+        smoothed_round_trip_ms
+    );
+    layout!(
+        sctp_assoc_watch,
+        datagrams_sent,
+        bytes_sent,
+        datagrams_received,
+        bytes_received,
+        end,
+        cause,
+        reason_length,
+        reason
+    );
     // This crate names no heap of its own.
     let of_header = include_str!("../../../../host/layout.txt").lines().filter(|line| !line.contains("_block"));
     assert_eq!(listed.lines().collect::<Vec<_>>(), of_header.collect::<Vec<_>>());

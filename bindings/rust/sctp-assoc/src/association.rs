@@ -1,5 +1,5 @@
 use crate::slot::Slot;
-use crate::{Config, EndpointEvent, Error, Event, Identity, PayloadType, Stream, Token};
+use crate::{Config, Direction, End, EndpointEvent, Error, Event, Identity, Path, PayloadType, Stream, Token, Traffic};
 use sctp_assoc_sys as sys;
 use std::fmt;
 use std::time::{Duration, Instant};
@@ -15,7 +15,10 @@ use std::time::{Duration, Instant};
 pub struct Association {
     pub(crate) slot: Slot,
     began: Instant,
+    observer: Option<Observer>,
 }
+
+type Observer = Box<dyn FnMut(Direction, Instant, &[u8]) + Send>;
 
 /// What became of a datagram that came.
 #[derive(Clone, Copy, Debug, PartialEq, Eq)]
@@ -53,7 +56,7 @@ impl Association {
     /// Errors: `BadPayloadSize`, `BadInitialTsn`, `NoMemory`.
     pub fn client(config: &Config, identity: &Identity, now: Instant) -> Result<Association, Error> {
         let slot = Slot::client(&config.raw(), config.max_payload_size, &identity.raw())?;
-        Ok(Association { slot, began: now })
+        Ok(Association { slot, began: now, observer: None })
     }
 
     /// Makes a server, which waits for an INIT.
@@ -61,7 +64,7 @@ impl Association {
     /// Errors: `BadPayloadSize`, `BadInitialTsn`, `NoMemory`.
     pub fn server(config: &Config, identity: &Identity, now: Instant) -> Result<Association, Error> {
         let slot = Slot::server(&config.raw(), config.max_payload_size, &identity.raw())?;
-        Ok(Association { slot, began: now })
+        Ok(Association { slot, began: now, observer: None })
     }
 
     /// Makes a side that is established at once, by both sides' tokens. [`Event::Connected`] waits.
@@ -69,7 +72,7 @@ impl Association {
     /// Errors: `BadPayloadSize`, `BadToken`, `NoMemory`.
     pub fn joined(config: &Config, local: &Token, remote: &Token, now: Instant) -> Result<Association, Error> {
         let slot = Slot::joined(&config.raw(), config.max_payload_size, &local.raw(), &remote.raw())?;
-        Ok(Association { slot, began: now })
+        Ok(Association { slot, began: now, observer: None })
     }
 
     // Nanoseconds since the association was made.
@@ -82,7 +85,10 @@ impl Association {
     /// Errors: `Failed`; `NoMemory`: all is as before, or the association failed.
     pub fn handle_datagram(&mut self, now: Instant, datagram: &[u8]) -> Result<Fate, Error> {
         Ok(match self.slot.handle_datagram(self.nanos(now), datagram)? {
-            sys::SCTP_ASSOC_TAKEN => Fate::Taken,
+            sys::SCTP_ASSOC_TAKEN => {
+                self.tell(Direction::Received, now, datagram);
+                Fate::Taken
+            }
             sys::SCTP_ASSOC_OTHER_TAG => Fate::OtherTag,
             sys::SCTP_ASSOC_REPEATED_INIT => Fate::RepeatedInit,
             _ => Fate::NoPacket,
@@ -102,6 +108,7 @@ impl Association {
     ///   last request was answered, or that the peer reset by one of its own;
     /// - FORWARD TSN: 20 and 4 for each ordered stream on which messages are given up (past 16,381 none is sent);
     /// - HEARTBEAT ACK: at most as long as the HEARTBEAT that came;
+    /// - ABORT: 20 and the reason of [`abort`](Association::abort);
     /// - all others: up to 100.
     ///
     /// A buffer of [`MAX_DATAGRAM`](crate::MAX_DATAGRAM) bytes is always long enough. UDP carries up to 65,507 bytes,
@@ -111,8 +118,23 @@ impl Association {
     /// Errors: `NoRoom` if the buffer is shorter than the datagram, which stays, with those after it; `Failed`;
     /// `NoMemory`: the association failed, and what was due is lost.
     pub fn poll_transmit<'b>(&mut self, now: Instant, buffer: &'b mut [u8]) -> Result<Option<&'b [u8]>, Error> {
-        let length = self.slot.poll_transmit(self.nanos(now), buffer)?;
-        Ok(length.map(|length| &buffer[..length]))
+        let Some(length) = self.slot.poll_transmit(self.nanos(now), buffer)? else { return Ok(None) };
+        let datagram = &buffer[..length];
+        self.tell(Direction::Sent, now, datagram);
+        Ok(Some(datagram))
+    }
+
+    fn tell(&mut self, direction: Direction, now: Instant, datagram: &[u8]) {
+        if let Some(observer) = &mut self.observer {
+            observer(direction, now, datagram);
+        }
+    }
+
+    /// From now on the observer is told of each datagram that [`poll_transmit`](Association::poll_transmit) gives, and
+    /// of each that was handed in and [`Taken`](Fate::Taken), once it was, such as to write a capture. It takes the
+    /// place of an earlier one.
+    pub fn observe(&mut self, observer: impl FnMut(Direction, Instant, &[u8]) + Send + 'static) {
+        self.observer = Some(Box::new(observer));
     }
 
     /// The moment at which the next timer expires; None if no timer runs. If it is not after now,
@@ -164,6 +186,32 @@ impl Association {
         self.slot.close()
     }
 
+    /// Closes the association at once, as [`close`](Association::close) does, and tells the peer by an ABORT (RFC 4960
+    /// section 9.1), which waits for [`poll_transmit`](Association::poll_transmit) behind the datagrams that wait
+    /// already. The reason stands in its cause User-Initiated Abort: text for people, of up to 65,527 bytes, and best
+    /// so short that the path takes it. A closed association stays as it is, and before the peer has answered the
+    /// handshake nobody is told. The ABORT is not repeated: if it is lost, the peer learns nothing of the end.
+    ///
+    /// Errors: `Failed`; `MessageTooLong`; `NoMemory`: nothing changed, or the association failed.
+    pub fn abort(&mut self, reason: &[u8]) -> Result<(), Error> {
+        self.slot.abort(reason)
+    }
+
+    /// Why the association ended; None as long as it has not.
+    pub fn end(&self) -> Option<End> {
+        End::of(self.slot.watch())
+    }
+
+    /// The datagrams that went through the association since it was made.
+    pub fn traffic(&self) -> Traffic {
+        Traffic::of(self.slot.watch())
+    }
+
+    /// What is known of the path to the peer. Of a closed or failed association it is what was known last.
+    pub fn path(&self) -> Path {
+        Path::of(&self.slot.path())
+    }
+
     /// Whether messages can be written: the state is Established (RFC 4960 section 4).
     pub fn is_established(&self) -> bool {
         self.slot.is_established()
@@ -179,8 +227,9 @@ impl Association {
         self.slot.is_closed()
     }
 
-    /// Whether the association was lost: by a fault, by [`close`](Association::close), or at the end of a shutdown.
-    /// Nothing is left then but the datagrams, events and messages that wait.
+    /// Whether the association was lost: by a fault, by [`close`](Association::close) or
+    /// [`abort`](Association::abort), or at the end of a shutdown. Nothing is left then but the datagrams, events and
+    /// messages that wait.
     pub fn is_drained(&self) -> bool {
         self.slot.is_drained()
     }

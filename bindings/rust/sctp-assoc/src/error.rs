@@ -38,7 +38,7 @@ pub enum Error {
     CannotReset,
     /// This half of the stream is closed.
     StreamClosed,
-    /// The message is longer than `max_send_message_size`.
+    /// The message is longer than `max_send_message_size`, or the reason of an abort longer than 65,527 bytes.
     MessageTooLong,
     /// The message has no byte.
     EmptyMessage,

@@ -92,7 +92,7 @@ pub enum Reason {
     /// COOKIE ECHO was not answered.
     NoCookieAck,
     /// The end of a [`shutdown`](crate::Association::shutdown) of either side, [`close`](crate::Association::close), an
-    /// ABORT or another fault of the peer.
+    /// ABORT of either side or another fault of the peer: [`end`](crate::Association::end) says which.
     Closed,
     /// The receive buffer is full of what can never be read.
     BufferExhausted,

@@ -14,7 +14,8 @@
 //! 5. Sleep until the moment of `poll_timeout`, or until a datagram comes.
 //!
 //! To end call [`shutdown`](Association::shutdown), and go on until [`is_drained`](Association::is_drained); or, to end
-//! at once, [`close`](Association::close).
+//! at once, [`abort`](Association::abort), which tells the peer why, or [`close`](Association::close), which tells it
+//! nothing. [`end`](Association::end) says why an association ended.
 //!
 //! `examples/echo.rs` does so over UDP (RFC 6951). Here a client and a server meet in memory:
 //!
@@ -67,6 +68,7 @@ mod payload;
 #[allow(unsafe_code)]
 mod slot;
 mod stream;
+mod watch;
 
 pub use association::{Association, Fate, Totals};
 pub use config::{Config, Identity, Token};
@@ -74,3 +76,4 @@ pub use error::Error;
 pub use event::{Counters, EndpointEvent, Event, Reason};
 pub use payload::{PayloadType, Reliability};
 pub use stream::{Message, Stream};
+pub use watch::{Cause, Direction, End, Path, Traffic};

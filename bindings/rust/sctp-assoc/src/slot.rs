@@ -6,13 +6,14 @@
 use crate::error::{done, done_or_nothing, Error};
 use sctp_assoc_sys as sys;
 use std::cell::UnsafeCell;
-use sys::{sctp_assoc, sctp_assoc_code};
+use sys::{sctp_assoc, sctp_assoc_code, sctp_assoc_watch};
 
 type Made = Result<Slot, Error>;
 
-/// A slot with an association.
+/// A slot with an association, and its watch.
 pub(crate) struct Slot {
     raw: UnsafeCell<sctp_assoc>,
+    watch: sctp_assoc_watch,
 }
 
 // SAFETY: the library keeps nothing but in the slot, and may be called from any thread, one call at a time.
@@ -64,7 +65,7 @@ impl Slot {
     fn made(make: impl FnOnce(*mut sctp_assoc) -> sctp_assoc_code) -> Made {
         let mut raw = sctp_assoc::EMPTY;
         done(make(&mut raw))?;
-        Ok(Slot { raw: UnsafeCell::new(raw) })
+        Ok(Slot { raw: UnsafeCell::new(raw), watch: sctp_assoc_watch::NEW })
     }
 }
 
@@ -73,18 +74,20 @@ impl Slot {
     /// What became of the datagram, by its number.
     pub(crate) fn handle_datagram(&mut self, now: u64, datagram: &[u8]) -> Result<u32, Error> {
         let mut fate = 0;
+        let (slot, watch) = self.watched();
         let (at, length) = (datagram.as_ptr(), datagram.len());
         // SAFETY: as the file's head says.
-        done(unsafe { sys::sctp_assoc_handle_datagram(self.raw.get(), now, at, length, &mut fate) })?;
+        done(unsafe { sys::sctp_assoc_watched_handle_datagram(slot, watch, now, at, length, &mut fate) })?;
         Ok(fate)
     }
 
     /// The length of the datagram, which stands at the front of the buffer.
     pub(crate) fn poll_transmit(&mut self, now: u64, buffer: &mut [u8]) -> Result<Option<usize>, Error> {
         let mut length = 0;
+        let (slot, watch) = self.watched();
         let (at, room) = (buffer.as_mut_ptr(), buffer.len());
         // SAFETY: as the file's head says.
-        let code = unsafe { sys::sctp_assoc_poll_transmit(self.raw.get(), now, at, room, &mut length) };
+        let code = unsafe { sys::sctp_assoc_watched_poll_transmit(slot, watch, now, at, room, &mut length) };
         Ok(done_or_nothing(code, length)?.then_some(length))
     }
 
@@ -102,8 +105,9 @@ impl Slot {
 
     pub(crate) fn poll_event(&mut self) -> Result<Option<sys::sctp_assoc_event>, Error> {
         let mut event = sys::sctp_assoc_event::default();
+        let (slot, watch) = self.watched();
         // SAFETY: as the file's head says.
-        let code = unsafe { sys::sctp_assoc_poll_event(self.raw.get(), &mut event) };
+        let code = unsafe { sys::sctp_assoc_watched_poll_event(slot, watch, &mut event) };
         Ok(done_or_nothing(code, 0)?.then_some(event))
     }
 
@@ -119,8 +123,25 @@ impl Slot {
     }
 
     pub(crate) fn close(&mut self) -> Result<(), Error> {
+        let (slot, watch) = self.watched();
         // SAFETY: as the file's head says.
-        done(unsafe { sys::sctp_assoc_close(self.raw.get()) })
+        done(unsafe { sys::sctp_assoc_watched_close(slot, watch) })
+    }
+
+    pub(crate) fn abort(&mut self, reason: &[u8]) -> Result<(), Error> {
+        let (slot, watch) = self.watched();
+        // SAFETY: as the file's head says.
+        done(unsafe { sys::sctp_assoc_watched_abort(slot, watch, reason.as_ptr(), reason.len()) })
+    }
+
+    /// What the watch counted and noted.
+    pub(crate) fn watch(&self) -> &sctp_assoc_watch {
+        &self.watch
+    }
+
+    // What the watched calls want.
+    fn watched(&mut self) -> (*mut sctp_assoc, *mut sctp_assoc_watch) {
+        (self.raw.get(), &mut self.watch)
     }
 }
 
@@ -153,6 +174,10 @@ impl Slot {
     /// In ms.
     pub(crate) fn rto(&self) -> u64 {
         self.asked(sys::sctp_assoc_rto)
+    }
+
+    pub(crate) fn path(&self) -> sys::sctp_assoc_path_values {
+        self.asked(sys::sctp_assoc_path)
     }
 
     /// How many identifiers there are, which stand at the front.
