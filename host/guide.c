@@ -1,5 +1,6 @@
 /* Runs the C code of docs/GUIDE.md, which host/run takes out of the page: a client and a server, whose datagrams go
- * through two queues, shake hands, exchange a message in each direction, close the stream and shut down. */
+ * through two queues, shake hands, exchange a message in each direction, close the stream and shut down. Two others are
+ * watched, and one aborts. */
 #define _DEFAULT_SOURCE
 #include "support.h"
 
@@ -51,7 +52,43 @@ static void go_on(uint64_t now) {
     }
 }
 
+/* What waits for an end is handed in, and what it sends for that waits for the other one. */
+static void exchange_all(sctp_assoc_watch watches[2], FILE *lines) {
+    exchange(&ends[0], &watches[0], lines, 0, NULL, 0);
+    for (int end = 1; waiting[0] + waiting[1] > 0; end = !end) {
+        static struct datagram taken[WAITING];
+        size_t count = waiting[end];
+        memcpy(taken, queues[end], sizeof taken);
+        waiting[end] = 0;
+        for (size_t i = 0; i < count; i++)
+            exchange(&ends[end], &watches[end], lines, 0, taken[i].bytes, taken[i].length);
+    }
+}
+
+/* A client and a server are watched. The client aborts, which both are told, and each datagram has a line at each. */
+static void watched(void) {
+    sctp_assoc_watch watches[2] = {SCTP_ASSOC_WATCH_NEW, SCTP_ASSOC_WATCH_NEW};
+    FILE *lines = tmpfile();
+    CHECK(lines);
+    begin(&ends[0], true, 0);
+    begin(&ends[1], false, 0);
+    exchange_all(watches, lines);
+    CHECK(strcmp(end_of(&watches[0]), "it goes on") == 0);
+    CHECK(done(sctp_assoc_watched_abort(&ends[0], &watches[0], (const uint8_t *)"bye", 3)));
+    exchange_all(watches, lines);
+    CHECK(strcmp(end_of(&watches[0]), "it was ended here") == 0);
+    CHECK(strcmp(end_of(&watches[1]), "the peer aborted it") == 0 && memcmp(watches[1].reason, "bye", 3) == 0);
+    uint64_t written = 0;
+    rewind(lines);
+    for (int c; (c = fgetc(lines)) != EOF;)
+        written += c == '\n';
+    CHECK(written == 2 * (watches[0].datagrams_sent + watches[1].datagrams_sent));
+    fclose(lines);
+    free_both(ends);
+}
+
 int main(void) {
+    watched();
     begin(&ends[0], true, 0);
     begin(&ends[1], false, 0);
     go_on(0);
