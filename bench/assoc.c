@@ -1,7 +1,7 @@
 /* The cases of the benchmark by sctp_assoc: both ends in one process, each datagram handed over at once, and the end
  * that got it polled after each.
  *
- *   assoc CASE COUNT SIZE     small, packet, large, unordered, lossy, handshake or memory
+ *   assoc CASE COUNT SIZE     small, observed, packet, large, unordered, lossy, handshake or memory
  *   assoc CASE COUNT SIZE     streams, unread or in_flight: a message with little there, and with much
  *   assoc CASE COUNT SIZE     expired: COUNT ordered messages, whose lifetimes end in one poll
  *
@@ -22,6 +22,8 @@
 /* End 0 writes and is the client, end 1 reads. */
 static sctp_assoc ends[2];
 static struct wire wires[2];
+static bool is_observed; /* each end has a watch, and an observer that does nothing */
+static sctp_assoc_watch watches[2];
 static sctp_assoc_config config;
 static uint64_t now, written, messages_read, bytes_read, allocations;
 static int established[2];
@@ -56,9 +58,34 @@ static bool done(sctp_assoc_code code) {
     return code == SCTP_ASSOC_DONE;
 }
 
+static void observe(void *user, bool outgoing, uint64_t moment, const uint8_t *datagram, size_t length) {
+    (void)user, (void)outgoing, (void)moment, (void)datagram, (void)length;
+}
+
+static bool transmits(int end, struct datagram *room) {
+    if (is_observed)
+        return done(sctp_assoc_observed_poll_transmit(&ends[end], &watches[end], observe, NULL, now, room->bytes,
+                                                      sizeof room->bytes, &room->length));
+    return done(sctp_assoc_poll_transmit(&ends[end], now, room->bytes, sizeof room->bytes, &room->length));
+}
+
+static void receives(int end, const struct datagram *came) {
+    uint32_t fate;
+    if (is_observed)
+        done(sctp_assoc_observed_handle_datagram(&ends[end], &watches[end], observe, NULL, now, came->bytes,
+                                                 came->length, &fate));
+    else
+        done(sctp_assoc_handle_datagram(&ends[end], now, came->bytes, came->length, &fate));
+}
+
+static bool has_event(int end, sctp_assoc_event *event) {
+    return done(is_observed ? sctp_assoc_watched_poll_event(&ends[end], &watches[end], event)
+                            : sctp_assoc_poll_event(&ends[end], event));
+}
+
 static void poll_end(int end) {
     struct datagram *room = new_datagram();
-    while (done(sctp_assoc_poll_transmit(&ends[end], now, room->bytes, sizeof room->bytes, &room->length))) {
+    while (transmits(end, room)) {
         send_on(&wires[end], room);
         room = new_datagram();
     }
@@ -78,7 +105,7 @@ static bool read_one(uint16_t stream) {
 /* Takes all events of an end. If `reads`, all messages are read, too. */
 static void take_events(int end, bool reads) {
     sctp_assoc_event event;
-    while (done(sctp_assoc_poll_event(&ends[end], &event))) {
+    while (has_event(end, &event)) {
         if (event.kind == SCTP_ASSOC_EVENT_CONNECTED)
             established[end] = 1;
         else if (event.kind == SCTP_ASSOC_EVENT_LOST)
@@ -93,8 +120,7 @@ static bool hand_over_from(int end, bool reads) {
     struct datagram *came = take_from(&wires[end]);
     if (!came)
         return false;
-    uint32_t fate;
-    done(sctp_assoc_handle_datagram(&ends[!end], now, came->bytes, came->length, &fate));
+    receives(!end, came);
     give_back(came);
     take_events(!end, reads);
     poll_end(!end);
@@ -175,6 +201,7 @@ static void exchange(uint64_t count, size_t size, uint16_t streams) {
 }
 
 static void messages(struct measure *m) {
+    is_observed = !strcmp(m->name, "observed");
     join_with(1);
     if (!strcmp(m->name, "unordered"))
         done(sctp_assoc_set_reliability(&ends[0], STREAM, true, SCTP_ASSOC_RELIABLE, 0));
