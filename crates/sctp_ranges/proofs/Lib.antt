@@ -1,0 +1,4 @@
+pub mod Halving
+pub mod Keys
+pub mod Rows
+pub mod Turned

@@ -1,0 +1,8 @@
+//! A set of TSNs as the ranges that they make up, which is searched by halving: how many ranges a call looks at is
+//! counted and bounded.
+#![tactic(auto)]
+
+mod row;
+mod run;
+
+pub use run::Run;

@@ -1,0 +1,156 @@
+// Ranges in a row, each of which is read by one counted look.
+ghost use Rattle.std.specs.Prelude.{◌≡◌, ℕ, ◌+◌, ◌-◌, ◌^◌, ◌<◌, ◌≤◌, ◌++◌, ◌==◌, [], length, take, drop, insert};
+ghost use Rattle.std.specs.Prelude.{slice_get, slice_set, Some, OnOk, OnErr};
+ghost use Rattle.sctp_looks.specs.Looks.{ticked_by};
+ghost use Rattle.sctp_ranges.specs.Runs.{AreApart, ended_before};
+
+use crate::run::{Place, Run};
+use sctp_looks::Looks;
+use std::alloc::{AllocError, Global};
+use std::marker::Model;
+
+// Memory for more ranges than these is given back once there is none.
+const KEPT_ROOM: usize = 64;
+
+/// A list of ranges. The only call that reads one is `at`, which counts a look: nothing else leads to them.
+#[derive(Drop)]
+pub(crate) struct Row {
+    runs: Vec<Run>,
+}
+
+impl Model for Row {
+    ghost use Rattle.std.specs.Prelude.{vec_capacity};
+    ghost use Rattle.sctp_ranges.specs.Stored.{Stored};
+
+    ghost Value = { Stored };
+
+    ghost view = { λ r. record { list = r.runs.items; room = vec_capacity r.runs } };
+}
+
+impl Row {
+    /// No range; takes no memory.
+    pub(crate) fn new(alloc: Global) -> Self
+        ensures { result ≡ record { list = []; room = 0 } }
+    {
+        Row {
+            runs: Vec::new(alloc),
+        }
+    }
+
+    /// How many ranges there are.
+    pub(crate) fn len(&self) -> usize
+        ensures { result ≡ length self.now.list }
+    {
+        self.runs.len()
+    }
+
+    /// Whether there is no range.
+    pub(crate) fn is_empty(&self) -> bool
+        ensures { result ≡ (length self.now.list == 0) }
+    {
+        self.runs.len() == 0
+    }
+
+    /// The range at an index, at which this looks once.
+    pub(crate) fn at(&self, index: usize, looks: &mut Looks) -> Run
+        requires { index < length self.now.list }
+        ensures run { slice_get self.now.list index ≡ Some result }
+        ensures looks { looks.new ≡ ticked_by looks.old 1 }
+    {
+        looks.tick();
+        self.runs[index]
+    }
+
+    /// Another range at an index.
+    pub(crate) fn set(&mut self, index: usize, run: Run)
+        requires { index < length self.old.list }
+        ensures { self.new ≡ record self.old { list = slice_set self.old.list index run } }
+    {
+        let runs = &mut self.runs;
+        runs[index] = run;
+    }
+
+    /// One range more, before the one at an index; there is room for it.
+    pub(crate) fn insert(&mut self, index: usize, run: Run)
+        requires index { index ≤ length self.old.list }
+        requires room { length self.old.list < self.old.room }
+        ensures { self.new ≡ record self.old { list = insert self.old.list index run } }
+    {
+        self.runs.insert(index, run).unwrap();
+    }
+
+    /// Without the ranges from one index up to another, which is left out.
+    #[tactic(auto, using(crate::proofs::Rows::closed_up))]
+    pub(crate) fn remove_between(&mut self, start: usize, end: usize)
+        requires start { start ≤ end }
+        requires end { end ≤ length self.old.list }
+        ensures { self.new ≡ record self.old { list = take start self.old.list ++ drop end self.old.list } }
+    {
+        let len = self.runs.len();
+        self.runs.copy_within(end..len, start);
+        self.runs.truncate(len - (end - start));
+    }
+
+    /// No range any more.
+    pub(crate) fn clear(&mut self)
+        ensures { self.new ≡ record self.old { list = [] } }
+    {
+        self.runs.truncate(0);
+    }
+
+    /// Room for more ranges. Where memory is refused all stays as it was.
+    pub(crate) fn reserve(&mut self, more: usize) -> Result<(), AllocError>
+        ensures list { self.new.list ≡ self.old.list }
+        ensures room { OnOk result (length self.new.list + more ≤ self.new.room) }
+        ensures err { OnErr result (self.new ≡ self.old) }
+    {
+        self.runs.reserve(more)
+    }
+
+    /// Gives memory back where there is no range and it has become much.
+    pub(crate) fn release(&mut self)
+        ensures list { self.new.list ≡ self.old.list }
+        ensures room { 0 < length self.old.list → self.new.room ≡ self.old.room }
+    {
+        if self.runs.len() == 0 && KEPT_ROOM < self.runs.capacity() {
+            self.runs.shrink_to(0);
+        }
+    }
+
+    /// The place of an offset between two indexes, by halving; `above` is the range at the upper one, none at the end.
+    pub(crate) fn halve(
+        &self,
+        offset: u32,
+        low: usize,
+        high: usize,
+        above: Option<Run>,
+        looks: &mut Looks,
+    ) -> Place
+        requires apart { AreApart 0 self.now.list }
+        requires within { high ≤ length self.now.list }
+        requires above { above ≡ slice_get self.now.list high }
+        requires from { low ≤ ended_before offset self.now.list }
+        requires to { ended_before offset self.now.list ≤ high }
+        ensures index { result.index ≡ ended_before offset self.now.list }
+        ensures run { result.run ≡ slice_get self.now.list (ended_before offset self.now.list) }
+        ensures looks { (k : ℕ) → high - low < 2 ^ k → looks.new ≤ looks.old + k }
+    {
+        let mut low = low;
+        let mut high = high;
+        let mut above = above;
+        while low < high {
+            let middle = low + (high - low) / 2;
+            let run = self.at(middle, looks);
+            if run.last < offset {
+                low = middle + 1;
+            } else {
+                high = middle;
+                above = Some(run);
+            }
+        }
+        Place {
+            index: high,
+            run: above,
+        }
+    }
+}
