@@ -72,7 +72,7 @@ or_split false true false d = refl
 or_split false false c d = refl
 
 -- an offset stands for a TSN exactly where it is the distance of the TSN from the base
-stands_for : (b t o : ℕ) → b < 2 ^ 32 → t < 2 ^ 32 → o < 2 ^ 32 → eqb t (tsn b o) ≡ eqb (tsn_past b t) o
+pub stands_for : (b t o : ℕ) → b < 2 ^ 32 → t < 2 ^ 32 → o < 2 ^ 32 → eqb t (tsn b o) ≡ eqb (tsn_past b t) o
 stands_for b t o bb tb ob =
     ⊎_elim
     (λ (e : eqb t (tsn b o) ≡ true).

@@ -1,3 +1,4 @@
+pub mod Blocks
 pub mod Runs
 pub mod Stored
 pub mod Tsns

@@ -1,6 +1,6 @@
 -- A set of TSNs as ranges, and what a receiver asks of the set (RFC 4960 sections 3.3.4 and 6.2).
-use Rattle.std.specs.Prelude.{◌≡◌, ℕ, zero, suc, ◌<◌, ◌≤◌, ◌+◌, ◌^◌, ◌==◌, ◌&&◌, not, nat_lt, nat_le, map, filter}
-use Rattle.std.specs.Prelude.{if◌then◌else◌, Bool, true, false, List, [], ◌∷◌, ◌++◌, ◌⊎◌, length, Option, Some, None, fold}
+use Rattle.std.specs.Prelude.{◌≡◌, ℕ, zero, suc, ◌<◌, ◌≤◌, ◌+◌, ◌-◌, ◌%◌, ◌^◌, ◌==◌, ◌&&◌, not, nat_lt, nat_le, map, filter}
+use Rattle.std.specs.Prelude.{if◌then◌else◌, Bool, true, false, List, [], ◌∷◌, ◌++◌, Option, Some, None, fold}
 use Rattle.std.specs.List.{list_any, AllByRecursion}
 use Rattle.std.specs.Ordering.{nat_cmp}
 use Rattle.std.specs.BTreeMap.{is_at}
@@ -8,7 +8,7 @@ use Rattle.std.specs.BTreeSet.{insert_key}
 use Rattle.std.specs.Set.{remove_key}
 use Rattle.sctp_serial.specs.Serial.{tsn, tsn_past, tsn_after}
 use Rattle.sctp_ranges.specs.declared.run.Run.{Run}
-use Rattle.sctp_ranges.specs.Runs.{run, spelled}
+use Rattle.sctp_ranges.specs.Runs.{run, spelled, AreApart, is_in, IsRemoved}
 
 -- ranges of offsets from a base TSN, the index of the range that a search looks at first, and for how many ranges
 -- there is memory
@@ -28,14 +28,6 @@ turned base offsets =
 abbrev pub tsns_of : TsnRanges → List ℕ
 tsns_of r = turned r.base (spelled r.ranges)
 
--- no range has more than half of the TSNs
-abbrev pub AreShort : List Run → Type 0
-AreShort rs = AllByRecursion (λ r. r.last < r.first + 2 ^ 31) rs
-
--- there is room for one range more, or TSNs up to one never come out of the middle of a range
-abbrev pub HaveRoom : List Run → ℕ → Type 0
-HaveRoom rs room = (length rs < room) ⊎ AreShort rs
-
 abbrev pub is_held : ℕ → List ℕ → Bool
 is_held t ts = list_any (is_at (nat_cmp t)) ts
 
@@ -51,6 +43,21 @@ is_new ts t cumulative_tsn = has_offset (tsn_past cumulative_tsn t) && not (is_h
 abbrev pub with_tsn : List ℕ → ℕ → ℕ → List ℕ × Bool
 with_tsn ts t cumulative_tsn =
     if is_new ts t cumulative_tsn then (insert_key nat_cmp ts t, true) else (ts, false)
+
+-- the TSN before one
+abbrev pub tsn_before : ℕ → ℕ
+tsn_before t = (t + 2 ^ 32 - 1) % 2 ^ 32
+
+-- a TSN of the set and those that follow it, up to another one, are taken out; the next offset was not held
+pub record IsTaken (old new : TsnRanges) (first last : ℕ) : Type 0 where
+  pub fits : old.base < 2 ^ 32
+  pub apart : AreApart 0 old.ranges
+  pub base : new.base ≡ old.base
+  pub last_fits : last < 2 ^ 32
+  pub order : tsn_past old.base first ≤ tsn_past old.base last
+  pub removed : IsRemoved (tsn_past old.base first) (tsn_past old.base last) old.ranges new.ranges
+  pub held : (n : ℕ) → tsn_past old.base first ≤ n → n ≤ tsn_past old.base last → is_in n old.ranges ≡ true
+  pub stops : is_in (tsn_past old.base last + 1) old.ranges ≡ false
 
 -- the cumulative TSN moves over the TSNs that follow it, at most n of them, and they are held no more
 abbrev pub advanced : ℕ → ℕ → List ℕ → ℕ × List ℕ
@@ -75,6 +82,12 @@ abbrev pub IsFarthest : ℕ → List ℕ → Option ℕ → Type 0
 IsFarthest cumulative_tsn ts None = ts ≡ []
 IsFarthest cumulative_tsn ts (Some t) =
     AllByRecursion (λ u. tsn_past cumulative_tsn u ≤ tsn_past cumulative_tsn t) ts
+
+-- of the offsets of ranges none is farther past a point; there is none only where there is no range
+abbrev pub IsFarthestOffset : ℕ → List Run → Option ℕ → Type 0
+IsFarthestOffset point rs None = rs ≡ []
+IsFarthestOffset point rs (Some o) =
+    (is_in o rs ≡ true) × ((n : ℕ) → is_in n rs ≡ true → tsn_past point n ≤ tsn_past point o)
 
 -- a TSN is greater than the cumulative TSN as a number, or it is not
 abbrev pub is_greater : Bool → ℕ → ℕ → Bool

@@ -2,7 +2,12 @@
 //! counted and bounded.
 #![tactic(auto)]
 
+mod added;
+mod gap_blocks;
+mod ranges;
+mod removed;
 mod row;
 mod run;
 
+pub use ranges::Ranges;
 pub use run::Run;

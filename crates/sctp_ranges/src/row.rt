@@ -1,6 +1,7 @@
 // Ranges in a row, each of which is read by one counted look.
 ghost use Rattle.std.specs.Prelude.{◌≡◌, ℕ, ◌+◌, ◌-◌, ◌^◌, ◌<◌, ◌≤◌, ◌++◌, ◌==◌, [], length, take, drop, insert};
-ghost use Rattle.std.specs.Prelude.{slice_get, slice_set, Some, OnOk, OnErr};
+ghost use Rattle.std.specs.Prelude.{slice_get, slice_set, Some, None, IfSome, OnOk, OnErr};
+ghost use Rattle.std.specs.Option.{option_to_list};
 ghost use Rattle.sctp_looks.specs.Looks.{ticked_by};
 ghost use Rattle.sctp_ranges.specs.Runs.{AreApart, ended_before};
 
@@ -77,6 +78,34 @@ impl Row {
         ensures { self.new ≡ record self.old { list = insert self.old.list index run } }
     {
         self.runs.insert(index, run).unwrap();
+    }
+
+    /// A range in the place of the one in front of an index, or one more where that is the index to start from; answers
+    /// its index. With no range nothing changes.
+    pub(crate) fn put(&mut self, start: usize, end: usize, run: Option<Run>) -> usize
+        requires start { start ≤ end }
+        requires end { end ≤ length self.old.list }
+        requires room { IfSome run (λ r. start ≡ end → length self.old.list < self.old.room) }
+        ensures front { take start self.new.list ≡ take start self.old.list }
+        ensures back { drop result self.new.list ≡ option_to_list run ++ drop end self.old.list }
+        ensures start { start ≤ result }
+        ensures end { result ≤ length self.new.list }
+        ensures index { (start ≡ end → run ≡ None) → result + length (option_to_list run) ≡ end }
+        ensures len { (start ≡ end → run ≡ None) → length self.new.list ≡ length self.old.list }
+        ensures room { self.new.room ≡ self.old.room }
+    {
+        match run {
+            None => end,
+            Some(run) => {
+                if start == end {
+                    self.insert(end, run);
+                    end
+                } else {
+                    self.set(end - 1, run);
+                    end - 1
+                }
+            }
+        }
     }
 
     /// Without the ranges from one index up to another, which is left out.

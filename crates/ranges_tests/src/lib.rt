@@ -1,0 +1,10 @@
+//! Tests of the set of TSNs as ranges: values from outside of the proofs, and that each call succeeds where memory is
+//! ample.
+#![tactic(auto)]
+
+#[cfg(test)]
+mod leaving;
+#[cfg(test)]
+mod pushing;
+#[cfg(test)]
+mod scattered;
