@@ -1,0 +1,2 @@
+mod OpenMessages
+mod Spelled
