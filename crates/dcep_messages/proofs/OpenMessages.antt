@@ -1,6 +1,6 @@
 -- An OPEN that is written has the form of one, and is read as what it was written of.
 use Rattle.std.proofs.Common.{◌≡◌, refl, sym, ap, ◌∙◌, ℕ, ◌+◌, ◌%◌, ◌<◌, ◌≤◌, ◌^◌, List, ◌++◌, length, take, drop}
-use Rattle.std.proofs.Common.{arith, subst, Bool, true, false, None, Ok, Err, slice_index}
+use Rattle.std.proofs.Common.{arith, subst, Bool, true, false, None, Ok, Err}
 use Rattle.std.proofs.lemmas.Bool.Decides.{nat_tests}
 use Rattle.std.proofs.lemmas.List.{length-append}
 use Rattle.std.proofs.lemmas.Nat.{from_be_bytes-to_be_bytes_2, from_be_bytes-to_be_bytes_4}

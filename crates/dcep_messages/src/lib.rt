@@ -7,5 +7,5 @@ mod open_message;
 mod persistence;
 
 pub use error::OpenError;
-pub use open_message::{ACK_MESSAGE, MAX_OPEN_LENGTH, OpenMessage, is_ack};
+pub use open_message::{ACK_MESSAGE, MAX_OPEN_LENGTH, OpenMessage, is_ack, is_too_long};
 pub use persistence::Persistence;

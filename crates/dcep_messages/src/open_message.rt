@@ -135,6 +135,22 @@ impl OpenMessage {
         label
     }
 
+    /// The length of the label, in bytes.
+    #[tactic(auto, using(crate::proofs::Lengths::of_label))]
+    pub fn label_length(&self) -> u16
+        ensures { result ≡ length (label_in self.now) }
+    {
+        u16_at(self.bytes.as_slice(), 8)
+    }
+
+    /// The length of the protocol, in bytes.
+    #[tactic(auto, using(crate::proofs::Lengths::of_protocol))]
+    pub fn protocol_length(&self) -> u16
+        ensures { result ≡ length (protocol_in self.now) }
+    {
+        u16_at(self.bytes.as_slice(), 10)
+    }
+
     /// The channel's protocol, of those that are registered for WebSocket, or empty.
     pub fn protocol(&self) -> &[u8]
         ensures { result.now ≡ protocol_in self.now }
@@ -156,8 +172,8 @@ pub fn is_ack(bytes: &[u8]) -> bool
     bytes.len() == 1 && bytes[0] == ACK
 }
 
-// Whether label or protocol has no length of two bytes.
-fn is_too_long(label: &[u8], protocol: &[u8]) -> bool
+/// Whether label or protocol is longer than 65,535 bytes.
+pub fn is_too_long(label: &[u8], protocol: &[u8]) -> bool
     ensures exact { result ≡ is_too_long label.now protocol.now }
     ensures lengths { result ≡ false → (length label.now ≤ 65535) × (length protocol.now ≤ 65535) }
 {

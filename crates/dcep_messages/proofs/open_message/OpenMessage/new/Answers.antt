@@ -1,4 +1,4 @@
-use Rattle.std.proofs.Common.{arith, sym, ◌∙◌, subst, false, List, ℕ}
+use Rattle.std.proofs.Common.{arith, sym, ◌∙◌, subst, List, ℕ}
 use Rattle.dcep_messages.specs.Codec.{IsOpenMessage, IsOpenOf, is_too_long, open_bytes}
 use Rattle.dcep_messages.proofs.OpenMessages.{is_open_message, is_open_of, lacks_memory, spells_all, spells_nothing}
 use Rattle.dcep_messages.proofs.open_message.OpenMessage.new.Goals as goal

@@ -1,0 +1,2 @@
+mod Free
+mod Keeping

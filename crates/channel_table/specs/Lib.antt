@@ -1,0 +1,4 @@
+pub mod Channels
+pub mod Kinds
+pub mod Payloads
+pub mod Tables
