@@ -1,6 +1,6 @@
 -- From each world of a channel that a pair with it fits, its steps lead on, and what was received stays a front of what
 -- was sent.
-use Rattle.std.proofs.Common.{◌≡◌, refl, sym, ap, subst, ℕ, Bool, true, false, eqb, ◌&&◌, if◌then◌else◌, List, []}
+use Rattle.std.proofs.Common.{◌≡◌, refl, sym, ap, subst, ◌⊎◌, ℕ, Bool, true, false, eqb, ◌&&◌, if◌then◌else◌, List, []}
 use Rattle.std.proofs.Common.{◌∷◌, Option, Some, None}
 use Rattle.sctp_wire_types.specs.declared.ids.PayloadProtocolIdentifier.{PayloadProtocolIdentifier}
 use Rattle.sctp_receive_queues.specs.Messages.{ReceivedMessage}
@@ -27,11 +27,13 @@ use Rattle.channel_pair.specs.declared.step.ChannelReply.TheVariants as replies
 use Rattle.channel_pair.specs.ChannelWorld.{ChannelWorld, FitsChannel, FitsOn}
 use Rattle.channel_pair.specs.Names.{names}
 use Rattle.channel_pair.specs.PairDeeds.{DoesSome}
-use Rattle.channel_pair.specs.Promise.{AreDoneFor, AreFronts, AreOfPort, LeadsChannel, RunsChannel, got_by, grown}
-use Rattle.channel_pair.specs.Promise.{sent_by}
+use Rattle.channel_pair.specs.Promise.{AreDoneFor, AreFronts, AreOfCall, LeadsChannel, RunsChannel, got_by, grown}
+use Rattle.channel_pair.specs.Promise.{may_write, sent_by}
 use Rattle.channel_pair.specs.Seats.{AcceptsAt, AcknowledgesAt, OpensAt, ReceivesAt, SendsAt}
 use Rattle.channel_pair.specs.Shapes.{Shape, seat_of}
 use Rattle.channel_pair.specs.Steps.{AtSeat, RunsAll, StepsChannel, StepsPair, failed_at}
+use Rattle.channel_pair.proofs.CallsWrite.{WritesAtMost, accept_writes, acknowledge_writes, open_writes, receive_writes}
+use Rattle.channel_pair.proofs.CallsWrite.{send_writes}
 use Rattle.channel_pair.proofs.DeedsLead.{Grew, deeds_done, ins_of, lead_map, outs_of}
 use Rattle.channel_pair.proofs.Fronts.{fronts_of}
 use Rattle.channel_pair.proofs.SeatCalls.{accept_grows, acknowledge_grows, open_grows, receive_grows, send_grows}
@@ -59,14 +61,19 @@ module _ (x : Side2) (s : ChannelStep) (r : ChannelReply) (p q : Shape)
   call_leads : AtSeat x p Changes q → sent_by s r (other_side x) ≡ [] → got_by s r (other_side x) ≡ []
       → ((ds : List Deed) (a b : Seat) → Changes ds a b
       → SeatGrows a (outs_of ds) (ins_of ds) (sent_by s r x) (got_by s r x) b)
-      → ((done : List (Step × Reply)) → AreOfPort x p.id done → AreDoneFor p.id s r done)
+      → ((ds : List Deed) (a b : Seat) → Changes ds a b → WritesAtMost ds (may_write s r))
+      → ((done : List (Step × Reply)) → AreOfCall x p.id s r done → AreDoneFor p.id s r done)
       → (c : ChannelWorld) → FitsChannel p c → LeadsChannel p.id s r c q
-  call_leads at no_sent no_got grows are_done c f =
+  call_leads at no_sent no_got grows writes are_done c f =
       let call = called x p Changes q at in
       let ds = call.some.0 in
       let led = deeds_done x p.id ds p.pair q.pair call.some.1 in (
         led.done,
-        are_done led.done led.of_port,
+        are_done led.done (
+          led.of_port,
+          subst (λ (z : List (List ℕ)). (z ≡ []) ⊎ (z ≡ may_write s r)) (sym led.wrote)
+              (writes ds (seat_of x p) (seat_of x q) call.some.2),
+        ),
         lead_map led.done c.world (λ v. Fits q.pair v × Grew x p.id ds c.world v)
             (λ v. AreFronts (grown s r c v) × FitsChannel q (grown s r c v))
             (λ v h.
@@ -190,20 +197,25 @@ pub step_leads : (s : ChannelStep) (p : Shape) (r : ChannelReply) (q : Shape) �
 step_leads (steps.Open x priority label protocol) p r q h c f =
     call_leads x (steps.Open x priority label protocol) r p q
     (λ ds a b. OpensAt (failed_at x p) priority label protocol a ds r b) h refl refl
-    (λ ds a b change. open_grows (failed_at x p) priority label protocol x a ds r b change) (λ done of_port. of_port)
+    (λ ds a b change. open_grows (failed_at x p) priority label protocol x a ds r b change)
+    (λ ds a b change. open_writes (failed_at x p) priority label protocol x a ds r b change) (λ done of_call. of_call)
     c f
 step_leads (steps.Accept x) p r q h c f =
     call_leads x (steps.Accept x) r p q (λ ds a b. AcceptsAt a ds r b) h refl refl
-    (λ ds a b change. accept_grows x a ds r b change) (λ done of_port. of_port) c f
+    (λ ds a b change. accept_grows x a ds r b change) (λ ds a b change. accept_writes x a ds r b change)
+    (λ done of_call. of_call) c f
 step_leads (steps.Acknowledge x) p r q h c f =
     call_leads x (steps.Acknowledge x) r p q (λ ds a b. AcknowledgesAt a ds r b) h refl refl
-    (λ ds a b change. acknowledge_grows x a ds r b change) (λ done of_port. of_port) c f
+    (λ ds a b change. acknowledge_grows x a ds r b change) (λ ds a b change. acknowledge_writes x a ds r b change)
+    (λ done of_call. of_call) c f
 step_leads (steps.Send x bytes) p r q h c f =
     call_leads x (steps.Send x bytes) r p q (λ ds a b. SendsAt bytes a ds r b) h (sent_elsewhere x bytes r) refl
-    (λ ds a b change. send_grows bytes x a ds r b change) (λ done of_port. of_port) c f
+    (λ ds a b change. send_grows bytes x a ds r b change) (λ ds a b change. send_writes bytes x a ds r b change)
+    (λ done of_call. of_call) c f
 step_leads (steps.Receive x) p r q h c f =
     call_leads x (steps.Receive x) r p q (λ ds a b. ReceivesAt a ds r b) h refl (got_elsewhere x r)
-    (λ ds a b change. receive_grows x a ds r b change) (λ done of_port. of_port) c f
+    (λ ds a b change. receive_grows x a ds r b change) (λ ds a b change. receive_writes x a ds r b change)
+    (λ done of_call. of_call) c f
 step_leads (steps.OfPair a) p r q h c f = pair_leads a p r q h c f
 
 -- Rows of steps

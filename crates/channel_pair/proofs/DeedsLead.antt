@@ -3,7 +3,7 @@
 use Rattle.std.proofs.Common.{◌≡◌, refl, sym, ap, ◌∙◌, subst, ⊎_elim, ℕ, Bool, true, false, eqb, ◌&&◌}
 use Rattle.std.proofs.Common.{if◌then◌else◌, List, [], ◌∷◌, ◌++◌, map, Option, Some, None}
 use Rattle.std.specs.Prelude.{Ok, Err}
-use Rattle.std.proofs.lemmas.List.{append-nil, append_assoc}
+use Rattle.std.proofs.lemmas.List.{append-nil, append_assoc, map-append}
 use Rattle.sctp_wire_types.specs.Ids.{number_of}
 use Rattle.sctp_model.specs.Safe.{Letter, letter_written}
 use Rattle.sctp_reassembly.specs.Stands.{letter_received}
@@ -16,7 +16,7 @@ use Rattle.sctp_steps.specs.declared.step.Step.TheVariants as steps
 use Rattle.sctp_steps.specs.Ends.{Ends}
 use Rattle.sctp_steps.specs.Seen.{is_side, message_read, other_side}
 use Rattle.sctp_steps.specs.Steps.{Steps}
-use Rattle.sctp_pair.specs.Callers.{WrittenMessage, messages_of}
+use Rattle.sctp_pair.specs.Callers.{WrittenMessage, bytes_written, messages_of}
 use Rattle.sctp_pair.specs.Fits.{Fits, StandsIn}
 use Rattle.sctp_pair.specs.World.{IsWorldStep, World, accepted_at, ends_span, loosens}
 use Rattle.sctp_pair.proofs.WrittenIndexes.{AreTold, told_accepted}
@@ -25,7 +25,7 @@ use Rattle.dcep_channel.specs.Deeds.{Deed, DoesAll}
 use Rattle.channel_pair.specs.ChannelWorld.{IsKeptFrom}
 use Rattle.channel_pair.specs.Letters.{letter, letters_in, letters_out}
 use Rattle.channel_pair.specs.PairDeeds.{DoesAtPair, LacksCopy, StepsOn, step_of}
-use Rattle.channel_pair.specs.Promise.{AreOfPort, LeadThen}
+use Rattle.channel_pair.specs.Promise.{AreOfPort, LeadThen, wrote_by}
 use Rattle.channel_pair.proofs.StreamSteps.{in_grows, in_stays, is_here, kept_on, not_there, out_grows, out_stays}
 use Rattle.channel_pair.proofs.StreamSteps.{told_letter}
 
@@ -46,6 +46,10 @@ outs_of (d ∷ ds) = out_of d ++ outs_of ds
 abbrev pub ins_of : List Deed → List Letter
 ins_of [] = []
 ins_of (d ∷ ds) = in_of d ++ ins_of ds
+
+-- messages as their bytes
+abbrev pub bytes_in : List Letter → List (List ℕ)
+bytes_in ls = map (λ (l : Letter). l.bytes) ls
 
 no_and : (a b : Bool) → (a && (b && false)) ≡ false
 no_and true true = refl
@@ -102,6 +106,16 @@ module _ (x : Side2) (id : ℕ) where
   read_here (Deed.Read (Ok message)) =
       ap (λ (c : Bool). map letter_received (messages_of (if c then message else None))) (is_here x id)
   read_here (Deed.Read (Err n)) = refl
+
+  wrote_here : (d : Deed) → bytes_written (step_of x id d) (reply_of d) x id ≡ bytes_in (out_of d)
+  wrote_here (Deed.Opened None) = refl
+  wrote_here (Deed.Opened (Some n)) = refl
+  wrote_here (Deed.Kept None) = refl
+  wrote_here (Deed.Kept (Some n)) = refl
+  wrote_here (Deed.Wrote kind bytes (Ok n)) = ap (λ (c : Bool). if c then bytes ∷ [] else []) (is_here x id)
+  wrote_here (Deed.Wrote kind bytes (Err n)) = refl
+  wrote_here (Deed.Read (Ok message)) = refl
+  wrote_here (Deed.Read (Err n)) = refl
 
 -- at the other side it writes and reads nothing
 
@@ -199,6 +213,7 @@ lead_map (x ∷ xs) w P Q f (v, step, stands, next) =
 pub record Done (x : Side2) (id : ℕ) (ds : List Deed) (p q : Ends) : Type 0 where
   pub done : List (Step × Reply)
   pub of_port : AreOfPort x id done
+  pub wrote : wrote_by x id done ≡ bytes_in (outs_of ds)
   pub lead : (w : World) → Fits p w → ((y : Side2) → IsKeptFrom y id w)
       → LeadThen done w (λ v. Fits q v × Grew x id ds w v)
 
@@ -208,6 +223,10 @@ module _ (x : Side2) (id : ℕ) where
   done_step d ds p u q on more = record {
     done = (step_of x id d, reply_of d) ∷ more.done;
     of_port = ((d, refl, refl), more.of_port);
+    wrote =
+        ap (λ (z : List (List ℕ)). z ++ wrote_by x id more.done) (wrote_here x id d)
+        ∙ ap (λ (z : List (List ℕ)). bytes_in (out_of d) ++ z) more.wrote
+        ∙ sym (map-append (λ (l : Letter). l.bytes) (out_of d) (outs_of ds));
     lead = λ w fits kept.
         let l = on.1 w fits in (
           l.0,
@@ -229,6 +248,7 @@ module _ (x : Side2) (id : ℕ) where
   done_copy d ds p u q lacks same more = record {
     done = more.done;
     of_port = more.of_port;
+    wrote = more.wrote ∙ ap (λ (z : List Letter). bytes_in (z ++ outs_of ds)) (sym (nothing_of d lacks).0);
     lead = λ w fits kept.
         lead_map more.done w (λ v. Fits q v × Grew x id ds w v) (λ v. Fits q v × Grew x id (d ∷ ds) w v)
         (λ v h. (h.0, grew_copy x id d ds w v lacks h.1))
@@ -240,6 +260,7 @@ pub deeds_done : (x : Side2) (id : ℕ) (ds : List Deed) (p q : Ends) → DoesAl
 deeds_done x id [] p q same = record {
   done = [];
   of_port = tt;
+  wrote = refl;
   lead = λ w fits kept. (subst (λ (z : Ends). Fits z w) (sym same) fits, grew_nothing x id w kept);
 }
 deeds_done x id (d ∷ ds) p q (u, does, rest) =

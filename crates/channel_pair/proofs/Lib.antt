@@ -1,3 +1,4 @@
+pub mod CallsWrite
 pub mod ChannelLeads
 pub mod DeedsLead
 pub mod Fronts

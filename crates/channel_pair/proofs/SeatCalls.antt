@@ -82,7 +82,7 @@ dcep_err message (Deed.Wrote kind bytes (Err n) ∷ ds) e (of_kind, of_bytes, no
     (ap outs_of none, ap ins_of none)
 dcep_err message (Deed.Read answer ∷ ds) e h = absurd h
 
-reliably_ok : (message : List ℕ) (ds : List Deed) (u : Unit {0}) → WritesReliably message ds (Ok u) → Move ds message
+pub reliably_ok : (message : List ℕ) (ds : List Deed) (u : Unit {0}) → WritesReliably message ds (Ok u) → Move ds message
 reliably_ok message [] u h = absurd h
 reliably_ok message (Deed.Opened fault ∷ ds) u h = absurd h
 reliably_ok message (Deed.Kept None ∷ ds) u h = dcep_ok message ds u h
@@ -90,7 +90,7 @@ reliably_ok message (Deed.Kept (Some n) ∷ ds) u (none, answered) = absurd (cc)
 reliably_ok message (Deed.Wrote kind bytes answer ∷ ds) u h = absurd h
 reliably_ok message (Deed.Read answer ∷ ds) u h = absurd h
 
-reliably_err : (message : List ℕ) (ds : List Deed) (e : ChannelError) → WritesReliably message ds (Err e) → Stay ds
+pub reliably_err : (message : List ℕ) (ds : List Deed) (e : ChannelError) → WritesReliably message ds (Err e) → Stay ds
 reliably_err message [] e h = absurd h
 reliably_err message (Deed.Opened fault ∷ ds) e h = absurd h
 reliably_err message (Deed.Kept None ∷ ds) e h = dcep_err message ds e h
@@ -114,12 +114,12 @@ opens_err message (Deed.Kept fault ∷ ds) e h = absurd h
 opens_err message (Deed.Wrote kind bytes answer ∷ ds) e h = absurd h
 opens_err message (Deed.Read answer ∷ ds) e h = absurd h
 
-begins_ok : (long : Bool) (message : List ℕ) (ds : List Deed) (c : ChannelState) → BeginsWhere long message ds (Ok c)
+pub begins_ok : (long : Bool) (message : List ℕ) (ds : List Deed) (c : ChannelState) → BeginsWhere long message ds (Ok c)
     → Move ds message
 begins_ok true message ds c (none, answered) = absurd (cc)
 begins_ok false message ds c (same, opens) = opens_ok message ds tt opens
 
-begins_err : (long : Bool) (message : List ℕ) (ds : List Deed) (e : ChannelError)
+pub begins_err : (long : Bool) (message : List ℕ) (ds : List Deed) (e : ChannelError)
     → BeginsWhere long message ds (Err e) → Stay ds
 begins_err true message ds e (none, answered) = stay_of_none ds none
 begins_err false message ds e h =
@@ -178,7 +178,7 @@ abbrev Accepts : List Deed → ChannelState → Type 0
 Accepts ds c =
     (message : List ℕ) × (outs_of ds ≡ []) × (ins_of ds ≡ letter 50 message ∷ []) × (may_send c ≡ false)
 
-accepts_some : (ds : List Deed) (c : ChannelState) → AcceptsBy ds (Ok (Some c)) → Accepts ds c
+pub accepts_some : (ds : List Deed) (c : ChannelState) → AcceptsBy ds (Ok (Some c)) → Accepts ds c
 accepts_some [] c h = absurd h
 accepts_some (Deed.Opened fault ∷ ds) c h = absurd h
 accepts_some (Deed.Kept fault ∷ ds) c h = absurd h
@@ -194,7 +194,7 @@ accepts_some (Deed.Read (Ok (Some m)) ∷ ds) c (none, accepted) =
       ap may_send accepted.1,
     )
 
-accepts_none : (ds : List Deed) → AcceptsBy ds (Ok None) → Stay ds
+pub accepts_none : (ds : List Deed) → AcceptsBy ds (Ok None) → Stay ds
 accepts_none [] h = absurd h
 accepts_none (Deed.Opened fault ∷ ds) h = absurd h
 accepts_none (Deed.Kept fault ∷ ds) h = absurd h
@@ -203,7 +203,7 @@ accepts_none (Deed.Read (Err n) ∷ ds) (none, answered) = absurd (cc)
 accepts_none (Deed.Read (Ok None) ∷ ds) (none, answered) = (ap outs_of none, ap ins_of none)
 accepts_none (Deed.Read (Ok (Some m)) ∷ ds) h = absurd h.1
 
-accepts_err : (ds : List Deed) (e : ChannelError) → AcceptsBy ds (Err e)
+pub accepts_err : (ds : List Deed) (e : ChannelError) → AcceptsBy ds (Err e)
     → (outs_of ds ≡ []) × (is_spoiling e ≡ false → ins_of ds ≡ [])
 accepts_err [] e h = absurd h
 accepts_err (Deed.Opened fault ∷ ds) e h = absurd h
@@ -287,7 +287,7 @@ may_if false false e = absurd (cc)
 abbrev Sent : List Deed → List ℕ → Type 0
 Sent ds bytes = (outs_of ds ≡ letter 53 bytes ∷ []) × (ins_of ds ≡ [])
 
-sends_ok : (refusal : Option ChannelError) (bytes : List ℕ) (ds : List Deed) (n : ℕ)
+pub sends_ok : (refusal : Option ChannelError) (bytes : List ℕ) (ds : List Deed) (n : ℕ)
     → SendsWhere refusal bytes ds (Ok n) → (refusal ≡ None) × Sent ds bytes
 sends_ok (Some e) bytes ds n (none, answered) = absurd (cc)
 sends_ok None bytes [] n h = absurd h
@@ -305,7 +305,7 @@ sends_ok None bytes (Deed.Wrote kind sent (Ok m) ∷ ds) n (of_kind, of_bytes, n
 sends_ok None bytes (Deed.Wrote kind sent (Err m) ∷ ds) n (of_kind, of_bytes, none, answered) = absurd (cc)
 sends_ok None bytes (Deed.Read answer ∷ ds) n h = absurd h
 
-sends_err : (refusal : Option ChannelError) (bytes : List ℕ) (ds : List Deed) (e : ChannelError)
+pub sends_err : (refusal : Option ChannelError) (bytes : List ℕ) (ds : List Deed) (e : ChannelError)
     → SendsWhere refusal bytes ds (Err e) → Stay ds
 sends_err (Some own) bytes ds e (none, answered) = stay_of_none ds none
 sends_err None bytes [] e h = absurd h
@@ -421,7 +421,7 @@ behind true c after first (Deed.Read second ∷ ds) r w (none, e) =
       l.2 ∙ opener_may c.is_opener c.acknowledged a.1,
     )
 
-receives : (failed : Bool) (c after : ChannelState) (ds : List Deed)
+pub receives : (failed : Bool) (c after : ChannelState) (ds : List Deed)
     (r : Result (Option ReceivedMessage) ChannelError) → ReceivesWhere failed c ds r after → Gives ds c r after
 receives true c after ds r (none, answered, same) = (
   ap outs_of none,

@@ -1,15 +1,16 @@
 -- The promise of a channel: what one side received is a front of what the other one sent.
-use Rattle.std.specs.Prelude.{◌≡◌, ℕ, if◌then◌else◌, List, [], ◌∷◌, ◌++◌, Some}
+use Rattle.std.specs.Prelude.{◌≡◌, ◌⊎◌, ℕ, if◌then◌else◌, List, [], ◌∷◌, ◌++◌, Some}
 use Rattle.std.specs.List.{AllByRecursion}
 use Rattle.sctp_receive_queues.specs.Messages.{bytes_left}
 use Rattle.sctp_assoc.specs.declared.call.Reply.{Reply}
 use Rattle.sctp_steps.specs.declared.step.Side2.{Side2}
 use Rattle.sctp_steps.specs.declared.step.Step.{Step}
 use Rattle.sctp_steps.specs.Seen.{is_side, other_side}
-use Rattle.sctp_pair.specs.Callers.{IsFrontOf}
+use Rattle.sctp_pair.specs.Callers.{IsFrontOf, bytes_written}
 use Rattle.sctp_pair.specs.Fits.{StandsIn}
 use Rattle.sctp_pair.specs.World.{IsSafeWorld, IsWithinLimits, IsWorldStep, World}
 use Rattle.dcep_channel.specs.AssocDeeds.{reply_of}
+use Rattle.dcep_channel.specs.Codec.{ack_bytes, open_bytes}
 use Rattle.dcep_channel.specs.Deeds.{Deed}
 use Rattle.channel_pair.specs.declared.step.ChannelStep.{ChannelStep}
 use Rattle.channel_pair.specs.declared.step.ChannelStep.TheVariants as steps
@@ -56,14 +57,33 @@ IsOfPort x id done = (deed : Deed) × (done.0 ≡ step_of x id deed) × (done.1 
 abbrev pub AreOfPort : Side2 → ℕ → List (Step × Reply) → Type 0
 AreOfPort x id done = AllByRecursion (IsOfPort x id) done
 
--- The steps of the pair that a step with this reply does: a call of a channel does such of a port at its side; a step
--- of the pair is done, or nothing.
+-- what steps of a pair, with their replies, wrote at side x on a stream, message by message
+abbrev pub wrote_by : Side2 → ℕ → List (Step × Reply) → List (List ℕ)
+wrote_by x id [] = []
+wrote_by x id (d ∷ done) = bytes_written d.0 d.1 x id ++ wrote_by x id done
+
+-- the message that a call of a channel with this reply may have written: its OPEN, its ACK or the data that it sent
+abbrev pub may_write : ChannelStep → ChannelReply → List (List ℕ)
+may_write (steps.Open x priority label protocol) replies.Opened = open_bytes priority label protocol ∷ []
+may_write (steps.Acknowledge x) replies.Acknowledged = ack_bytes ∷ []
+may_write (steps.Send x bytes) (replies.Sent n) = bytes ∷ []
+may_write step reply = []
+
+-- The steps of the pair that a call of a channel with this reply does: such of a port at its side, which wrote that
+-- message or none. (`acknowledge` writes none where the channel is acknowledged.)
+abbrev pub AreOfCall : Side2 → ℕ → ChannelStep → ChannelReply → List (Step × Reply) → Type 0
+AreOfCall x id step reply done =
+    AreOfPort x id done × ((wrote_by x id done ≡ []) ⊎ (wrote_by x id done ≡ may_write step reply))
+
+-- the steps of the pair that a step with this reply does: those of a call of a channel, or that step of the pair, or
+-- none
 abbrev pub AreDoneFor : ℕ → ChannelStep → ChannelReply → List (Step × Reply) → Type 0
-AreDoneFor id (steps.Open x priority label protocol) reply done = AreOfPort x id done
-AreDoneFor id (steps.Accept x) reply done = AreOfPort x id done
-AreDoneFor id (steps.Acknowledge x) reply done = AreOfPort x id done
-AreDoneFor id (steps.Send x bytes) reply done = AreOfPort x id done
-AreDoneFor id (steps.Receive x) reply done = AreOfPort x id done
+AreDoneFor id (steps.Open x priority label protocol) reply done =
+    AreOfCall x id (steps.Open x priority label protocol) reply done
+AreDoneFor id (steps.Accept x) reply done = AreOfCall x id (steps.Accept x) reply done
+AreDoneFor id (steps.Acknowledge x) reply done = AreOfCall x id (steps.Acknowledge x) reply done
+AreDoneFor id (steps.Send x bytes) reply done = AreOfCall x id (steps.Send x bytes) reply done
+AreDoneFor id (steps.Receive x) reply done = AreOfCall x id (steps.Receive x) reply done
 AreDoneFor id (steps.OfPair step) (replies.OfPair answer) done = done ≡ (step, answer) ∷ []
 AreDoneFor id (steps.OfPair step) reply done = done ≡ []
 

@@ -81,7 +81,8 @@ impl ChannelPair {
     /// From each world of the channel that this pair fits, the steps lead from world to world, as those of the pair do
     /// (`Pair::run`). As long as each so far is within the limits, what either side received is a prefix of what the
     /// other one sent, message by message (`headline`). A message is sent by each `Send` that is answered `Sent`, and
-    /// received by each `Receive` that is answered with one.
+    /// received by each `Receive` that is answered with one. Of the steps of the pair that a call of a channel does each
+    /// is of its side and this stream, and they write one message or none: its OPEN, its ACK or the data.
     #[tactic(auto, using(crate::proofs::ChannelLeads::runs_lead))]
     pub fn run(&mut self, steps: &[ChannelStep]) -> Result<Vec<ChannelReply>, Error>
         ensures ok { IfOk result (λ replies. RunsAll steps.now replies.items self.old self.new) }
