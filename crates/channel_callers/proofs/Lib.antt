@@ -1,0 +1,2 @@
+mod FewReceived
+mod PiecesDone
