@@ -1,9 +1,11 @@
 -- Where each side accepted few pieces, each world that the steps of a new pair with a channel lead to is within the
 -- limits, and so what was received after each of them is a front of what was sent.
 use Rattle.std.proofs.Common.{◌≡◌, refl, sym, ap, ◌∙◌, subst, ℕ, zero, suc, ◌+◌, ◌<◌, ◌≤◌, arith, List, [], ◌∷◌, ◌++◌}
-use Rattle.std.proofs.Common.{length, take}
-use Rattle.std.specs.Prelude.{false, IfOk, Result, Ok, Err}
+use Rattle.std.proofs.Common.{inl, length, take, Option, Some, None}
+use Rattle.std.specs.Prelude.{false, IfOk, OnErr, Result, Ok, Err}
 use Rattle.std.proofs.lemmas.List.{append-nil, append_assoc}
+use Rattle.sctp_wire_types.specs.declared.error.Error.{Error}
+use Rattle.sctp_wire_types.specs.declared.error.Error.TheVariants as errors
 use Rattle.sctp_model.specs.Machine.{Direction}
 use Rattle.sctp_fit.specs.FewPieces.{HasAccepted}
 use Rattle.sctp_fit.proofs.PlacesCounted.{few_pieces_stay_within}
@@ -12,7 +14,7 @@ use Rattle.sctp_assoc.specs.declared.call.Reply.{Reply}
 use Rattle.sctp_steps.specs.declared.step.Side2.{Side2}
 use Rattle.sctp_steps.specs.declared.step.Side2.TheVariants as sides
 use Rattle.sctp_steps.specs.declared.step.Step.{Step}
-use Rattle.sctp_steps.specs.Ends.{Ends}
+use Rattle.sctp_steps.specs.Ends.{Ends, JoinRefuses}
 use Rattle.sctp_steps.specs.Seen.{other_side}
 use Rattle.sctp_pair.specs.Callers.{IsFrontOf}
 use Rattle.sctp_pair.specs.Counted.{pieces_of}
@@ -170,3 +172,10 @@ pub if_both_ok : {A E : Type 0} {P Q R : A → Type 0} (r : Result A E) → IfOk
     → ((a : A) → P a → Q a → R a) → IfOk r R
 if_both_ok (Ok a) first second f = f a first second
 if_both_ok (Err e) first second f = first
+
+-- of a pair that was made, want of memory is the only refusal
+pub refused_after : {S : Type 0} (r : Result S Error) (first second : Option Error) → first ≡ None → second ≡ None
+    → OnErr r (r ≡ Err errors.ErrNoMemory) → JoinRefuses r first second
+refused_after (Ok a) first second e f h = (e, f)
+refused_after (Err x) None second e f h = inl cc
+refused_after (Err x) (Some y) second e f h = absurd cc

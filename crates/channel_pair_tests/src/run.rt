@@ -68,7 +68,8 @@ fn run_on(alloc: Global, pair: &mut ChannelPair, steps: &[ChannelStep]) -> Resul
     Ok(lines_of(alloc, replies)?)
 }
 
-fn lines_of(alloc: Global, replies: Vec<ChannelReply>) -> Result<String, AllocError> {
+/// The replies as lines.
+pub(crate) fn lines_of(alloc: Global, replies: Vec<ChannelReply>) -> Result<String, AllocError> {
     let mut text = String::new(alloc);
     for reply in replies {
         text.push_str(line_of(alloc, reply)?.as_str())?;
