@@ -1,0 +1,2 @@
+mod Dropped
+mod Placed

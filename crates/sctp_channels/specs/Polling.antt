@@ -1,0 +1,58 @@
+-- Events of a driver, and what they say of channels.
+use Rattle.std.specs.Prelude.{◌≡◌, ℕ, if◌then◌else◌, List, [], Option, Some, None}
+use Rattle.std.specs.BTreeMap.{is_at}
+use Rattle.std.specs.Map.{remove_entry}
+use Rattle.std.specs.Ordering.{nat_cmp}
+use Rattle.sctp_wire_types.specs.declared.event.StreamEvent.{StreamEvent}
+use Rattle.sctp_wire_types.specs.declared.event.StreamEvent.TheVariants as stream_events
+use Rattle.sctp_streams.specs.declared.event.Event.{Event}
+use Rattle.sctp_streams.specs.declared.event.Event.TheVariants as events
+use Rattle.sctp_assoc.specs.Calls.{event_polled}
+use Rattle.sctp_assoc.specs.Shown.{Shown}
+use Rattle.sctp_driver.specs.Driving.{Driving}
+use Rattle.channel_table.specs.declared.channel.Stage.TheVariants as stages
+use Rattle.channel_table.specs.Channels.{ChannelView}
+use Rattle.channel_table.specs.Tables.{Keeps, KeepsOrEnds, at_stage, is_taken}
+use Rattle.sctp_channels.specs.declared.event.ChannelEvent.{ChannelEvent}
+use Rattle.sctp_channels.specs.declared.event.ChannelEvent.TheVariants as told
+use Rattle.sctp_channels.specs.declared.polling.Turn.{Turn}
+use Rattle.sctp_channels.specs.declared.polling.Turn.TheVariants as turns
+use Rattle.sctp_channels.specs.Looking.{IsTold}
+
+-- this is told where there is such a channel, and then the channels are so
+abbrev pub told_if_there : List (ℕ × ChannelView) → ℕ → ChannelEvent → List (ℕ × ChannelView)
+    → List (ℕ × ChannelView) × Option ChannelEvent
+told_if_there t id event u = if is_taken t id then (u, Some event) else (t, None)
+
+-- What an event of a stream says of its channel. The peer ended its half: the channel ends. Both halves ended: it is
+-- gone. This side's reset failed: it is told as ended, and its identifier is not free.
+abbrev pub stream_event_met : List (ℕ × ChannelView) → StreamEvent → List (ℕ × ChannelView) × Option ChannelEvent
+stream_event_met t (stream_events.Finished id) = (at_stage t id stages.Closing, None)
+stream_event_met t (stream_events.ResetComplete id) =
+    told_if_there t id (told.Closed id) (remove_entry (is_at (nat_cmp id)) t)
+stream_event_met t (stream_events.ResetFailed id reason) =
+    told_if_there t id (told.Closed id) (at_stage t id stages.Closing)
+stream_event_met t (stream_events.BufferedAmountLow id) = told_if_there t id (told.BufferedLow id) t
+stream_event_met t _ = (t, None)
+
+-- what an event says of channels, but for those of which more is to be done: `Connected`, `Opened` and `Readable`
+abbrev pub event_met : List (ℕ × ChannelView) → Event → List (ℕ × ChannelView) × Option ChannelEvent
+event_met t (events.HandshakeFailed reason) = ([], Some (told.HandshakeFailed reason))
+event_met t (events.AssociationLost reason) = ([], Some (told.Lost reason))
+event_met t (events.Stream event) = stream_event_met t event
+event_met t _ = (t, None)
+
+-- what is told, if anything, is so, and each channel stays what it is, or is gone where that is told
+abbrev pub Meets : List (ℕ × ChannelView) → Option ChannelEvent → List (ℕ × ChannelView) → Type 0
+Meets t None u = Keeps t u
+Meets t (Some event) u = KeepsOrEnds t u × IsTold event u
+
+-- the same of a turn
+abbrev pub Turns : List (ℕ × ChannelView) → Turn → List (ℕ × ChannelView) → Type 0
+Turns t turns.Silent u = Keeps t u
+Turns t turns.Idle u = u ≡ t
+Turns t (turns.Tells event) u = KeepsOrEnds t u × IsTold event u
+
+-- no event waits at a driver
+abbrev pub IsIdle : Driving → Type 0
+IsIdle d = (a : Shown) × (event_polled a ≡ (d.association, None))

@@ -1,0 +1,289 @@
+// What is to be done for one channel, by how far it came.
+ghost use Rattle.std.specs.Prelude.{◌≡◌, ◌⊎◌, false, IfErr, IfOk, not, OnErr, OnOk, Some, None, Err, true};
+ghost use Rattle.channel_table.specs.declared.channel.Stage.TheVariants as stages;
+ghost use Rattle.dcep_messages.specs.Codec.{ordered_in};
+ghost use Rattle.channel_table.specs.Tables.{stage_at};
+ghost use Rattle.sctp_channels.specs.Looking.{Begins, Looks, acknowledged, begun, may_pass};
+ghost use Rattle.sctp_channels.specs.Looking.{with_dcep, with_sending, with_stream};
+
+use crate::event::ChannelEvent;
+use crate::reading::{First, is_dcep, may_pass, read, read_first};
+use channel_table::{ACK_MESSAGE, Channel, ShortMessage, Stage, Table, is_ack};
+use sctp_driver::{Driver, Error, PayloadProtocolIdentifier, ReadAnswer};
+use sctp_wire_types::StreamId;
+use std::alloc::Global;
+
+/// What a look at a channel gave.
+#[derive(Clone, Copy)]
+pub(crate) enum Looked {
+    /// Nothing more is to be done for it.
+    Done,
+    /// It is to be looked at again.
+    Again,
+    /// This is to be told, and then it is to be looked at again.
+    Tells(ChannelEvent),
+    /// This is to be told, and nothing more is to be done for it.
+    Ends(ChannelEvent),
+}
+
+/// Does what is to be done for the channel of a stream, of which something came.
+pub(crate) fn look(
+    alloc: Global,
+    table: &mut Table,
+    driver: &mut Driver,
+    id: StreamId,
+) -> Result<Looked, Error>
+    ensures looks { IfOk result (λ looked. Looks table.old looked table.new) }
+    ensures err { OnErr result (table.new ≡ table.old) }
+    ensures passes { IfErr result (λ error. may_pass error ≡ true) }
+{
+    match table.stage(id) {
+        None => meet(alloc, table, driver, id),
+        Some(Stage::Waiting) => begin(table, driver, id),
+        Some(Stage::Begun) => await_answer(table, driver, id),
+        Some(Stage::Announcing) => acknowledge(table, driver, id),
+        Some(Stage::Open) => Ok(Looked::Ends(ChannelEvent::Message(id))),
+        Some(Stage::Closing) => Ok(Looked::Done),
+    }
+}
+
+// A stream without a channel: it has to begin with an OPEN.
+fn meet(
+    alloc: Global,
+    table: &mut Table,
+    driver: &mut Driver,
+    id: StreamId,
+) -> Result<Looked, Error>
+    requires { stage_at table.old id ≡ None }
+    ensures looks { IfOk result (λ looked. Looks table.old looked table.new) }
+    ensures err { OnErr result (table.new ≡ table.old) }
+    ensures passes { IfErr result (λ error. may_pass error ≡ true) }
+{
+    match read_first(alloc, driver, id)? {
+        First::Nothing => Ok(Looked::Done),
+        First::Other => Ok(refuse(driver, id)),
+        First::Open(message) => match table.insert(id, Channel::announced(message)) {
+            Ok(()) => Ok(Looked::Again),
+            Err(_) => Ok(refuse(driver, id)),
+        },
+    }
+}
+
+// Resets a stream that has no channel.
+fn refuse(driver: &mut Driver, id: StreamId) -> Looked
+    ensures { result ≡ Looked.Ends (ChannelEvent.Failed id) }
+{
+    let _ = driver.close_stream(id);
+    Looked::Ends(ChannelEvent::Failed(id))
+}
+
+// A channel of this side: its OPEN is written, or its stream opened where it is negotiated.
+fn begin(table: &mut Table, driver: &mut Driver, id: StreamId) -> Result<Looked, Error>
+    requires { stage_at table.old id ≡ Some stages.Waiting }
+    ensures looks { IfOk result (λ looked. Looks table.old looked table.new) }
+    ensures err { OnErr result (table.new ≡ table.old) }
+    ensures passes { IfErr result (λ error. may_pass error ≡ true) }
+{
+    let Some(channel) = table.get(id) else {
+        return Ok(Looked::Done);
+    };
+    let negotiated = channel.is_negotiated();
+    match begin_stream(channel, driver, id) {
+        Ok(()) => Ok(mark_begun(table, id, negotiated)),
+        Err(error) => {
+            if may_pass(error) {
+                return Err(error);
+            }
+            table.remove(id);
+            Ok(Looked::Ends(ChannelEvent::Failed(id)))
+        }
+    }
+}
+
+fn mark_begun(table: &mut Table, id: StreamId, negotiated: bool) -> Looked
+    requires { stage_at table.old id ≡ Some stages.Waiting }
+    ensures { Looks table.old result table.new }
+{
+    if negotiated {
+        table.mark_open(id);
+        return Looked::Tells(ChannelEvent::Opened(id));
+    }
+    table.mark_begun(id);
+    Looked::Again
+}
+
+fn begin_stream(channel: &Channel, driver: &mut Driver, id: StreamId) -> Result<(), Error>
+    ensures { OnOk result (Begins driver.old id channel.now driver.new) }
+{
+    open_stream(driver, id)?;
+    begin_on(channel, driver, id)
+}
+
+// On a stream that is there.
+fn begin_on(channel: &Channel, driver: &mut Driver, id: StreamId) -> Result<(), Error>
+    ensures { OnOk result (driver.new ≡ begun channel.now.negotiated driver.old id channel.now) }
+{
+    if channel.is_negotiated() {
+        return set_sending(channel, driver, id);
+    }
+    write_dcep(driver, id, channel.open_message().as_slice())?;
+    set_in_order(channel, driver, id)
+}
+
+// Makes the stream, where the peer has not made it.
+fn open_stream(driver: &mut Driver, id: StreamId) -> Result<(), Error>
+    ensures { OnOk result ((driver.new ≡ driver.old) ⊎ (driver.new ≡ with_stream driver.old id)) }
+{
+    match driver.open_stream(id, PayloadProtocolIdentifier::Binary) {
+        Ok(()) => Ok(()),
+        Err(Error::ErrStreamAlreadyExist) => Ok(()),
+        Err(error) => Err(error),
+    }
+}
+
+// A refusal that says that the stream is gone or ends is none for its channel, whose end is told by itself.
+fn pass(answer: Result<(), Error>) -> Result<(), Error>
+    ensures { IfErr result (λ error. (may_pass error ≡ true) × (answer ≡ Err error)) }
+{
+    match answer {
+        Ok(()) => Ok(()),
+        Err(error) => { if may_pass(error) { Err(error) } else { Ok(()) } }
+    }
+}
+
+// A channel whose OPEN was written: the ACK comes, or another message, which says the same.
+fn await_answer(table: &mut Table, driver: &mut Driver, id: StreamId) -> Result<Looked, Error>
+    requires { stage_at table.old id ≡ Some stages.Begun }
+    ensures looks { IfOk result (λ looked. Looks table.old looked table.new) }
+    ensures err { OnErr result (table.new ≡ table.old) }
+    ensures passes { IfErr result (λ error. may_pass error ≡ true) }
+{
+    let mut byte = [0];
+    match read(driver, id, &mut byte)? {
+        ReadAnswer::Nothing => Ok(Looked::Done),
+        ReadAnswer::NoRoom { .. } => confirm(table, driver, id),
+        ReadAnswer::Message { payload_type, .. } => {
+            if is_dcep(payload_type) {
+                return answer_dcep(table, driver, id, byte[0]);
+            }
+            let message = ShortMessage {
+                payload_type,
+                byte: byte[0],
+            };
+            confirm_by(table, driver, id, message)
+        }
+    }
+}
+
+// A DCEP message of one byte came.
+fn answer_dcep(
+    table: &mut Table,
+    driver: &mut Driver,
+    id: StreamId,
+    byte: u8,
+) -> Result<Looked, Error>
+    requires { stage_at table.old id ≡ Some stages.Begun }
+    ensures looks { IfOk result (λ looked. Looks table.old looked table.new) }
+    ensures err { OnErr result (table.new ≡ table.old) }
+    ensures passes { IfErr result (λ error. may_pass error ≡ true) }
+{
+    if is_ack(&[byte]) {
+        return confirm(table, driver, id);
+    }
+    table.remove(id);
+    Ok(refuse(driver, id))
+}
+
+// The ACK came, or what says the same: from now on messages go as the channel says.
+fn confirm(table: &mut Table, driver: &mut Driver, id: StreamId) -> Result<Looked, Error>
+    requires { stage_at table.old id ≡ Some stages.Begun }
+    ensures looks { IfOk result (λ looked. Looks table.old looked table.new) }
+    ensures err { OnErr result (table.new ≡ table.old) }
+    ensures passes { IfErr result (λ error. may_pass error ≡ true) }
+{
+    let Some(channel) = table.get(id) else {
+        return Ok(Looked::Done);
+    };
+    pass(set_sending(channel, driver, id))?;
+    table.mark_open(id);
+    Ok(Looked::Tells(ChannelEvent::Opened(id)))
+}
+
+// The same of a message of one byte, which is kept.
+fn confirm_by(
+    table: &mut Table,
+    driver: &mut Driver,
+    id: StreamId,
+    message: ShortMessage,
+) -> Result<Looked, Error>
+    requires { stage_at table.old id ≡ Some stages.Begun }
+    ensures looks { IfOk result (λ looked. Looks table.old looked table.new) }
+    ensures err { OnErr result (table.new ≡ table.old) }
+    ensures passes { IfErr result (λ error. may_pass error ≡ true) }
+{
+    let Some(channel) = table.get(id) else {
+        return Ok(Looked::Done);
+    };
+    pass(set_sending(channel, driver, id))?;
+    table.mark_open_by(id, message);
+    Ok(Looked::Tells(ChannelEvent::Opened(id)))
+}
+
+// A channel of the peer: its ACK is written.
+fn acknowledge(table: &mut Table, driver: &mut Driver, id: StreamId) -> Result<Looked, Error>
+    requires { stage_at table.old id ≡ Some stages.Announcing }
+    ensures looks { IfOk result (λ looked. Looks table.old looked table.new) }
+    ensures err { OnErr result (table.new ≡ table.old) }
+    ensures passes { IfErr result (λ error. may_pass error ≡ true) }
+{
+    let Some(channel) = table.get(id) else {
+        return Ok(Looked::Done);
+    };
+    pass(write_ack(channel, driver, id))?;
+    table.mark_open(id);
+    Ok(Looked::Tells(ChannelEvent::Announced(id)))
+}
+
+fn write_ack(channel: &Channel, driver: &mut Driver, id: StreamId) -> Result<(), Error>
+    ensures { OnOk result (driver.new ≡ acknowledged driver.old id channel.now) }
+{
+    write_dcep(driver, id, &ACK_MESSAGE)?;
+    set_sending(channel, driver, id)
+}
+
+// The stream sends as its channel says.
+fn set_sending(channel: &Channel, driver: &mut Driver, id: StreamId) -> Result<(), Error>
+    ensures ok { OnOk result
+        (driver.new ≡ with_sending driver.old id (not (ordered_in channel.now.open_message)) channel.now) }
+    ensures err { OnErr result (driver.new ≡ driver.old) }
+{
+    driver.set_reliability_params(
+        id,
+        !channel.is_ordered(),
+        channel.reliability_type(),
+        channel.reliability_value(),
+    )
+}
+
+// The same in order, which a channel is until it is known that the peer read its OPEN.
+fn set_in_order(channel: &Channel, driver: &mut Driver, id: StreamId) -> Result<(), Error>
+    ensures ok { OnOk result (driver.new ≡ with_sending driver.old id false channel.now) }
+    ensures err { OnErr result (driver.new ≡ driver.old) }
+{
+    driver.set_reliability_params(
+        id,
+        false,
+        channel.reliability_type(),
+        channel.reliability_value(),
+    )
+}
+
+fn write_dcep(driver: &mut Driver, id: StreamId, message: &[u8]) -> Result<(), Error>
+    ensures ok { OnOk result (driver.new ≡ with_dcep driver.old id message.now) }
+    ensures err { OnErr result (driver.new ≡ driver.old) }
+{
+    match driver.write(id, Some(PayloadProtocolIdentifier::Dcep), message) {
+        Ok(_) => Ok(()),
+        Err(error) => Err(error),
+    }
+}

@@ -1,0 +1,219 @@
+// Events of the driver, and what they say of channels.
+ghost use Rattle.std.specs.Prelude.{◌≡◌, ◌≢◌, ◌⊎◌, ◌<◌, [], IfErr, IfOk, IfSome, None, OnErr, Ok, length, true};
+ghost use Rattle.std.specs.VecDeque.{deque_capacity, deque_len};
+ghost use Rattle.std.specs.BTreeMap.{is_at};
+ghost use Rattle.std.specs.Map.{remove_entry};
+ghost use Rattle.std.specs.Ordering.{nat_cmp};
+ghost use Rattle.channel_table.specs.declared.channel.Stage.TheVariants as stages;
+ghost use Rattle.channel_table.specs.Tables.{KeepsOrEnds, at_stage};
+ghost use Rattle.sctp_channels.specs.Looking.{IsTold, may_pass};
+ghost use Rattle.sctp_channels.specs.Polling.{IsIdle, Meets, Turns, event_met, stream_event_met, told_if_there};
+
+use crate::channels::Channels;
+use crate::event::ChannelEvent;
+use crate::looking::{Looked, look};
+use channel_table::{ChannelError, Table};
+use sctp_driver::{Driver, Error, Event, StreamEvent};
+use sctp_wire_types::StreamId;
+use std::alloc::Global;
+use std::collections::VecDeque;
+use std::mem;
+
+// What one turn gave.
+#[derive(Clone, Copy)]
+pub(crate) enum Turn {
+    Tells(ChannelEvent),
+    Silent,
+    Idle,
+}
+
+impl Channels {
+    /// The next event of the channels; None where none waits. It takes the events of the driver, in place of the
+    /// driver's `poll_event` and `accept_stream`. On the way it writes the OPENs that wait, if the association is
+    /// established, reads the first messages of streams, and writes ACKs.
+    ///
+    /// Errors: `Beneath(ErrNoMemory)`, after which it can be called again and goes on where it was, unless the
+    /// association failed; `Beneath(ErrAssociationFailed)`.
+    pub fn poll_event(&mut self, driver: &mut Driver) -> Result<Option<ChannelEvent>, ChannelError>
+        ensures told { IfOk result (λ told. IfSome told (λ event. IsTold event self.new.table)) }
+        ensures keeps { KeepsOrEnds self.old.table self.new.table }
+        ensures all { result ≡ Ok None → self.new.due ≡ [] }
+        ensures idle { result ≡ Ok None → IsIdle driver.new }
+        ensures role { self.new.role ≡ self.old.role }
+        ensures only { IfErr result (λ e. (e ≡ ChannelError.Beneath Error.ErrNoMemory)
+            ⊎ (e ≡ ChannelError.Beneath Error.ErrAssociationFailed)) }
+    {
+        for _silent in 0..u64::MAX {
+            match self.turn(driver)? {
+                Turn::Tells(event) => return Ok(Some(event)),
+                Turn::Idle => return Ok(None),
+                Turn::Silent => {}
+            }
+        }
+        // No memory holds so many events.
+        Err(ChannelError::Beneath(Error::ErrNoMemory))
+    }
+
+    fn turn(&mut self, driver: &mut Driver) -> Result<Turn, Error>
+        ensures turns { IfOk result (λ turn. Turns self.old.table turn self.new.table) }
+        ensures err { OnErr result (self.new.table ≡ self.old.table) }
+        ensures all { result ≡ Ok Turn.Idle → self.new.due ≡ [] }
+        ensures idle { result ≡ Ok Turn.Idle → IsIdle driver.new }
+        ensures role { self.new.role ≡ self.old.role }
+        ensures passes { IfErr result (λ error. may_pass error ≡ true) }
+    {
+        match self.due.front().copied() {
+            Some(id) => self.look_at(driver, id),
+            None => self.take_event(driver),
+        }
+    }
+
+    fn look_at(&mut self, driver: &mut Driver, id: StreamId) -> Result<Turn, Error>
+        ensures turns { IfOk result (λ turn. Turns self.old.table turn self.new.table) }
+        ensures err { OnErr result (self.new.table ≡ self.old.table) }
+        ensures busy { result ≢ Ok Turn.Idle }
+        ensures role { self.new.role ≡ self.old.role }
+        ensures passes { IfErr result (λ error. may_pass error ≡ true) }
+    {
+        match look(self.alloc, &mut self.table, driver, id)? {
+            Looked::Again => Ok(Turn::Silent),
+            Looked::Tells(event) => Ok(Turn::Tells(event)),
+            Looked::Done => {
+                self.due.pop_front();
+                Ok(Turn::Silent)
+            }
+            Looked::Ends(event) => {
+                self.due.pop_front();
+                Ok(Turn::Tells(event))
+            }
+        }
+    }
+
+    fn take_event(&mut self, driver: &mut Driver) -> Result<Turn, Error>
+        requires { self.old.due ≡ [] }
+        ensures turns { IfOk result (λ turn. Turns self.old.table turn self.new.table) }
+        ensures err { OnErr result (self.new.table ≡ self.old.table) }
+        ensures all { result ≡ Ok Turn.Idle → self.new.due ≡ [] }
+        ensures idle { result ≡ Ok Turn.Idle → IsIdle driver.new }
+        ensures role { self.new.role ≡ self.old.role }
+        ensures passes { IfErr result (λ error. may_pass error ≡ true) }
+    {
+        self.due.reserve(1)?;
+        match driver.poll_event()? {
+            None => Ok(Turn::Idle),
+            Some(event) => Ok(meet_event(
+                self.alloc,
+                &mut self.table,
+                &mut self.waiting,
+                &mut self.due,
+                driver,
+                event,
+            )),
+        }
+    }
+}
+
+// What an event asks for. `Connected` comes where no stream is to be looked at.
+fn meet_event(
+    alloc: Global,
+    table: &mut Table,
+    waiting: &mut VecDeque<StreamId>,
+    due: &mut VecDeque<StreamId>,
+    driver: &mut Driver,
+    event: Event,
+) -> Turn
+    requires { deque_len due.old < deque_capacity due.old }
+    ensures turns { Turns table.old result table.new }
+    ensures busy { result ≢ Turn.Idle }
+{
+    match event {
+        Event::Stream(StreamEvent::Readable { id }) => {
+            due.push_back_reserved(id);
+            Turn::Silent
+        }
+        Event::Stream(StreamEvent::Opened { .. }) => {
+            driver.accept_stream();
+            Turn::Silent
+        }
+        Event::Connected => {
+            *due = mem::replace(waiting, VecDeque::new(alloc));
+            Turn::Tells(ChannelEvent::Connected)
+        }
+        other => match told_of(table, other) {
+            Some(event) => Turn::Tells(event),
+            None => Turn::Silent,
+        },
+    }
+}
+
+// What an event says of channels, but for `Connected`, `Opened` and `Readable`.
+fn told_of(table: &mut Table, event: Event) -> Option<ChannelEvent>
+    ensures exact { event_met table.old event ≡ (table.new, result) }
+    ensures meets { Meets table.old result table.new }
+{
+    match event {
+        Event::HandshakeFailed { reason } => {
+            table.clear();
+            Some(ChannelEvent::HandshakeFailed(reason))
+        }
+        Event::AssociationLost { reason } => {
+            table.clear();
+            Some(ChannelEvent::Lost(reason))
+        }
+        Event::Stream(event) => told_of_stream(table, event),
+        Event::Connected | Event::DataChannelStatsFinal(_) | Event::DatagramReceived => None,
+    }
+}
+
+fn told_of_stream(table: &mut Table, event: StreamEvent) -> Option<ChannelEvent>
+    ensures exact { stream_event_met table.old event ≡ (table.new, result) }
+    ensures meets { Meets table.old result table.new }
+{
+    match event {
+        StreamEvent::Finished { id } => {
+            table.mark_closing(id);
+            None
+        }
+        StreamEvent::ResetComplete { id } => end(table, id),
+        StreamEvent::ResetFailed { id, .. } => fail_reset(table, id),
+        StreamEvent::BufferedAmountLow { id } => tell_low(table, id),
+        _ => None,
+    }
+}
+
+// Both halves of a stream ended.
+fn end(table: &mut Table, id: StreamId) -> Option<ChannelEvent>
+    ensures exact { told_if_there table.old id (ChannelEvent.Closed id)
+        (remove_entry (is_at (nat_cmp id)) table.old) ≡ (table.new, result) }
+    ensures meets { Meets table.old result table.new }
+{
+    if !table.contains(id) {
+        return None;
+    }
+    table.remove(id);
+    Some(ChannelEvent::Closed(id))
+}
+
+// This side's reset of a stream failed.
+fn fail_reset(table: &mut Table, id: StreamId) -> Option<ChannelEvent>
+    ensures exact { told_if_there table.old id (ChannelEvent.Closed id) (at_stage table.old id stages.Closing)
+        ≡ (table.new, result) }
+    ensures meets { Meets table.old result table.new }
+{
+    if !table.contains(id) {
+        return None;
+    }
+    table.mark_closing(id);
+    Some(ChannelEvent::Closed(id))
+}
+
+fn tell_low(table: &mut Table, id: StreamId) -> Option<ChannelEvent>
+    ensures exact { told_if_there table.old id (ChannelEvent.BufferedLow id) table.old ≡ (table.new, result) }
+    ensures meets { Meets table.old result table.new }
+{
+    if table.contains(id) {
+        Some(ChannelEvent::BufferedLow(id))
+    } else {
+        None
+    }
+}

@@ -1,0 +1,149 @@
+// Messages of an application are received.
+ghost use Rattle.std.specs.Prelude.{◌≡◌, IfErr, IfOk, OnErr};
+ghost use Rattle.sctp_driver.specs.Messages.{ReadFails};
+ghost use Rattle.sctp_channels.specs.Receiving.{GivesFirst, ReadsNext, Receives, ReceivesOpen, ReceivesRead};
+ghost use Rattle.sctp_channels.specs.Receiving.{first_at, met, read_as};
+
+use crate::channels::Channels;
+use crate::reading::{is_dcep, read};
+use channel_table::{ChannelError, Received, ShortMessage, Stage, received_as};
+use sctp_driver::{Driver, Error, PayloadProtocolIdentifier, ReadAnswer};
+use sctp_wire_types::StreamId;
+
+/// What a read of the stream of an open channel is to its application.
+#[derive(Clone, Copy)]
+pub(crate) enum Next {
+    /// It receives this.
+    Given(Received),
+    /// Nothing: it is to be read on.
+    Dropped,
+    /// The channel ends.
+    SecondOpen,
+}
+
+impl Channels {
+    /// Copies the next message of a channel to the front of the buffer, whole. Where the buffer is shorter the message
+    /// stays, and `NoRoom` says how long it is. DCEP messages and those of payload types that RFC 8831 does not have
+    /// are dropped; they may be told as `NoRoom`, too, and may have changed the buffer. A second OPEN ends the channel.
+    /// `Nothing` on a channel that is not open yet, and where its stream ended, but for a message that waited for a
+    /// longer buffer before the peer ended it.
+    ///
+    /// Refused: `NoChannel`, with nothing changed; `Beneath` for want of memory and a failed association, as `read` of
+    /// the driver is; and as its `close_stream` is where a second OPEN came.
+    pub fn receive(
+        &mut self,
+        driver: &mut Driver,
+        id: StreamId,
+        buffer: &mut [u8],
+    ) -> Result<Received, ChannelError>
+        ensures { Receives id self.old driver.old buffer.old result self.new driver.new buffer.new }
+    {
+        match self.table.stage(id) {
+            None => Err(ChannelError::NoChannel),
+            Some(Stage::Waiting | Stage::Begun | Stage::Announcing) => Ok(Received::Nothing),
+            Some(Stage::Open) => self.receive_open(driver, id, buffer),
+            Some(Stage::Closing) => self.receive_open(driver, id, buffer),
+        }
+    }
+
+    fn receive_open(
+        &mut self,
+        driver: &mut Driver,
+        id: StreamId,
+        buffer: &mut [u8],
+    ) -> Result<Received, ChannelError>
+        ensures { ReceivesOpen (first_at self.old.table id) id self.old driver.old buffer.old result self.new driver.new
+            buffer.new }
+    {
+        match self.first_of(id) {
+            Some(message) => Ok(self.give_first(id, message, buffer)),
+            None => self.read_on(driver, id, buffer),
+        }
+    }
+
+    fn read_on(
+        &mut self,
+        driver: &mut Driver,
+        id: StreamId,
+        buffer: &mut [u8],
+    ) -> Result<Received, ChannelError>
+        ensures { ReceivesRead id self.old driver.old buffer.old result self.new driver.new buffer.new }
+    {
+        for _dropped in 0..u64::MAX {
+            match read_next(driver, id, buffer)? {
+                Next::Given(received) => return Ok(received),
+                Next::Dropped => {}
+                Next::SecondOpen => {
+                    self.reset(driver, id)?;
+                    return Ok(Received::Nothing);
+                }
+            }
+        }
+        // No memory holds so many messages.
+        Err(ChannelError::Beneath(Error::ErrNoMemory))
+    }
+
+    fn first_of(&self, id: StreamId) -> Option<ShortMessage>
+        ensures { result ≡ first_at self.now.table id }
+    {
+        match self.table.get(id) {
+            Some(channel) => channel.first(),
+            None => None,
+        }
+    }
+
+    // Gives the message that came in place of the ACK.
+    fn give_first(&mut self, id: StreamId, message: ShortMessage, buffer: &mut [u8]) -> Received
+        ensures { GivesFirst message id self.old buffer.old result self.new buffer.new }
+    {
+        if buffer.is_empty() {
+            return Received::NoRoom { length: 1 };
+        }
+        self.table.forget_first(id);
+        buffer[0] = message.byte;
+        match received_as(message.payload_type, 1) {
+            Some(received) => received,
+            None => Received::Nothing,
+        }
+    }
+}
+
+// Reads the next message of a stream.
+fn read_next(driver: &mut Driver, id: StreamId, buffer: &mut [u8]) -> Result<Next, Error>
+    ensures ok { IfOk result (λ next. ReadsNext id driver.old buffer.old next driver.new buffer.new) }
+    ensures err { IfErr result (λ error. ReadFails driver.old id error driver.new) }
+    ensures unfilled { OnErr result (buffer.new ≡ buffer.old) }
+{
+    match read(driver, id, buffer) {
+        Ok(answer) => Ok(read_as(answer)),
+        Err(error) => Err(error),
+    }
+}
+
+fn read_as(answer: ReadAnswer) -> Next
+    ensures { result ≡ read_as answer }
+{
+    match answer {
+        ReadAnswer::Nothing => Next::Given(Received::Nothing),
+        ReadAnswer::NoRoom { length } => Next::Given(Received::NoRoom { length }),
+        ReadAnswer::Message {
+            payload_type,
+            length,
+        } => meet(payload_type, length),
+    }
+}
+
+fn meet(payload_type: PayloadProtocolIdentifier, length: usize) -> Next
+    ensures { result ≡ met payload_type length }
+{
+    match received_as(payload_type, length) {
+        Some(received) => Next::Given(received),
+        None => {
+            if is_dcep(payload_type) && length != 1 {
+                Next::SecondOpen
+            } else {
+                Next::Dropped
+            }
+        }
+    }
+}
