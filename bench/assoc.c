@@ -24,6 +24,11 @@ static sctp_assoc ends[2];
 static struct wire wires[2];
 static bool is_observed; /* each end has a watch, and an observer that does nothing */
 static sctp_assoc_watch watches[2];
+#ifdef WITHOUT_WATCHES /* the archive is from before there were watches, so that there is no case `observed` */
+#define OBSERVED false
+#else
+#define OBSERVED is_observed
+#endif
 static sctp_assoc_config config;
 static uint64_t now, written, messages_read, bytes_read, allocations;
 static int established[2];
@@ -63,7 +68,7 @@ static void observe(void *user, bool outgoing, uint64_t moment, const uint8_t *d
 }
 
 static bool transmits(int end, struct datagram *room) {
-    if (is_observed)
+    if (OBSERVED)
         return done(sctp_assoc_observed_poll_transmit(&ends[end], &watches[end], observe, NULL, now, room->bytes,
                                                       sizeof room->bytes, &room->length));
     return done(sctp_assoc_poll_transmit(&ends[end], now, room->bytes, sizeof room->bytes, &room->length));
@@ -71,7 +76,7 @@ static bool transmits(int end, struct datagram *room) {
 
 static void receives(int end, const struct datagram *came) {
     uint32_t fate;
-    if (is_observed)
+    if (OBSERVED)
         done(sctp_assoc_observed_handle_datagram(&ends[end], &watches[end], observe, NULL, now, came->bytes,
                                                  came->length, &fate));
     else
@@ -79,7 +84,7 @@ static void receives(int end, const struct datagram *came) {
 }
 
 static bool has_event(int end, sctp_assoc_event *event) {
-    return done(is_observed ? sctp_assoc_watched_poll_event(&ends[end], &watches[end], event)
+    return done(OBSERVED ? sctp_assoc_watched_poll_event(&ends[end], &watches[end], event)
                             : sctp_assoc_poll_event(&ends[end], event));
 }
 
@@ -202,6 +207,10 @@ static void exchange(uint64_t count, size_t size, uint16_t streams) {
 
 static void messages(struct measure *m) {
     is_observed = !strcmp(m->name, "observed");
+#ifdef WITHOUT_WATCHES
+    if (is_observed)
+        fail("the archive has no watches");
+#endif
     join_with(1);
     if (!strcmp(m->name, "unordered"))
         done(sctp_assoc_set_reliability(&ends[0], STREAM, true, SCTP_ASSOC_RELIABLE, 0));
