@@ -1,6 +1,6 @@
 // TSNs leave.
 use sctp_looks::Looks;
-use sctp_ranges::Ranges;
+use sctp_received::Ranges;
 use std::test::Fail;
 
 #[test]

@@ -1,6 +1,6 @@
 // TSNs that make up one range.
 use sctp_looks::Looks;
-use sctp_ranges::Ranges;
+use sctp_received::Ranges;
 use std::test::Fail;
 
 #[test]
@@ -14,7 +14,7 @@ fn tsns_whose_numbers_wrap_are_one_range(rt: HostRuntime) -> Result<(), Fail> {
     let blocks = ranges.get_gap_ack_blocks(rt.alloc(), point, &mut looks)?;
     assert_eq!(rt; blocks.len(), 1);
     for block in &blocks {
-        assert_eq!(rt; (block.first, block.last), (1, 2));
+        assert_eq!(rt; (block.start, block.end), (1, 2));
     }
     Ok(())
 }
@@ -30,7 +30,7 @@ fn a_tsn_between_two_ranges_joins_them(rt: HostRuntime) -> Result<(), Fail> {
     let blocks = ranges.get_gap_ack_blocks(rt.alloc(), 100, &mut looks)?;
     assert_eq!(rt; blocks.len(), 1);
     for block in &blocks {
-        assert_eq!(rt; (block.first, block.last), (2, 4));
+        assert_eq!(rt; (block.start, block.end), (2, 4));
     }
     Ok(())
 }

@@ -1,6 +1,6 @@
 // How many ranges are looked at, where there are 1,000: their number is below 2^10.
 use sctp_looks::Looks;
-use sctp_ranges::Ranges;
+use sctp_received::Ranges;
 use std::test::Fail;
 
 #[test]

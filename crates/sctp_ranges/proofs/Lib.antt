@@ -1,13 +1,5 @@
 pub mod Additions
-pub mod Blocks
 pub mod Halving
-pub mod Keys
-pub mod LastReceived
-pub mod Leaving
 pub mod Parts
-pub mod Pushed
 pub mod Removals
 pub mod Rows
-pub mod Taken
-pub mod ToldBlocks
-pub mod Turned

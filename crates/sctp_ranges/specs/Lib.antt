@@ -1,4 +1,2 @@
-pub mod Blocks
 pub mod Runs
 pub mod Stored
-pub mod Tsns

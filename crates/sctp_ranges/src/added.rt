@@ -8,7 +8,7 @@ use sctp_looks::Looks;
 
 /// Adds an offset that no range has, at its place, and answers the index of the range that has it then.
 #[tactic(auto, using(crate::proofs::Parts::begins_first, crate::proofs::Parts::begins_apart, crate::proofs::Parts::ends_before_place, crate::proofs::Halving::ended_within))]
-pub(crate) fn add_at(row: &mut Row, offset: u32, place: Place, looks: &mut Looks) -> usize
+pub fn add_at(row: &mut Row, offset: u32, place: Place, looks: &mut Looks) -> usize
     requires apart { AreApart 0 row.old.list }
     requires index { place.index ≡ ended_before offset row.old.list }
     requires run { place.run ≡ slice_get row.old.list place.index }

@@ -7,7 +7,7 @@ use crate::run::Place;
 
 /// Removes the offsets from one up to another, both included, of which the places are given: what of a range comes
 /// before them or after them stays.
-pub(crate) fn remove_offsets(row: &mut Row, from: u32, to: u32, lower: Place, upper: Place)
+pub fn remove_offsets(row: &mut Row, from: u32, to: u32, lower: Place, upper: Place)
     requires order { from ≤ to }
     requires apart { AreApart 0 row.old.list }
     requires lower_index { lower.index ≡ ended_before from row.old.list }

@@ -15,7 +15,7 @@ const KEPT_ROOM: usize = 64;
 
 /// A list of ranges. The only call that reads one is `at`, which counts a look: nothing else leads to them.
 #[derive(Drop)]
-pub(crate) struct Row {
+pub struct Row {
     runs: Vec<Run>,
 }
 
@@ -30,7 +30,7 @@ impl Model for Row {
 
 impl Row {
     /// No range; takes no memory.
-    pub(crate) fn new(alloc: Global) -> Self
+    pub fn new(alloc: Global) -> Self
         ensures { result ≡ record { list = []; room = 0 } }
     {
         Row {
@@ -39,21 +39,21 @@ impl Row {
     }
 
     /// How many ranges there are.
-    pub(crate) fn len(&self) -> usize
+    pub fn len(&self) -> usize
         ensures { result ≡ length self.now.list }
     {
         self.runs.len()
     }
 
     /// Whether there is no range.
-    pub(crate) fn is_empty(&self) -> bool
+    pub fn is_empty(&self) -> bool
         ensures { result ≡ (length self.now.list == 0) }
     {
         self.runs.len() == 0
     }
 
     /// The range at an index, at which this looks once.
-    pub(crate) fn at(&self, index: usize, looks: &mut Looks) -> Run
+    pub fn at(&self, index: usize, looks: &mut Looks) -> Run
         requires { index < length self.now.list }
         ensures run { slice_get self.now.list index ≡ Some result }
         ensures looks { looks.new ≡ ticked_by looks.old 1 }
@@ -63,7 +63,7 @@ impl Row {
     }
 
     /// Another range at an index.
-    pub(crate) fn set(&mut self, index: usize, run: Run)
+    pub fn set(&mut self, index: usize, run: Run)
         requires { index < length self.old.list }
         ensures { self.new ≡ record self.old { list = slice_set self.old.list index run } }
     {
@@ -72,7 +72,7 @@ impl Row {
     }
 
     /// One range more, before the one at an index; there is room for it.
-    pub(crate) fn insert(&mut self, index: usize, run: Run)
+    pub fn insert(&mut self, index: usize, run: Run)
         requires index { index ≤ length self.old.list }
         requires room { length self.old.list < self.old.room }
         ensures { self.new ≡ record self.old { list = insert self.old.list index run } }
@@ -82,7 +82,7 @@ impl Row {
 
     /// A range in the place of the one in front of an index, or one more where that is the index to start from; answers
     /// its index. With no range nothing changes.
-    pub(crate) fn put(&mut self, start: usize, end: usize, run: Option<Run>) -> usize
+    pub fn put(&mut self, start: usize, end: usize, run: Option<Run>) -> usize
         requires start { start ≤ end }
         requires end { end ≤ length self.old.list }
         requires room { IfSome run (λ r. start ≡ end → length self.old.list < self.old.room) }
@@ -110,7 +110,7 @@ impl Row {
 
     /// Without the ranges from one index up to another, which is left out.
     #[tactic(auto, using(crate::proofs::Rows::closed_up))]
-    pub(crate) fn remove_between(&mut self, start: usize, end: usize)
+    pub fn remove_between(&mut self, start: usize, end: usize)
         requires start { start ≤ end }
         requires end { end ≤ length self.old.list }
         ensures { self.new ≡ record self.old { list = take start self.old.list ++ drop end self.old.list } }
@@ -121,14 +121,14 @@ impl Row {
     }
 
     /// No range any more.
-    pub(crate) fn clear(&mut self)
+    pub fn clear(&mut self)
         ensures { self.new ≡ record self.old { list = [] } }
     {
         self.runs.truncate(0);
     }
 
     /// Room for more ranges. Where memory is refused all stays as it was.
-    pub(crate) fn reserve(&mut self, more: usize) -> Result<(), AllocError>
+    pub fn reserve(&mut self, more: usize) -> Result<(), AllocError>
         ensures list { self.new.list ≡ self.old.list }
         ensures room { OnOk result (length self.new.list + more ≤ self.new.room) }
         ensures err { OnErr result (self.new ≡ self.old) }
@@ -137,7 +137,7 @@ impl Row {
     }
 
     /// Gives memory back where there is no range and it has become much.
-    pub(crate) fn release(&mut self)
+    pub fn release(&mut self)
         ensures list { self.new.list ≡ self.old.list }
         ensures room { 0 < length self.old.list → self.new.room ≡ self.old.room }
     {
@@ -147,7 +147,7 @@ impl Row {
     }
 
     /// The place of an offset between two indexes, by halving; `above` is the range at the upper one, none at the end.
-    pub(crate) fn halve(
+    pub fn halve(
         &self,
         offset: u32,
         low: usize,

@@ -11,14 +11,14 @@ pub struct Run {
 
 /// The first range that does not end before an offset, and its index; no range where all end before it.
 #[derive(Clone, Copy, Drop)]
-pub(crate) struct Place {
-    pub(crate) index: usize,
-    pub(crate) run: Option<Run>,
+pub struct Place {
+    pub index: usize,
+    pub run: Option<Run>,
 }
 
 impl Place {
     /// Whether the range begins at an offset or before it.
-    pub(crate) fn is_begun(self, offset: u32) -> bool
+    pub fn is_begun(self, offset: u32) -> bool
         ensures { result ≡ is_begun offset self.run }
     {
         match self.run {
@@ -28,7 +28,7 @@ impl Place {
     }
 
     /// The range, where it begins at an offset or before it.
-    pub(crate) fn begun(self, offset: u32) -> Option<Run>
+    pub fn begun(self, offset: u32) -> Option<Run>
         ensures none { result ≡ None → is_begun offset self.run ≡ false }
         ensures some { IfSome result (λ r. (self.run ≡ Some r) × (is_begun offset (Some r) ≡ true)) }
     {
@@ -39,7 +39,7 @@ impl Place {
     }
 
     /// The range, which begins past an offset, where it is next to it.
-    pub(crate) fn next_to(self, offset: u32) -> Option<Run>
+    pub fn next_to(self, offset: u32) -> Option<Run>
         requires { is_begun offset self.run ≡ false }
         ensures clear { result ≡ None → IsClear offset self.run }
         ensures next { IfSome result (λ r. (self.run ≡ Some r) × (offset + 1 ≡ r.first)) }
@@ -57,7 +57,7 @@ impl Place {
     }
 
     /// What of the range comes before an offset.
-    pub(crate) fn before(self, offset: u32) -> Option<Run>
+    pub fn before(self, offset: u32) -> Option<Run>
         ensures { result ≡ before offset self.run }
     {
         match self.run {
@@ -70,7 +70,7 @@ impl Place {
     }
 
     /// What of the range comes after one of its offsets.
-    pub(crate) fn after(self, offset: u32) -> Option<Run>
+    pub fn after(self, offset: u32) -> Option<Run>
         ensures { result ≡ after offset self.run }
     {
         match self.run {

@@ -1,50 +1,16 @@
 -- Gap ack blocks say exactly the offsets of the TSNs held, by maximal runs.
-use Rattle.std.proofs.Common.{◌≡◌, ℕ, suc, ◌+◌, ◌-◌, ◌^◌, ◌<◌, ◌≤◌, Bool, true, false, ◌&&◌, ◌||◌, ltb, leb, eqb, List}
-use Rattle.std.proofs.Common.{[], ◌∷◌, ◌++◌, length, refl, ap, sym, ◌∙◌, ◌⊎◌, inl, inr, ⊎_elim, cond, arith, Option}
-use Rattle.std.proofs.Common.{Some, None}
-use Rattle.std.specs.List.{list_any, All}
-use Rattle.std.specs.Option.{is_some}
-use Rattle.std.specs.BTreeMap.Range.{IsLeBy}
-use Rattle.std.specs.List.Sorted.{IsStrictlySortedBy}
-use Rattle.std.specs.Ordering.{nat_cmp}
-use Rattle.std.specs.BTreeMap.{is_at}
-use Rattle.std.specs.Set.{remove_key}
-use Rattle.std.specs.declared.cmp.Ordering.TheVariants.{Greater, Less}
-use Rattle.std.specs.Cmp.{nat_cmp_is}
+use Rattle.std.proofs.Common.{◌≡◌, ℕ, ◌+◌, ◌-◌, ◌^◌, ◌<◌, ◌≤◌, Bool, true, false, ◌&&◌, ◌||◌, ltb, leb, eqb, List}
+use Rattle.std.proofs.Common.{[], ◌∷◌, ◌++◌, refl, ap, sym, ◌∙◌, ◌⊎◌, inl, inr, ⊎_elim, cond, arith}
+use Rattle.std.specs.List.{list_any}
 use Rattle.std.proofs.Math.Bool.{or_assoc}
-use Rattle.std.proofs.lemmas.Bool.{cases_Bool, and_parts}
+use Rattle.std.proofs.lemmas.Bool.{cases_Bool, cases_lt, and_parts, le-leb, lt-leb}
 use Rattle.std.proofs.lemmas.Bool.Decides.{nat_tests}
-use Rattle.std.proofs.lemmas.Cmp.{ranked}
-use Rattle.std.proofs.lemmas.List.Elements.{All-head, All-tail}
 use Rattle.std.proofs.lemmas.List.Folds.{list_any-append}
-use Rattle.std.proofs.lemmas.Map.Keys.{sorted_tail}
-use Rattle.std.proofs.lemmas.Map.Views.{All-after_first}
-use Rattle.sctp_serial.specs.Serial.{tsn_past, tsn_after}
+use Rattle.sctp_serial.specs.Serial.{tsn_past}
 use Rattle.sctp_wire_types.specs.declared.chunk.GapAckBlock.{GapAckBlock}
-use Rattle.sctp_received.specs.Received.{is_held, has_offset, advanced, is_greater, offsets_in, offsets_of, block}
-use Rattle.sctp_received.specs.Received.{runs_from, runs_of, gap_ack_blocks, is_named, is_held_at, AreRuns}
-
--- The cumulative TSN moves on.
-
-advance_more : (p : ℕ) (ks ns : List ℕ) → is_held (tsn_after p) ks ≡ true → length ns + 1 ≡ length ks
-    → ns ≡ remove_key (is_at (nat_cmp (tsn_after p))) ks
-    → advanced (length ns) (tsn_after p) ns ≡ advanced (length ks) p ks
-advance_more p ks ns held shorter e =
-    let n : length ks ≡ suc (length ns) = omega (arith, shorter) in
-    rw (n, held, e)
-
-some_popped : (b : Bool) (tsn : ℕ) (popped : Option ℕ) → popped ≡ cond b (Some tsn) None → is_some popped ≡ true
-    → b ≡ true
-some_popped true tsn popped is some = refl
-some_popped false tsn popped is some = sym (ap is_some is) ∙ some
-
--- over a TSN that was taken out
-pub advance_over : (p : ℕ) (ks ns : List ℕ) (popped : Option ℕ)
-    → popped ≡ cond (is_held (tsn_after p) ks) (Some (tsn_after p)) None → is_some popped ≡ true
-    → length ns + cond (is_some popped) 1 0 ≡ length ks → ns ≡ remove_key (is_at (nat_cmp (tsn_after p))) ks
-    → advanced (length ns) (tsn_after p) ns ≡ advanced (length ks) p ks
-advance_over p ks ns popped is some shorter e =
-    advance_more p ks ns (some_popped _ _ popped is some) (rw some at shorter) e
+use Rattle.sctp_received.specs.Received.{has_offset, is_greater, offsets_in, offsets_of, runs_from, runs_of}
+use Rattle.sctp_received.specs.Received.{gap_ack_blocks, block, is_named, is_held_at, AreRuns}
+use Rattle.sctp_received.proofs.Keys.{Ascend}
 
 -- What the blocks name.
 
@@ -80,7 +46,7 @@ named_from x b (o ∷ os) w =
     eqb_eq : (m n : ℕ) → eqb m n ≡ true → m ≡ n
     eqb_eq m n e = grind (arith, nat_tests, e)
 
-named : (x : ℕ) (os : List ℕ) → is_named x (runs_of os) ≡ list_any (λ o. eqb o x) os
+pub named : (x : ℕ) (os : List ℕ) → is_named x (runs_of os) ≡ list_any (λ o. eqb o x) os
 named x [] = refl
 named x (o ∷ os) =
     named_from x (block o o) os (omega arith) ∙ ap (λ z. z || list_any (λ o. eqb o x) os) (single x o)
@@ -140,15 +106,15 @@ named_exactly cumulative_tsn x ts above below =
 
 -- The offsets ascend, and so the runs are maximal.
 
-abbrev Ascends : ℕ → List ℕ → Type 0
-Ascends least [] = Unit {0}
-Ascends least (o ∷ os) = (least ≤ o) × Ascends (o + 1) os
+abbrev Rise : ℕ → List ℕ → Type 0
+Rise least [] = Unit {0}
+Rise least (o ∷ os) = (least ≤ o) × Rise (o + 1) os
 
-ascends_from : (l m : ℕ) (os : List ℕ) → m ≤ l → Ascends l os → Ascends m os
+ascends_from : (l m : ℕ) (os : List ℕ) → m ≤ l → Rise l os → Rise m os
 ascends_from l m [] le a = tt
 ascends_from l m (o ∷ os) le a = (omega (arith, le, a.0), a.1)
 
-apart_from : (least : ℕ) (b : GapAckBlock) (os : List ℕ) → least ≤ b.start → b.start ≤ b.end → Ascends (b.end + 1) os
+apart_from : (least : ℕ) (b : GapAckBlock) (os : List ℕ) → least ≤ b.start → b.start ≤ b.end → Rise (b.end + 1) os
     → AreRuns least (runs_from b os)
 apart_from least b [] l w a = (l, w, tt)
 apart_from least b (o ∷ os) l w a =
@@ -161,35 +127,17 @@ apart_from least b (o ∷ os) l w a =
     past_gap : (m n : ℕ) → m + 1 ≤ n → eqb (m + 1) n ≡ false → m + 2 ≤ n
     past_gap m n le e = grind (arith, nat_tests, le, e)
 
-apart : (os : List ℕ) → Ascends 1 os → AreRuns 1 (runs_of os)
+apart : (os : List ℕ) → Rise 1 os → AreRuns 1 (runs_of os)
 apart [] a = tt
 apart (o ∷ os) a = apart_from 1 (block o o) os a.0 (omega arith) a.1
-
--- TSNs that ascend, from a least one
-abbrev AscendsBelow : ℕ → List ℕ → Type 0
-AscendsBelow least [] = Unit {0}
-AscendsBelow least (t ∷ ts) = (least ≤ t) × (t < 2 ^ 32) × AscendsBelow (t + 1) ts
-
-less_than : (a b : ℕ) → nat_cmp a b ≡ Less → a + 1 ≤ b
-less_than a b e = let h : a < b = ranked a b Less (sym e) in omega (arith, h)
-
-ascending_keys : (least : ℕ) (ts : List ℕ) → IsStrictlySortedBy nat_cmp ts → All (λ t. t < 2 ^ 32) ts
-    → All (λ t. least ≤ t) ts → AscendsBelow least ts
-ascending_keys least [] s b l = tt
-ascending_keys least (t ∷ ts) s b l = (
-  All-head (λ t. least ≤ t) t ts l,
-  All-head (λ t. t < 2 ^ 32) t ts b,
-  ascending_keys (t + 1) ts (sorted_tail nat_cmp t ts s) (All-tail (λ t. t < 2 ^ 32) t ts b)
-      (λ k d h. less_than t _ (All-after_first nat_cmp t ts s k d h)),
-)
 
 greater_past : (cumulative_tsn t : ℕ) → ltb cumulative_tsn t ≡ true → t < 2 ^ 32
     → tsn_past cumulative_tsn t + cumulative_tsn ≡ t
 greater_past cumulative_tsn t e b = let h : cumulative_tsn < t = grind (arith, nat_tests, e) in omega (arith, h, b)
 
-greater_ascend : (cumulative_tsn l m : ℕ) (ts rest : List ℕ) → cumulative_tsn < 2 ^ 32 → AscendsBelow l ts
-    → m + cumulative_tsn ≤ l ⊎ m ≤ 1 → m ≤ 2 ^ 32 - cumulative_tsn → Ascends (2 ^ 32 - cumulative_tsn) rest
-    → Ascends m (offsets_in true cumulative_tsn ts ++ rest)
+greater_ascend : (cumulative_tsn l m : ℕ) (ts rest : List ℕ) → cumulative_tsn < 2 ^ 32 → Ascend l ts
+    → m + cumulative_tsn ≤ l ⊎ m ≤ 1 → m ≤ 2 ^ 32 - cumulative_tsn → Rise (2 ^ 32 - cumulative_tsn) rest
+    → Rise m (offsets_in true cumulative_tsn ts ++ rest)
 greater_ascend cumulative_tsn l m [] rest p a w u r = ascends_from _ m rest u r
 greater_ascend cumulative_tsn l m (t ∷ ts) rest p a w u r =
     ⊎_elim
@@ -228,8 +176,8 @@ behind_past cumulative_tsn t e h p =
     let positive : 0 < tsn_past cumulative_tsn t = grind (arith, nat_tests, h) in
     omega (arith, le, positive, p)
 
-behind_ascend : (cumulative_tsn l m : ℕ) (ts : List ℕ) → cumulative_tsn < 2 ^ 32 → AscendsBelow l ts
-    → m ≤ l + 2 ^ 32 - cumulative_tsn → Ascends m (offsets_in false cumulative_tsn ts)
+behind_ascend : (cumulative_tsn l m : ℕ) (ts : List ℕ) → cumulative_tsn < 2 ^ 32 → Ascend l ts
+    → m ≤ l + 2 ^ 32 - cumulative_tsn → Rise m (offsets_in false cumulative_tsn ts)
 behind_ascend cumulative_tsn l m [] p a w = tt
 behind_ascend cumulative_tsn l m (t ∷ ts) p a w =
     ⊎_elim
@@ -249,29 +197,89 @@ behind_ascend cumulative_tsn l m (t ∷ ts) p a w =
     is_behind : (cumulative_tsn t : ℕ) → is_greater false cumulative_tsn t ≡ true → ltb cumulative_tsn t ≡ false
     is_behind cumulative_tsn t e = grind (arith, nat_tests, e)
 
-pub maximal_runs : (cumulative_tsn : ℕ) (ts : List ℕ) → cumulative_tsn < 2 ^ 32 → IsStrictlySortedBy nat_cmp ts
-    → All (λ t. t < 2 ^ 32) ts → AreRuns 1 (gap_ack_blocks cumulative_tsn ts)
-maximal_runs cumulative_tsn ts p s b =
-    let a = ascending_keys 0 ts s b (λ k d h. omega arith) in
+pub maximal_blocks : (cumulative_tsn : ℕ) (ts : List ℕ) → cumulative_tsn < 2 ^ 32 → Ascend 0 ts
+    → AreRuns 1 (gap_ack_blocks cumulative_tsn ts)
+maximal_blocks cumulative_tsn ts p a =
     apart (offsets_of cumulative_tsn ts) (
     greater_ascend cumulative_tsn 0 1 ts (offsets_in false cumulative_tsn ts) p a (inr (omega arith)) (omega (arith, p))
     (behind_ascend cumulative_tsn 0 (2 ^ 32 - cumulative_tsn) ts p a (omega (arith, p)))
     )
 
--- where the least TSN is greater than the cumulative TSN as a number, no TSN is not
-pub none_lesser : (p first : ℕ) (ts : List ℕ) → All (IsLeBy nat_cmp first) ts → p < first → offsets_in false p ts ≡ []
-none_lesser p first [] all lt = refl
-none_lesser p first (t ∷ ts) all lt =
-    let le : first ≤ t = least first t (All-head (IsLeBy nat_cmp first) t ts all) in
-    let greater : ltb p t ≡ true = grind (arith, nat_tests, le, lt) in
-    rw greater (none_lesser p first ts (All-tail (IsLeBy nat_cmp first) t ts all) lt)
+-- What blocks are, from which offsets they name.
+
+none_block : (l o : ℕ) (bs : List GapAckBlock) → AreRuns l bs → o < l → is_named o bs ≡ false
+none_block l o [] a w = refl
+none_block l o (b ∷ bs) a w =
+    let off : leb b.start o ≡ false = lt-leb b.start o (omega (arith, a.0, w)) in
+    rw off (none_block (b.end + 2) o bs a.2 (omega (arith, a.0, a.1, w)))
+
+different : {q r : Bool} → q ≡ true → r ≡ false → q ≡ r → ⊥
+different f g e = absurd (cc (f, g, e))
+
+first_in : (b : GapAckBlock) (bs : List GapAckBlock) → b.start ≤ b.end → is_named b.start (b ∷ bs) ≡ true
+first_in b bs w = rw (le-leb b.start b.start (omega arith), le-leb b.start b.end w) refl
+
+-- where one of two first blocks ends earlier, the number after it is in the other one alone
+ends_first : (l m : ℕ) (x y : GapAckBlock) (xs ys : List GapAckBlock) → AreRuns l (x ∷ xs) → AreRuns m (y ∷ ys)
+    → x.start ≡ y.start → x.end < y.end → is_named (x.end + 1) (x ∷ xs) ≡ is_named (x.end + 1) (y ∷ ys) → ⊥
+ends_first l m x y xs ys a b same less h =
+    let off : leb (x.end + 1) x.end ≡ false = lt-leb (x.end + 1) x.end (omega arith) in
+    let rest : is_named (x.end + 1) xs ≡ false = none_block (x.end + 2) (x.end + 1) xs a.2 (omega arith) in
+    let out : is_named (x.end + 1) (x ∷ xs) ≡ false = rw (off, rest) (nothing (leb x.start (x.end + 1))) in
+    let begun : leb y.start (x.end + 1) ≡ true = le-leb y.start (x.end + 1) (omega (arith, same, a.1)) in
+    let on : leb (x.end + 1) y.end ≡ true = le-leb (x.end + 1) y.end (omega (arith, less)) in
+    let there : is_named (x.end + 1) (y ∷ ys) ≡ true = rw (begun, on) refl in
+    different there out (sym h)
   where
-    least : (a b : ℕ) → IsLeBy nat_cmp a b → a ≤ b
-    least a b le =
-        ⊎_elim (λ (e : ltb b a ≡ true).
-        let more : b < a = grind (arith, nat_tests, e) in
-        let is : Greater ≡ nat_cmp a b = nat_cmp_is a b Greater more in
-        let not_le = rw (← is) at le in
-        absurd (cc))
-        (λ (e : ltb b a ≡ false). grind (arith, nat_tests, e))
-        (cases_Bool (ltb b a))
+    nothing : (c : Bool) → ((c && false) || false) ≡ false
+    nothing true = refl
+    nothing false = refl
+
+pub same_blocks : (l m : ℕ) (xs ys : List GapAckBlock) → AreRuns l xs → AreRuns m ys
+    → ((o : ℕ) → is_named o xs ≡ is_named o ys) → xs ≡ ys
+same_blocks l m [] [] a b h = refl
+same_blocks l m [] (y ∷ ys) a b h = absurd (different (first_in y ys b.1) refl (sym (h y.start)))
+same_blocks l m (x ∷ xs) [] a b h = absurd (different (first_in x xs a.1) refl (h x.start))
+same_blocks l m (x ∷ xs) (y ∷ ys) a b h =
+    let first : x.start ≡ y.start = begins (cases_lt x.start y.start) (cases_lt y.start x.start) in
+    let last : x.end ≡ y.end = ends first (cases_lt x.end y.end) (cases_lt y.end x.end) in
+    let tails : xs ≡ ys = same_blocks (x.end + 2) (y.end + 2) xs ys a.2 b.2 (λ o. tail o first last) in
+    whole first last tails
+  where
+    begins : (x.start < y.start ⊎ y.start ≤ x.start) → (y.start < x.start ⊎ x.start ≤ y.start) → x.start ≡ y.start
+    begins (inl less) c =
+        absurd (different (first_in x xs a.1)
+        (none_block y.start x.start (y ∷ ys) (omega arith, b.1, b.2) less) (h x.start))
+    begins (inr w) (inl less) =
+        absurd (different (first_in y ys b.1)
+        (none_block x.start y.start (x ∷ xs) (omega arith, a.1, a.2) less) (sym (h y.start)))
+    begins (inr w) (inr v) = omega (arith, w, v)
+
+    ends : x.start ≡ y.start → (x.end < y.end ⊎ y.end ≤ x.end) → (y.end < x.end ⊎ x.end ≤ y.end)
+        → x.end ≡ y.end
+    ends first (inl less) c = absurd (ends_first l m x y xs ys a b first less (h (x.end + 1)))
+    ends first (inr w) (inl less) = absurd (ends_first m l y x ys xs b a (sym first) less (sym (h (y.end + 1))))
+    ends first (inr w) (inr v) = omega (arith, w, v)
+
+    past : {u v : Bool} (c d : Bool) → ((c && false) || u) ≡ ((d && false) || v) → u ≡ v
+    past true true e = e
+    past true false e = e
+    past false true e = e
+    past false false e = e
+
+    tail : (o : ℕ) → x.start ≡ y.start → x.end ≡ y.end → is_named o xs ≡ is_named o ys
+    tail o first last =
+        ⊎_elim
+        (λ (w : o < x.end + 2).
+        none_block (x.end + 2) o xs a.2 w ∙ sym (none_block (y.end + 2) o ys b.2 (omega (arith, w, last))))
+        (λ (g : x.end + 2 ≤ o).
+        let offx : leb o x.end ≡ false = lt-leb o x.end (omega (arith, g)) in
+        let offy : leb o y.end ≡ false = lt-leb o y.end (omega (arith, g, last)) in
+        let all : ((leb x.start o && leb o x.end) || is_named o xs) ≡ ((leb y.start o && leb o y.end) || is_named o ys) =
+        h o in
+        past (leb x.start o) (leb y.start o) (rw (offx, offy) at all))
+        (cases_lt o (x.end + 2))
+
+    whole : x.start ≡ y.start → x.end ≡ y.end → xs ≡ ys → x ∷ xs ≡ y ∷ ys
+    whole first last tails =
+        ap (λ f. block f x.end ∷ xs) first ∙ ap (λ e. block y.start e ∷ xs) last ∙ ap (λ zs. y ∷ zs) tails

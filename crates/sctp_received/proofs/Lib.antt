@@ -1,6 +1,8 @@
 pub mod GapAckBlocks
-pub mod KeptRuns
+pub mod Keys
 pub mod LastReceived
-pub mod Lists
-pub mod Places
-pub mod SpelledRuns
+pub mod Leaving
+pub mod Pushed
+pub mod Taken
+pub mod ToldBlocks
+pub mod Turned

@@ -1,2 +1,3 @@
+pub mod Blocks
 pub mod Received
-pub mod Runs
+pub mod TsnRanges

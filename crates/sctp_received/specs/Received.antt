@@ -1,17 +1,13 @@
 -- The TSNs that came past the last one in order, the cumulative TSN (RFC 4960 sections 3.3.4 and 6.2).
-use Rattle.std.specs.Prelude.{◌≡◌, ℕ, zero, suc, ◌<◌, ◌≤◌, ◌+◌, ◌^◌, ◌==◌, ◌&&◌, not, nat_lt, nat_le}
+use Rattle.std.specs.Prelude.{◌≡◌, ℕ, zero, suc, ◌≤◌, ◌+◌, ◌==◌, ◌&&◌, not, nat_lt, nat_le}
 use Rattle.std.specs.Prelude.{if◌then◌else◌, Bool, true, false, List, [], ◌∷◌, ◌++◌, Option, Some, None, fold}
-use Rattle.std.specs.List.{list_any, All, AllByRecursion}
+use Rattle.std.specs.List.{list_any, AllByRecursion}
 use Rattle.std.specs.Ordering.{nat_cmp}
 use Rattle.std.specs.BTreeMap.{is_at}
 use Rattle.std.specs.BTreeSet.{insert_key}
 use Rattle.std.specs.Set.{remove_key}
 use Rattle.sctp_serial.specs.Serial.{tsn_past, tsn_after}
 use Rattle.sctp_wire_types.specs.declared.chunk.GapAckBlock.{GapAckBlock}
-
--- TSNs are numbers of 32 bits
-abbrev pub AreTsns : List ℕ → Type 0
-AreTsns tsns = All (λ t. t < 2 ^ 32) tsns
 
 abbrev pub is_held : ℕ → List ℕ → Bool
 is_held tsn tsns = list_any (is_at (nat_cmp tsn)) tsns

@@ -1,8 +1,9 @@
-//! The TSNs that came and are held past the last one in order, and the gap ack blocks that say them.
+//! The TSNs that came and are held past the last one in order, as ranges, and the gap ack blocks that say them.
 #![tactic(auto)]
 
-mod few_runs;
+mod gap_blocks;
+mod ranges;
 mod receive_queue;
-mod runs;
 
+pub use ranges::Ranges;
 pub use receive_queue::ReceiveQueue;
