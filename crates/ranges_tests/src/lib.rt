@@ -1,7 +1,9 @@
-//! Tests of the set of TSNs as ranges: values from outside of the proofs, and that each call succeeds where memory is
-//! ample.
+//! Tests of the set of TSNs as ranges, and of members among places: values from outside of the proofs, and that each
+//! call succeeds where memory is ample.
 #![tactic(auto)]
 
+#[cfg(test)]
+mod candidates;
 #[cfg(test)]
 mod leaving;
 #[cfg(test)]

@@ -1,0 +1,3 @@
+pub mod LessNumbers
+pub mod Members
+pub mod Standing
