@@ -3,7 +3,7 @@ use Rattle.std.proofs.Common.{◌≡◌, ◌≢◌, sym, ap, ◌∙◌, subst, �
 use Rattle.sctp_wire_types.specs.declared.error.Error.{Error}
 use Rattle.sctp_assoc.specs.Calls.{RefusesOrLacksMemory}
 use Rattle.sctp_driver.specs.Driving.{Driving}
-use Rattle.sctp_c.specs.Codes.{code_of}
+use Rattle.sctp_slots.specs.Codes.{code_of}
 use Rattle.sctp_c.specs.Slots.{OnHeld}
 use Rattle.sctp_c.proofs.Refusals.{when_done, when_unchanged}
 

@@ -1,4 +1,3 @@
-mod AsBox
 mod DriversLeft
 mod EndpointEvents
 mod Listings

@@ -5,7 +5,7 @@ use Rattle.std.proofs.lemmas.Option.{none-some}
 use Rattle.std.specs.Global.{Vec}
 use Rattle.sctp_wire_types.specs.declared.error.Error.{Error}
 use Rattle.sctp_assoc.specs.Calls.{RefusesOrLacksMemory}
-use Rattle.sctp_c.specs.Codes.{refusal_code}
+use Rattle.sctp_slots.specs.Codes.{refusal_code}
 use Rattle.sctp_c.specs.Lists.{Lists, ListsNothing, ListsUnless}
 
 pub when_listed : (answer : Result (Vec ℕ) Error) (refusal : Option Error) (ids : List ℕ) (code : ℕ)

@@ -2,7 +2,7 @@
 use Rattle.std.proofs.Common.{◌≡◌, refl, ap, arith, Result, Ok, Err}
 use Rattle.sctp_wire_types.specs.declared.error.Error.{Error}
 use Rattle.sctp_wire_types.specs.declared.error.Error.TheVariants as errors
-use Rattle.sctp_c.specs.Codes.{code_of, refusal_code}
+use Rattle.sctp_slots.specs.Codes.{code_of, refusal_code}
 
 -- only a reason that is too long has the code 27
 long_code : (e : Error) → refusal_code e ≡ 27 → e ≡ errors.ErrOutboundPacketTooLarge

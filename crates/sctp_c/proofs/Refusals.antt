@@ -17,7 +17,8 @@ use Rattle.sctp_driver.specs.declared.sending.PollAnswer.TheVariants as sendings
 use Rattle.sctp_driver.specs.Driving.{Driving, KeptMessage}
 use Rattle.sctp_driver.specs.Messages.{GivesAt, Reads, index_of}
 use Rattle.sctp_driver.specs.Sending.{Sends, Takes}
-use Rattle.sctp_c.specs.Codes.{answer_in, code_of, code_with, read_by, read_code, refusal_code, sent_by, sent_code}
+use Rattle.sctp_slots.specs.Codes.{code_of, refusal_code}
+use Rattle.sctp_c.specs.Codes.{answer_in, code_with, read_by, read_code, sent_by, sent_code}
 use Rattle.sctp_assoc.specs.Timeouts.{after_timeouts}
 use Rattle.sctp_driver.specs.Driving.{with_association}
 use Rattle.sctp_c.specs.Slots.{IsCode, IsCodeOrLacksMemory, IsPlaced, OnHeld}

@@ -1,11 +1,7 @@
 -- What a call answers to C, as a number, and what the numbers that it wrote stand for then.
-use Rattle.std.specs.Prelude.{◌≡◌, ℕ, ◌+◌, ◌==◌, if◌then◌else◌, Option, Some, None, Result, Ok, Err}
+use Rattle.std.specs.Prelude.{◌≡◌, ℕ, ◌==◌, if◌then◌else◌, Option, Some, None, Result, Ok, Err}
 use Rattle.sctp_wire_types.specs.declared.error.Error.{Error}
-use Rattle.sctp_wire_types.specs.declared.error.Error.TheVariants as errors
 use Rattle.sctp_wire_types.specs.declared.ids.PayloadProtocolIdentifier.{PayloadProtocolIdentifier}
-use Rattle.sctp_wire_types.specs.declared.reliability.ReliabilityType.{ReliabilityType}
-use Rattle.sctp_wire_types.specs.declared.reliability.ReliabilityType.TheVariants as kinds
-use Rattle.sctp_wire_types.specs.Errors.{refusal_number}
 use Rattle.sctp_wire_types.specs.Ids.{identifier_of}
 use Rattle.sctp_parts.specs.declared.shared.EndpointEvent.{EndpointEvent}
 use Rattle.sctp_parts.specs.Shared.{drained_event}
@@ -15,18 +11,9 @@ use Rattle.sctp_driver.specs.declared.sending.PollAnswer.{PollAnswer}
 use Rattle.sctp_driver.specs.declared.sending.PollAnswer.TheVariants as sendings
 use Rattle.sctp_driver.specs.declared.tags.DatagramAnswer.{DatagramAnswer}
 use Rattle.sctp_driver.specs.declared.tags.DatagramAnswer.TheVariants as fates
+use Rattle.sctp_slots.specs.Codes.{refusal_code}
 
--- 2 for want of memory, and else 5 and the number of the refusal
-abbrev pub refusal_code : Error → ℕ
-refusal_code errors.ErrNoMemory = 2
-refusal_code e = 5 + refusal_number e
-
--- 0 where the call was done
-abbrev pub code_of : {T : Type 0} → Result T Error → ℕ
-code_of (Ok answer) = 0
-code_of (Err e) = refusal_code e
-
--- the same of a call whose answer has a code itself
+-- the code of a call whose answer has a code itself
 abbrev pub code_with : {T : Type 0} → (T → ℕ) → Result T Error → ℕ
 code_with code (Ok answer) = code answer
 code_with code (Err e) = refusal_code e
@@ -90,6 +77,3 @@ endpoint_event_by code = if code == 0 then Some drained_event else None
 -- what a write names as its payload protocol identifier: the greatest number of 32 bits is that of the stream
 abbrev pub payload_type_by : ℕ → Option PayloadProtocolIdentifier
 payload_type_by number = if number == 4294967295 then None else Some (identifier_of number)
-
-abbrev pub reliability_by : ℕ → ReliabilityType
-reliability_by kind = if kind == 1 then kinds.Rexmit else if kind == 2 then kinds.Timed else kinds.Reliable

@@ -1,24 +1,15 @@
 -- The numbers of events.
 use Rattle.std.specs.Prelude.{◌≡◌, ℕ, Option, Some, None}
-use Rattle.sctp_wire_types.specs.declared.error.Error.TheVariants as errors
 use Rattle.sctp_wire_types.specs.declared.event.StreamEvent.{StreamEvent}
 use Rattle.sctp_wire_types.specs.declared.event.StreamEvent.TheVariants as happenings
 use Rattle.sctp_wire_types.specs.declared.event.StreamResetError.{StreamResetError}
 use Rattle.sctp_wire_types.specs.declared.event.StreamResetError.TheVariants as failures
-use Rattle.sctp_streams.specs.declared.event.AssociationError.{AssociationError}
-use Rattle.sctp_streams.specs.declared.event.AssociationError.TheVariants as reasons
 use Rattle.sctp_streams.specs.declared.event.Event.{Event}
 use Rattle.sctp_streams.specs.declared.event.Event.TheVariants as events
 use Rattle.sctp_streams.specs.declared.stats.DataChannelStats.{DataChannelStats}
+use Rattle.sctp_slots.specs.Numbers.{reason_number}
 use Rattle.sctp_c.specs.declared.events.Counters.{Counters}
 use Rattle.sctp_c.specs.declared.events.Told.{Told}
-
-abbrev pub reason_number : AssociationError → ℕ
-reason_number (reasons.HandshakeFailed errors.ErrHandshakeInitAck) = 1
-reason_number (reasons.HandshakeFailed errors.ErrHandshakeCookieEcho) = 2
-reason_number reasons.AssociationClosed = 3
-reason_number reasons.ReceiveBufferExhausted = 4
-reason_number reason = 5
 
 -- how the reset of a stream failed
 abbrev pub failure_number : StreamResetError → ℕ

@@ -2,7 +2,7 @@
 use Rattle.std.specs.Prelude.{◌≡◌, ◌⊎◌, ℕ, List, if◌then◌else◌, length, nat_lt, Option, Some, None}
 use Rattle.sctp_wire_types.specs.declared.error.Error.{Error}
 use Rattle.sctp_driver.specs.Messages.{put_front}
-use Rattle.sctp_c.specs.Codes.{refusal_code}
+use Rattle.sctp_slots.specs.Codes.{refusal_code}
 
 -- the identifiers stand at the front of the buffer where it has room for them all; how many there are is written too
 abbrev pub Lists : List ℕ → ℕ → List ℕ → List ℕ → ℕ → Type 0

@@ -2,7 +2,7 @@
 use Rattle.std.specs.Prelude.{◌≡◌, ◌⊎◌, ℕ, Option, Some, None, Result, Ok, Err}
 use Rattle.sctp_wire_types.specs.declared.error.Error.{Error}
 use Rattle.sctp_driver.specs.Driving.{Driving}
-use Rattle.sctp_c.specs.Codes.{refusal_code}
+use Rattle.sctp_slots.specs.Codes.{refusal_code}
 
 -- the slot holds a driver before and after, and between them this is so
 abbrev pub OnHeld : Option Driving → Option Driving → (Driving → Driving → Type 0) → Type 0

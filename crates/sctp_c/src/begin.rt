@@ -9,15 +9,14 @@ ghost use Rattle.sctp_assoc.specs.Created.{client, create_refusal, join_refusal,
 ghost use Rattle.sctp_assoc.specs.Shutdown.{shutdown_begun, shutdown_refusal};
 ghost use Rattle.sctp_driver.specs.Aborting.{Aborts, IsTooLong};
 ghost use Rattle.sctp_driver.specs.Driving.{RunsOutOfMemory, begun_with, with_association};
-ghost use Rattle.sctp_c.specs.Codes.{code_of};
+ghost use Rattle.sctp_slots.specs.Codes.{code_of};
 ghost use Rattle.sctp_c.specs.Configs.{settings_of, token_chunk};
 ghost use Rattle.sctp_c.specs.Slots.{IsCode, IsCodeOrLacksMemory, IsPlaced, OnHeld, RefusesBy};
 ghost use Rattle.sctp_c.specs.Slots.{RefusesOrLacksMemoryBy};
 
-use crate::codes::{DONE, EMPTY_SLOT, NO_MEMORY, code_of, refusal_code};
 use crate::config::{Config, Identity, Token};
-use crate::slot::Slot;
 use sctp_driver::{Driver, Error};
+use sctp_slots::{DONE, EMPTY_SLOT, NO_MEMORY, Slot, code_of, refusal_code};
 use std::alloc::Global;
 
 // Puts a driver that was just made into a slot, in place of one that it held.

@@ -2,8 +2,8 @@
 ghost use Rattle.std.specs.Prelude.{◌≡◌, Err, IfOk, OnErr};
 ghost use Rattle.sctp_c.specs.Configs.{limit_of, settings_of, token_chunk};
 
-use crate::codes::DONE;
 use sctp_driver::{ChunkInit, Error, TransportConfig, token};
+use sctp_slots::DONE;
 use sctp_wire_types::List;
 use std::alloc::Global;
 

@@ -7,13 +7,13 @@ ghost use Rattle.sctp_driver.specs.declared.tags.DatagramAnswer.TheVariants as f
 ghost use Rattle.sctp_driver.specs.Driving.{RunsOutOfMemory, with_association};
 ghost use Rattle.sctp_driver.specs.Sending.{Sends, asked};
 ghost use Rattle.sctp_driver.specs.Tags.{answer_to, packet_in};
-ghost use Rattle.sctp_c.specs.Codes.{answer_in, code_of, fate_of, code_with, found_by, received_by};
+ghost use Rattle.sctp_slots.specs.Codes.{code_of};
+ghost use Rattle.sctp_c.specs.Codes.{answer_in, fate_of, code_with, found_by, received_by};
 ghost use Rattle.sctp_c.specs.Codes.{sent_by, sent_code};
 ghost use Rattle.sctp_c.specs.Slots.{OnAny, OnHeld};
 
-use crate::codes::{DONE, EMPTY_SLOT, NO_ROOM, NOTHING, code_of, refusal_code};
-use crate::slot::Slot;
 use sctp_driver::{DatagramAnswer, Error, PollAnswer};
+use sctp_slots::{DONE, EMPTY_SLOT, NO_ROOM, NOTHING, Slot, code_of, refusal_code};
 use std::alloc::Global;
 
 fn fate_of(received: DatagramAnswer) -> u32

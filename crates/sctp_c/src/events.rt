@@ -5,14 +5,13 @@ ghost use Rattle.sctp_assoc.specs.Calls.{event_polled};
 ghost use Rattle.sctp_assoc.specs.Shutdown.{endpoint_event_polled};
 ghost use Rattle.sctp_driver.specs.Driving.{with_association};
 ghost use Rattle.sctp_c.specs.Codes.{endpoint_event_by};
-ghost use Rattle.sctp_c.specs.Events.{counters_of, event_with, failure_number, happening, reason_number};
+ghost use Rattle.sctp_c.specs.Events.{counters_of, event_with, failure_number, happening};
 ghost use Rattle.sctp_c.specs.Events.{told_of, Tells};
 ghost use Rattle.sctp_c.specs.Slots.{OnAny};
 
-use crate::codes::{DONE, EMPTY_SLOT, NOTHING, refusal_code};
-use crate::slot::Slot;
-use sctp_assoc::{AssociationError, DataChannelStats, StreamResetError};
-use sctp_driver::{EndpointEvent, Error, Event, StreamEvent};
+use sctp_assoc::{DataChannelStats, StreamResetError};
+use sctp_driver::{EndpointEvent, Event, StreamEvent};
+use sctp_slots::{DONE, EMPTY_SLOT, NOTHING, Slot, reason_of, refusal_code};
 use std::alloc::Global;
 
 /// What a stream counted.
@@ -67,31 +66,9 @@ const OTHER: u32 = 13;
 
 const NO_REASON: u32 = 0;
 
-const NO_INIT_ACK: u32 = 1;
-
-const NO_COOKIE_ACK: u32 = 2;
-
-const CLOSED: u32 = 3;
-
-const BUFFER_EXHAUSTED: u32 = 4;
-
-const OTHER_REASON: u32 = 5;
-
 const RESET_DENIED: u32 = 6;
 
 const RESET_FAILED_OTHERWISE: u32 = 7;
-
-fn reason_of(reason: AssociationError) -> u32
-    ensures { result ≡ reason_number reason }
-{
-    match reason {
-        AssociationError::HandshakeFailed(Error::ErrHandshakeInitAck) => NO_INIT_ACK,
-        AssociationError::HandshakeFailed(Error::ErrHandshakeCookieEcho) => NO_COOKIE_ACK,
-        AssociationError::AssociationClosed => CLOSED,
-        AssociationError::ReceiveBufferExhausted => BUFFER_EXHAUSTED,
-        _ => OTHER_REASON,
-    }
-}
 
 fn failure_of(failure: StreamResetError) -> u32
     ensures { result ≡ failure_number failure }

@@ -7,24 +7,19 @@
 #![tactic(auto)]
 
 mod begin;
-mod codes;
 mod config;
 mod datagrams;
 mod events;
-mod handle;
 mod path;
 mod questions;
 mod release;
 mod settings;
-mod slot;
 mod stats;
 mod streams;
 mod watch;
 
 pub use config::{Config, Identity, Token};
 pub use events::{Counters, Told};
-pub use handle::Handle;
 pub use path::PathValues;
-pub use slot::Slot;
 pub use stats::Totals;
 pub use watch::Watch;

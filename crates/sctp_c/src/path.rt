@@ -4,9 +4,8 @@ ghost use Rattle.sctp_driver.specs.Paths.{path_of};
 ghost use Rattle.sctp_c.specs.Slots.{OnAny};
 ghost use Rattle.sctp_c.specs.Totals.{path_values};
 
-use crate::codes::{DONE, EMPTY_SLOT};
-use crate::slot::Slot;
 use sctp_driver::Path;
+use sctp_slots::{DONE, EMPTY_SLOT, Slot};
 use std::alloc::Global;
 
 /// How much the path to the peer takes, and how much is under way on it.

@@ -5,8 +5,7 @@ ghost use Rattle.sctp_assoc.specs.Calls.{is_established};
 ghost use Rattle.sctp_assoc.specs.Closing.{is_closed_state};
 ghost use Rattle.sctp_c.specs.Slots.{OnAny};
 
-use crate::codes::{DONE, EMPTY_SLOT};
-use crate::slot::Slot;
+use sctp_slots::{DONE, EMPTY_SLOT, Slot};
 use std::alloc::Global;
 
 /// Whether the association is established.

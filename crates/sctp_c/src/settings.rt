@@ -8,9 +8,8 @@ ghost use Rattle.sctp_driver.specs.Streams.{asked_of, buffered_on};
 ghost use Rattle.sctp_c.specs.Codes.{Writes, WritesNumber};
 ghost use Rattle.sctp_c.specs.Slots.{OnAny, OnHeld, RefusesBy};
 
-use crate::codes::{DONE, EMPTY_SLOT, code_of, refusal_code};
-use crate::slot::Slot;
 use sctp_driver::{Error, PayloadProtocolIdentifier};
+use sctp_slots::{DONE, EMPTY_SLOT, Slot, code_of, refusal_code};
 use std::alloc::Global;
 
 /// Sets how long a message may be.

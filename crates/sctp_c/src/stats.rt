@@ -3,16 +3,16 @@ ghost use Rattle.std.specs.Prelude.{◌≡◌, ◌-◌, ◌^◌, IfErr, IfOk, No
 ghost use Rattle.sctp_streams.specs.Streams.{live_ids};
 ghost use Rattle.sctp_assoc.specs.Calls.{failed_refusal};
 ghost use Rattle.sctp_driver.specs.Streams.{asked_of};
-ghost use Rattle.sctp_c.specs.Codes.{Writes, refusal_code};
+ghost use Rattle.sctp_slots.specs.Codes.{refusal_code};
+ghost use Rattle.sctp_c.specs.Codes.{Writes};
 ghost use Rattle.sctp_c.specs.Events.{counters_of};
 ghost use Rattle.sctp_c.specs.Lists.{Lists, ListsNothing, ListsUnless};
 ghost use Rattle.sctp_c.specs.Slots.{OnAny};
 ghost use Rattle.sctp_c.specs.Totals.{totals_of};
 
-use crate::codes::{DONE, EMPTY_SLOT, NO_ROOM, refusal_code};
 use crate::events::{Counters, counters_of};
-use crate::slot::Slot;
 use sctp_driver::{AssociationStats, Error};
+use sctp_slots::{DONE, EMPTY_SLOT, NO_ROOM, Slot, refusal_code};
 use std::alloc::Global;
 
 /// What an association counted since it was made.

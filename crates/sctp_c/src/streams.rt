@@ -8,13 +8,14 @@ ghost use Rattle.sctp_assoc.specs.Calls.{stopped, stream_refusal, written};
 ghost use Rattle.sctp_driver.specs.Driving.{RunsOutOfMemory, with_association};
 ghost use Rattle.sctp_driver.specs.Messages.{Reads, with_message};
 ghost use Rattle.sctp_driver.specs.Streams.{refusal_to_stop, stream_closed, with_stopped};
-ghost use Rattle.sctp_c.specs.Codes.{answer_in, code_of, code_with, found_by};
-ghost use Rattle.sctp_c.specs.Codes.{payload_type_by, read_by, read_code, reliability_by};
+ghost use Rattle.sctp_slots.specs.Codes.{code_of};
+ghost use Rattle.sctp_slots.specs.Numbers.{reliability_by};
+ghost use Rattle.sctp_c.specs.Codes.{answer_in, code_with, found_by};
+ghost use Rattle.sctp_c.specs.Codes.{payload_type_by, read_by, read_code};
 ghost use Rattle.sctp_c.specs.Slots.{OnAny, OnHeld, RefusesBy, RefusesOrLacksMemoryBy};
 
-use crate::codes::{DONE, EMPTY_SLOT, NO_ROOM, NOTHING, code_of, refusal_code};
-use crate::slot::Slot;
-use sctp_driver::{Error, PayloadProtocolIdentifier, ReadAnswer, ReliabilityType};
+use sctp_driver::{Error, PayloadProtocolIdentifier, ReadAnswer};
+use sctp_slots::{DONE, EMPTY_SLOT, NO_ROOM, NOTHING, Slot, code_of, refusal_code, reliability_of};
 use std::alloc::Global;
 
 /// Makes a stream on this side.
@@ -214,16 +215,6 @@ pub extern "C" fn sctp_assoc_close_stream(slot: &mut Slot, alloc: Global, stream
     let answer = driver.close_stream(stream);
     slot.put(driver);
     code_of(answer)
-}
-
-fn reliability_of(kind: u32) -> ReliabilityType
-    ensures { result ≡ reliability_by kind }
-{
-    match kind {
-        1 => ReliabilityType::Rexmit,
-        2 => ReliabilityType::Timed,
-        _ => ReliabilityType::Reliable,
-    }
 }
 
 /// Sets how messages of a stream are sent.

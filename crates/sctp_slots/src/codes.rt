@@ -1,23 +1,24 @@
 // What a call answers to C, as a number.
 ghost use Rattle.std.specs.Prelude.{◌≡◌, ◌↔◌, IsOk};
-ghost use Rattle.sctp_c.specs.Codes.{code_of, refusal_code};
+ghost use Rattle.sctp_slots.specs.Codes.{code_of, refusal_code};
 
 use sctp_driver::Error;
 
-pub(crate) const DONE: u32 = 0;
-/// The slot is empty.
-pub(crate) const EMPTY_SLOT: u32 = 1;
-
-pub(crate) const NO_MEMORY: u32 = 2;
+/// The call was done.
+pub const DONE: u32 = 0;
+/// A slot is empty.
+pub const EMPTY_SLOT: u32 = 1;
+/// Memory was refused.
+pub const NO_MEMORY: u32 = 2;
 /// No datagram is due, no event waits, no message is ready, no stream is to be accepted, or no timer runs.
-pub(crate) const NOTHING: u32 = 3;
+pub const NOTHING: u32 = 3;
 /// The buffer is shorter than what is next; the call says how long that is.
-pub(crate) const NO_ROOM: u32 = 4;
+pub const NO_ROOM: u32 = 4;
 /// A refusal has this and its number, 1 to 23 (`Error::number`).
 const REFUSED: u32 = 5;
 
 /// The code of an error.
-pub(crate) fn refusal_code(error: Error) -> u32
+pub fn refusal_code(error: Error) -> u32
     ensures { result ≡ refusal_code error }
 {
     match error {
@@ -27,7 +28,7 @@ pub(crate) fn refusal_code(error: Error) -> u32
 }
 
 /// The code of a call that gives nothing else.
-pub(crate) fn code_of(answer: Result<(), Error>) -> u32
+pub fn code_of(answer: Result<(), Error>) -> u32
     ensures { result ≡ code_of answer }
 {
     match answer {

@@ -15,8 +15,8 @@ use Rattle.std.proofs.Crossing as heap
 use Rattle.std.proofs.alloc.Global.TheSendSync as allocator
 use Rattle.sctp_driver.specs.contracts.driver.Driver as Driver
 use Rattle.sctp_driver.proofs.driver.Driver.TheSendSync.{the_send as driver}
-use Rattle.sctp_c.specs.Handles.{handle_owns}
-use Rattle.sctp_c.specs.contracts.handle.Handle.{the_row, the_type}
+use Rattle.sctp_slots.specs.Handles.{handle_owns}
+use Rattle.sctp_slots.specs.contracts.handle.Handle.{the_row, the_type}
 
 quiet : {D X : Type 0} (onto : D → X) (e : Exit X) → Quiet e → Quiet (hidden (under onto e))
 quiet onto unchanged q = λ x w. tt

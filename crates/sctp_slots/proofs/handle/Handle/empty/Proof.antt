@@ -1,6 +1,6 @@
 -- `empty` puts a pointer beside an allocator. It owns no driver.
-use mathlib.Core.Path.{◌≡◌, refl, sym, subst, ap, ◌∙◌}
-use Rattle.std.proofs.Common.{Option, None}
+use mathlib.Core.Path.{refl, sym, subst, ap, ◌∙◌}
+use Rattle.std.proofs.Common.{None}
 use mathlib.Core.List.{List, [], ◌∷◌, ◌++◌}
 use seplogic.Ra.Ura.{Ura}
 use mathlib.Core.Bool.{Bool, true, false, ◌&&◌}
@@ -39,9 +39,9 @@ use types.Kit.{
   suffices,
   done,
 }
-use types.Part.{whole, sub, agg}
-use types.Run.{stop, fld, no_more, and_then, of_opd, returns, enter}
-use types.ByLocal.{alloc_all, pass_all, free_all, look_at, get, get_in, sets}
+use types.Part.{agg}
+use types.Run.{no_more, and_then, returns, enter}
+use types.ByLocal.{alloc_all, pass_all, free_all, look_at, get, sets}
 use denote.Exit.{yes}
 use denote.RattleType.{Valss}
 use denote.RawPtr.{Ptr, RawPtr, block_ptr, null_ptr, ptr_val}
@@ -55,12 +55,12 @@ use denote.Triple.Walked.{says, Stays, stay_dropped, walk_of, ends_at, Goes-drop
 use Rattle.std.proofs.alloc.Calls.{α, Fits, handle_tells}
 use Rattle.std.proofs.BoxSteps.Form.{box_ty, box_typed}
 use Rattle.std.specs.contracts.alloc.Global as Heap
-use Rattle.sctp_c.specs.contracts.handle.Handle as Handle
-use Rattle.sctp_c.proofs.AsBox.{E}
-use Rattle.sctp_c.specs.contracts.handle.Handle.empty as F
-use Rattle.sctp_c.specs.contracts.handle.Handle.empty.Key.{name as #self}
-use Rattle.sctp_c.proofs.handle.Handle.empty.Statement as stated
-use Rattle.sctp_c.proofs.handle.Handle.empty.Code as code
+use Rattle.sctp_slots.specs.contracts.handle.Handle as Handle
+use Rattle.sctp_slots.proofs.AsBox.{E}
+use Rattle.sctp_slots.specs.contracts.handle.Handle.empty as F
+use Rattle.sctp_slots.specs.contracts.handle.Handle.empty.Key.{name as #self}
+use Rattle.sctp_slots.proofs.handle.Handle.empty.Statement as stated
+use Rattle.sctp_slots.proofs.handle.Handle.empty.Code as code
 
 and_tt : (b : Bool) → T b → T (b && true)
 and_tt true t = tt

@@ -9,7 +9,7 @@ use Rattle.std.proofs.alloc.Global.TheLaws as heap
 use Rattle.sctp_driver.specs.contracts.driver.Driver as Engine
 use Rattle.sctp_driver.proofs.driver.Driver.TheLaws as engine
 use Rattle.box_parts.specs.contracts.Parts as Parts
-use Rattle.sctp_c.specs.contracts.handle.Handle as Handle
+use Rattle.sctp_slots.specs.contracts.handle.Handle as Handle
 
 abbrev pub E : Bx
 E = record {

@@ -1,6 +1,6 @@
 // A driver behind a pointer that names no type, so that C can hold it.
 ghost use Rattle.std.specs.Prelude.{◌≡◌, IsSome, None, Option, Some};
-ghost use Rattle.sctp_c.specs.Handles.{driver_coded, handle_owns};
+ghost use Rattle.sctp_slots.specs.Handles.{driver_coded, handle_owns};
 ghost use Rattle.sctp_driver.specs.Driving.{Driving};
 
 use box_parts::Parts;

@@ -32,7 +32,7 @@ impl Slot {
     }
 
     /// Takes the driver out and leaves the slot empty; None where it is empty. Whoever takes it puts it back.
-    pub(crate) fn take(&mut self, alloc: Global) -> Option<Box<Driver>>
+    pub fn take(&mut self, alloc: Global) -> Option<Box<Driver>>
         ensures none { IfNone result (self.old.handle.driver ≡ None) }
         ensures some { IfSome result (λ driver. self.old.handle.driver ≡ Some driver.value) }
         ensures empty { self.new.handle.driver ≡ None }
@@ -46,7 +46,7 @@ impl Slot {
     }
 
     /// Puts a driver in. The slot is empty before, or what it held is lost.
-    pub(crate) fn put(&mut self, driver: Box<Driver>)
+    pub fn put(&mut self, driver: Box<Driver>)
         ensures { self.new.handle.driver ≡ Some driver.value }
     {
         *self = Slot {

@@ -1,0 +1,4 @@
+mod AsBox
+mod Both
+mod Opened
+mod Polled

@@ -1,0 +1,3 @@
+pub mod Codes
+pub mod Handles
+pub mod Numbers
