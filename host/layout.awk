@@ -1,13 +1,20 @@
-# Prints how the structs of crates/sctp_c/src are laid out, by the rules of C, as host/layout.txt lists the header's.
+# Prints how the structs of crates/sctp_slots/src and crates/sctp_c/src are laid out, by the rules of C, as
+# host/layout.txt lists the header's; or, if `library` is `channels`, those of crates/sctp_channels_c/src, as
+# host/layout_channels.txt does.
 BEGIN {
     split("bool u8 u16 u32 u64 usize *mut", types)
     split("1 1 2 4 8 8 8", sizes)
     for (k in types)
         size[types[k]] = align[types[k]] = sizes[k]
     align["Global"] = 1
-    split("Slot Config Identity Token Counters Told Totals PathValues Watch", structs)
-    split("sctp_assoc sctp_assoc_config sctp_assoc_identity sctp_assoc_token sctp_assoc_counters sctp_assoc_event" \
-        " sctp_assoc_totals sctp_assoc_path_values sctp_assoc_watch", names)
+    if (library == "channels") {
+        split("ChannelsSlot Options Told Info", structs)
+        split("sctp_channels sctp_channels_options sctp_channels_event sctp_channels_info", names)
+    } else {
+        split("Slot Config Identity Token Counters Told Totals PathValues Watch", structs)
+        split("sctp_assoc sctp_assoc_config sctp_assoc_identity sctp_assoc_token sctp_assoc_counters" \
+            " sctp_assoc_event sctp_assoc_totals sctp_assoc_path_values sctp_assoc_watch", names)
+    }
     field_of["handle"] = "at"
 }
 

@@ -1,7 +1,7 @@
 /* The size of each struct of the header, and offset and size of each of its fields, as host/layout.txt lists them. The
- * Rust crate compares its own with the same list, and host/layout.awk those of crates/sctp_c. That no field is left out
- * here is seen as this is compiled: each struct is filled by the place of its fields, of which -Wextra wants neither
- * fewer nor more. */
+ * Rust crate compares its own with the same list, and host/layout.awk those of sctp_slots and sctp_c. That no field is
+ * left out here is seen as this is compiled: each struct is filled by the place of its fields, of which -Wextra wants
+ * neither fewer nor more. */
 #define SCTP_ASSOC_HEAP
 #include "sctp_assoc.h"
 
