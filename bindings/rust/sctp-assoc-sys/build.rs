@@ -1,25 +1,31 @@
 //! Finds the archive to link with: the file that `SCTP_ASSOC_ARCHIVE` names, else what `./library` built in the
-//! checkout in which this crate lies. On docs.rs, where nothing is linked, there need be none.
+//! checkout in which this crate lies. With the feature `channels` it is the one of `SCTP_CHANNELS_ARCHIVE` and of
+//! `./library channels`. On docs.rs, where nothing is linked, there need be none.
 use std::path::{Path, PathBuf};
 use std::{env, process};
 
 fn main() {
     let here = Path::new(env!("CARGO_MANIFEST_DIR"));
-    println!("cargo:rerun-if-env-changed=SCTP_ASSOC_ARCHIVE");
+    let (variable, file, command) = if env::var_os("CARGO_FEATURE_CHANNELS").is_some() {
+        ("SCTP_CHANNELS_ARCHIVE", "libsctp_channels.a", "./library channels")
+    } else {
+        ("SCTP_ASSOC_ARCHIVE", "libsctp_assoc.a", "./library")
+    };
+    println!("cargo:rerun-if-env-changed={variable}");
     println!("cargo:rerun-if-env-changed=DOCS_RS");
     if env::var_os("DOCS_RS").is_some() {
         return;
     }
-    let archive = match env::var_os("SCTP_ASSOC_ARCHIVE") {
+    let archive = match env::var_os(variable) {
         Some(named) => PathBuf::from(named),
-        None => here.join("../../../out/libsctp_assoc.a"),
+        None => here.join("../../../out").join(file),
     };
     println!("cargo:rerun-if-changed={}", archive.display());
     let name = archive.file_stem().and_then(|stem| stem.to_str()).and_then(|stem| stem.strip_prefix("lib"));
     let (Ok(path), Some(name)) = (archive.canonicalize(), name) else {
         eprintln!(
-            "no archive at {}: run ./library in a checkout of sctp_assoc, and let SCTP_ASSOC_ARCHIVE name the file that \
-             it prints; to build the documentation alone, set DOCS_RS",
+            "no archive at {}: run {command} in a checkout of sctp_assoc, and let {variable} name the file that it \
+             prints; to build the documentation alone, set DOCS_RS",
             archive.display()
         );
         process::exit(1);

@@ -8,14 +8,22 @@
 //!
 //! To be linked with, it needs the archive that `./library` builds in a checkout of `sctp_assoc`. It takes the file
 //! that the environment variable `SCTP_ASSOC_ARCHIVE` names, or finds it in the checkout in which it lies.
+//!
+//! With the feature `channels` it has the calls of `include/sctp_channels.h` besides: data channels (RFC 8831, RFC
+//! 8832), of which the same holds. Then it takes the archive that `./library channels` builds, which has both, and that
+//! the environment variable `SCTP_CHANNELS_ARCHIVE` names.
 #![no_std]
 #![deny(missing_docs, unsafe_op_in_unsafe_fn)]
 #![allow(non_camel_case_types)]
 
 mod calls;
+#[cfg(feature = "channels")]
+mod channels;
 mod codes;
 mod types;
 
 pub use calls::*;
+#[cfg(feature = "channels")]
+pub use channels::*;
 pub use codes::*;
 pub use types::*;

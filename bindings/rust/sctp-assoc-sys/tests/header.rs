@@ -1,10 +1,32 @@
-//! What is declared here is what the header of the checkout says. The archive is of the same release.
+//! What is declared here is what the headers of the checkout say. The archive is of the same release.
 #![allow(non_camel_case_types)]
 use sctp_assoc_sys::*;
 use std::mem::{size_of, size_of_val, MaybeUninit};
 use std::ptr::addr_of;
 
-const HEADER: &str = include_str!("../../../../include/sctp_assoc.h");
+/// A header, and what stands for it here.
+struct Declared {
+    header: &'static str,
+    /// The first letters of its names of numbers.
+    prefix: &'static str,
+    numbers: &'static str,
+    calls: &'static str,
+}
+
+const ASSOCIATION: Declared = Declared {
+    header: include_str!("../../../../include/sctp_assoc.h"),
+    prefix: "SCTP_ASSOC_",
+    numbers: include_str!("../src/codes.rs"),
+    calls: include_str!("../src/calls.rs"),
+};
+
+#[cfg(feature = "channels")]
+const CHANNELS: Declared = Declared {
+    header: include_str!("../../../../include/sctp_channels.h"),
+    prefix: "SCTP_CHANNELS_",
+    numbers: include_str!("../src/channels.rs"),
+    calls: include_str!("../src/channels.rs"),
+};
 
 /// The archive is of the release that this crate's manifest says.
 #[test]
@@ -15,15 +37,44 @@ fn the_archive_is_of_this_release() {
     assert_eq!(10_000 * next() + 100 * next() + next(), unsafe { sctp_assoc_version() });
 }
 
-/// The words of the header's lines that define a name of this crate as a number: the name and the number.
-fn numbers_of_header() -> impl Iterator<Item = (&'static str, &'static str)> {
-    HEADER.lines().filter_map(|line| {
-        let mut words = line.strip_prefix("#define ")?.split_whitespace();
-        let (name, number) = (words.next()?, words.next()?);
-        let is_named = name.starts_with("SCTP_ASSOC_") && !name.starts_with("SCTP_ASSOC_VERSION");
-        let is_number = number.parse::<u64>().is_ok() || number.ends_with("_MAX");
-        (is_named && is_number).then_some((name, number))
-    })
+impl Declared {
+    /// The words of the header's lines that define a name of this crate as a number: the name and the number.
+    fn numbers_of_header(&self) -> Vec<(&str, String)> {
+        let number_in = |line: &'static str| {
+            let mut words = line.strip_prefix("#define ")?.split_whitespace();
+            let (name, number) = (words.next()?, words.next()?);
+            let is_named = name.starts_with(self.prefix) && !name.starts_with("SCTP_ASSOC_VERSION");
+            let is_number = number.parse::<u64>().is_ok() || number.ends_with("_MAX");
+            (is_named && is_number).then(|| (name, number.to_string()))
+        };
+        sorted(self.header.lines().filter_map(number_in))
+    }
+
+    fn calls_of_header(&self) -> Vec<&str> {
+        let call_in = |line: &'static str| {
+            let rest = line.strip_prefix("sctp_assoc_code ").or_else(|| line.strip_prefix("uint32_t "))?;
+            rest.starts_with("sctp_").then(|| name_at(rest))
+        };
+        sorted(self.header.lines().filter_map(call_in))
+    }
+
+    /// Each number that the header names has the same name here, each call that it declares is declared here, and no
+    /// others are.
+    fn assert_same(&self) {
+        assert_eq!(sorted(self.numbers.lines().filter_map(number_of)), self.numbers_of_header());
+        let calls = self.calls.lines().filter_map(|line| line.trim().strip_prefix("pub fn ")).map(name_at);
+        assert_eq!(sorted(calls), self.calls_of_header());
+    }
+}
+
+fn sorted<T: Ord>(items: impl Iterator<Item = T>) -> Vec<T> {
+    let mut items: Vec<T> = items.collect();
+    items.sort();
+    items
+}
+
+fn name_at(text: &str) -> &str {
+    text.split('(').next().unwrap_or(text)
 }
 
 /// The number of a name here, in the words of C.
@@ -33,55 +84,41 @@ fn number_of(line: &str) -> Option<(&str, String)> {
     Some((name, number.replace("usize::MAX", "SIZE_MAX").replace("u32::MAX", "UINT32_MAX")))
 }
 
-/// Each number that the header names has the same name here, and no other has.
 #[test]
-fn numbers_are_those_of_the_header() {
-    let mut here: Vec<_> = include_str!("../src/codes.rs").lines().filter_map(number_of).collect();
-    let mut there: Vec<_> = numbers_of_header().map(|(name, number)| (name, number.to_string())).collect();
-    here.sort();
-    there.sort();
-    assert_eq!(here, there);
+fn numbers_and_calls_are_those_of_the_header() {
+    assert!(ASSOCIATION.calls_of_header().len() > 30 && ASSOCIATION.numbers_of_header().len() > 30);
+    ASSOCIATION.assert_same();
 }
 
-/// Each call that the header declares is declared here, and no other is.
+#[cfg(feature = "channels")]
 #[test]
-fn calls_are_those_of_the_header() {
-    let name_at = |text: &'static str| text.split('(').next().unwrap_or(text);
-    let in_header = |line: &'static str| {
-        let rest = line.strip_prefix("sctp_assoc_code ").or_else(|| line.strip_prefix("uint32_t "))?;
-        rest.starts_with("sctp_assoc_").then(|| name_at(rest))
+fn numbers_and_calls_of_channels_are_those_of_the_header() {
+    assert!(CHANNELS.calls_of_header().len() > 10 && CHANNELS.numbers_of_header().len() > 10);
+    CHANNELS.assert_same();
+}
+
+/// Adds the size of a struct and the place and size of each of its fields to a list, as `host/layout.txt` has them.
+macro_rules! layout {
+    ($listed:ident, $type:ident, $($field:ident),*) => {
+        let name = stringify!($type);
+        $listed += &format!("{name} {}\n", size_of::<$type>());
+        // SAFETY: each field of these structs may have all bytes 0.
+        let made: $type = unsafe { MaybeUninit::zeroed().assume_init() };
+        let $type { $($field: _),* } = &made; // no field is left out
+        $(
+            let offset = addr_of!(made.$field) as usize - addr_of!(made) as usize;
+            $listed += &format!("{name}.{} {} {}\n", stringify!($field), offset, size_of_val(&made.$field));
+        )*
     };
-    let mut there: Vec<_> = HEADER.lines().filter_map(in_header).collect();
-    let mut here: Vec<_> = include_str!("../src/calls.rs")
-        .lines()
-        .filter_map(|line| line.trim().strip_prefix("pub fn "))
-        .map(name_at)
-        .collect();
-    here.sort_unstable();
-    there.sort_unstable();
-    assert!(here.len() > 30);
-    assert_eq!(here, there);
 }
 
 /// Each struct is laid out as the header's, of which `host/layout.c` prints the list.
 #[test]
 fn structs_are_laid_out_as_in_the_header() {
     let mut listed = String::new();
-    macro_rules! layout {
-        ($type:ident, $($field:ident),*) => {
-            let name = stringify!($type);
-            listed += &format!("{name} {}\n", size_of::<$type>());
-            // SAFETY: each field of these structs may have all bytes 0.
-            let made: $type = unsafe { MaybeUninit::zeroed().assume_init() };
-            let $type { $($field: _),* } = &made; // no field is left out
-            $(
-                let offset = addr_of!(made.$field) as usize - addr_of!(made) as usize;
-                listed += &format!("{name}.{} {} {}\n", stringify!($field), offset, size_of_val(&made.$field));
-            )*
-        };
-    }
-    layout!(sctp_assoc, at, live);
+    layout!(listed, sctp_assoc, at, live);
     layout!(
+        listed,
         sctp_assoc_config,
         max_receive_buffer_size,
         max_send_message_size,
@@ -96,12 +133,13 @@ fn structs_are_laid_out_as_in_the_header() {
         max_init_retransmits,
         max_data_retransmits
     );
-    layout!(sctp_assoc_identity, tag, initial_tsn, cookie);
-    layout!(sctp_assoc_token, tag, initial_tsn, window, num_outbound_streams, num_inbound_streams, forward_tsn);
-    layout!(sctp_assoc_counters, messages_sent, bytes_sent, messages_received, bytes_received);
-    layout!(sctp_assoc_event, kind, reason, stream, counters);
-    layout!(sctp_assoc_totals, data_chunks, sacks, retransmission_timeouts, ack_timeouts, fast_retransmissions);
+    layout!(listed, sctp_assoc_identity, tag, initial_tsn, cookie);
+    layout!(listed, sctp_assoc_token, tag, initial_tsn, window, num_outbound_streams, num_inbound_streams, forward_tsn);
+    layout!(listed, sctp_assoc_counters, messages_sent, bytes_sent, messages_received, bytes_received);
+    layout!(listed, sctp_assoc_event, kind, reason, stream, counters);
+    layout!(listed, sctp_assoc_totals, data_chunks, sacks, retransmission_timeouts, ack_timeouts, fast_retransmissions);
     layout!(
+        listed,
         sctp_assoc_path_values,
         mtu,
         congestion_window,
@@ -111,6 +149,7 @@ fn structs_are_laid_out_as_in_the_header() {
         smoothed_round_trip_ms
     );
     layout!(
+        listed,
         sctp_assoc_watch,
         datagrams_sent,
         bytes_sent,
@@ -124,4 +163,26 @@ fn structs_are_laid_out_as_in_the_header() {
     // This crate names no heap of its own.
     let of_header = include_str!("../../../../host/layout.txt").lines().filter(|line| !line.contains("_block"));
     assert_eq!(listed.lines().collect::<Vec<_>>(), of_header.collect::<Vec<_>>());
+}
+
+#[cfg(feature = "channels")]
+#[test]
+fn structs_of_channels_are_laid_out_as_in_the_header() {
+    let mut listed = String::new();
+    layout!(listed, sctp_channels, at, live);
+    layout!(listed, sctp_channels_options, reliability, value, priority, id, unordered, negotiated);
+    layout!(listed, sctp_channels_event, kind, reason, id);
+    layout!(
+        listed,
+        sctp_channels_info,
+        reliability,
+        value,
+        state,
+        priority,
+        label_length,
+        protocol_length,
+        unordered,
+        negotiated
+    );
+    assert_eq!(listed, include_str!("../../../../host/layout_channels.txt"));
 }

@@ -141,7 +141,7 @@ impl Event {
 }
 
 impl Reason {
-    fn of(number: u32) -> Reason {
+    pub(crate) fn of(number: u32) -> Reason {
         match number {
             sys::SCTP_ASSOC_REASON_NO_INIT_ACK => Reason::NoInitAck,
             sys::SCTP_ASSOC_REASON_NO_COOKIE_ACK => Reason::NoCookieAck,

@@ -52,6 +52,8 @@
 //! # Ok::<(), Error>(())
 //! ```
 //!
+//! Data channels (RFC 8832) are in the module `channels`, with the cargo feature of that name.
+//!
 //! Moments are of `std::time::Instant`, so the crate needs `std`; `sctp-assoc-sys` does not.
 #![deny(missing_docs, unsafe_op_in_unsafe_fn, unsafe_code)]
 
@@ -61,6 +63,8 @@ use sctp_assoc_sys as sys;
 pub const MAX_DATAGRAM: usize = sys::SCTP_ASSOC_MAX_DATAGRAM;
 
 mod association;
+#[cfg(feature = "channels")]
+pub mod channels;
 mod config;
 mod error;
 mod event;

@@ -67,4 +67,13 @@ impl Reliability {
             Reliability::Lifetime(time) => (sys::SCTP_ASSOC_TIMED, u32::try_from(time.as_millis()).unwrap_or(u32::MAX)),
         }
     }
+
+    #[cfg(feature = "channels")]
+    pub(crate) fn of(kind: u32, value: u32) -> Reliability {
+        match kind {
+            sys::SCTP_ASSOC_REXMIT => Reliability::Retransmissions(value),
+            sys::SCTP_ASSOC_TIMED => Reliability::Lifetime(Duration::from_millis(value.into())),
+            _ => Reliability::Reliable,
+        }
+    }
 }

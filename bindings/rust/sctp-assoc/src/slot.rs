@@ -1,4 +1,4 @@
-//! The C calls as safe ones. No other file of this crate has unsafe code.
+//! The C calls as safe ones. No other file of this crate has unsafe code, but that of the slot of channels.
 //!
 //! What the C calls ask for holds of each call here. Pointers are made of references, so that they lead to what their
 //! types say; with slices go their lengths. A slot that is made holds an association, until it is dropped. Calls that
@@ -137,6 +137,18 @@ impl Slot {
     /// What the watch counted and noted.
     pub(crate) fn watch(&self) -> &sctp_assoc_watch {
         &self.watch
+    }
+
+    /// The slot, for the calls of channels.
+    #[cfg(feature = "channels")]
+    pub(crate) fn raw(&self) -> *mut sctp_assoc {
+        self.raw.get()
+    }
+
+    /// Notes that the receive buffer was exhausted, which an event told that no watched call took.
+    #[cfg(feature = "channels")]
+    pub(crate) fn note_exhausted(&mut self) {
+        self.watch.end = sys::SCTP_ASSOC_END_BUFFER_EXHAUSTED;
     }
 
     // What the watched calls want.

@@ -1,0 +1,134 @@
+use crate::Reliability;
+use sctp_assoc_sys as sys;
+
+/// The role of a side in the DTLS handshake. A client's own channels have even identifiers, a server's odd ones (RFC
+/// 8832 section 6).
+#[derive(Clone, Copy, Debug, PartialEq, Eq)]
+pub enum Role {
+    /// The client.
+    Client,
+    /// The server.
+    Server,
+}
+
+impl Role {
+    pub(super) fn number(self) -> u32 {
+        match self {
+            Role::Client => sys::SCTP_CHANNELS_CLIENT,
+            Role::Server => sys::SCTP_CHANNELS_SERVER,
+        }
+    }
+}
+
+/// What a channel is asked to be, but for its label and protocol. `Kind::default()` is an ordered and reliable one; set
+/// the fields that are to have others.
+#[derive(Clone, Copy, Debug, PartialEq, Eq)]
+#[non_exhaustive]
+pub struct Kind {
+    /// Whether messages are delivered in order.
+    pub ordered: bool,
+    /// How long each message is sent again: `Retransmissions` is the W3C's maxRetransmits, `Lifetime` its
+    /// maxPacketLifeTime.
+    pub reliability: Reliability,
+    /// Its priority (RFC 8831 section 6.4), which the peer is told; nothing more is done with it. 0.
+    pub priority: u16,
+    /// The identifier that both sides agreed on in another way, 0 to 65,534. Each opens the channel, and no message is
+    /// sent for that. None, the default, has DCEP tell the peer.
+    pub negotiated: Option<u16>,
+}
+
+impl Default for Kind {
+    fn default() -> Kind {
+        Kind { ordered: true, reliability: Reliability::Reliable, priority: 0, negotiated: None }
+    }
+}
+
+impl Kind {
+    pub(super) fn raw(&self) -> sys::sctp_channels_options {
+        let (reliability, value) = self.reliability.raw();
+        sys::sctp_channels_options {
+            reliability,
+            value,
+            priority: self.priority,
+            id: self.negotiated.unwrap_or(0),
+            unordered: !self.ordered,
+            negotiated: self.negotiated.is_some(),
+        }
+    }
+}
+
+/// The state of a channel, as the W3C names it. One that is closed is gone.
+#[derive(Clone, Copy, Debug, PartialEq, Eq)]
+#[non_exhaustive]
+pub enum State {
+    /// It is not open yet.
+    Connecting,
+    /// Messages go both ways.
+    Open,
+    /// It ends.
+    Closing,
+}
+
+impl State {
+    fn of(number: u32) -> State {
+        match number {
+            sys::SCTP_CHANNELS_STATE_CONNECTING => State::Connecting,
+            sys::SCTP_CHANNELS_STATE_OPEN => State::Open,
+            _ => State::Closing,
+        }
+    }
+}
+
+/// What a channel is.
+#[derive(Clone, Copy, Debug, PartialEq, Eq)]
+#[non_exhaustive]
+pub struct Info {
+    /// Whether its messages are delivered in order.
+    pub ordered: bool,
+    /// How long each message is sent again.
+    pub reliability: Reliability,
+    /// Its priority (RFC 8831 section 6.4).
+    pub priority: u16,
+    /// Whether both sides agreed on its identifier in another way than by DCEP.
+    pub negotiated: bool,
+    /// Its state.
+    pub state: State,
+}
+
+impl Info {
+    pub(super) fn of(told: &sys::sctp_channels_info) -> Info {
+        Info {
+            ordered: !told.unordered,
+            reliability: Reliability::of(told.reliability, told.value),
+            priority: told.priority,
+            negotiated: told.negotiated,
+            state: State::of(told.state),
+        }
+    }
+}
+
+/// A message that was received, by its bytes: a slice of the reader's buffer, or a vector.
+#[derive(Clone, Copy, Debug, PartialEq, Eq)]
+pub enum Message<B> {
+    /// A text: UTF-8 by RFC 8831 section 6.6, which nothing here looks at.
+    Text(B),
+    /// A binary message.
+    Binary(B),
+}
+
+impl<B> Message<B> {
+    pub(super) fn of(is_text: bool, bytes: B) -> Message<B> {
+        if is_text {
+            Message::Text(bytes)
+        } else {
+            Message::Binary(bytes)
+        }
+    }
+
+    /// Its bytes, whichever of the two it is.
+    pub fn into_bytes(self) -> B {
+        match self {
+            Message::Text(bytes) | Message::Binary(bytes) => bytes,
+        }
+    }
+}
