@@ -1,0 +1,252 @@
+/*
+ * A chat by a data channel (RFC 8831, RFC 8832) between two UDP sockets of this machine (RFC 6951): each line of the
+ * standard input goes as a text, and each text that comes is printed. One side waits, the other connects and opens the
+ * channel. The end of either side's input ends the chat at both, once all that was said was sent and acknowledged.
+ * docs/GUIDE.md explains the calls.
+ *
+ *   cc -O2 -Iinclude -o chat examples/chat.c "$(./library channels)"
+ *   ./chat serve                  takes a free port, and prints which
+ *   ./chat connect 9899
+ */
+#define _DEFAULT_SOURCE
+#include "sctp_channels.h"
+
+#include <arpa/inet.h>
+#include <errno.h>
+#include <poll.h>
+#include <stdio.h>
+#include <stdlib.h>
+#include <string.h>
+#include <time.h>
+#include <unistd.h>
+
+#define SECOND UINT64_C(1000000000)
+#define MAX_PAYLOAD_SIZE 1172 /* fits links of 1280 bytes, below UDP and IPv6 */
+#define MAX_TEXT 65536        /* bytes; no longer message is sent or comes, as the association is configured */
+#define MAX_BUFFERED 100000   /* bytes that may wait to be acknowledged before more input is read */
+#define END_WITHIN 20         /* seconds that a shutdown may take; a peer that is gone never answers it */
+
+static sctp_assoc assoc;
+static sctp_assoc_watch watch; /* says why it ended */
+static sctp_channels channels;
+static uint16_t channel; /* where it is open */
+static bool is_client, is_up, is_open, is_ending;
+static uint64_t end_until; /* where it is ending */
+static int udp;
+static struct sockaddr_in peer; /* of a server, once a client came */
+
+static void stop(const char *why, unsigned number) {
+    fprintf(stderr, "chat: %s %u\n", why, number);
+    exit(1);
+}
+
+/* Ends the program at a code that it does not go on with. Answers whether the call was done. */
+static bool done(sctp_assoc_code code) {
+    if (code != SCTP_ASSOC_DONE && code != SCTP_ASSOC_NOTHING)
+        stop("a call answered the code", code);
+    return code == SCTP_ASSOC_DONE;
+}
+
+static uint64_t now(void) {
+    struct timespec t;
+    clock_gettime(CLOCK_MONOTONIC, &t);
+    return (uint64_t)t.tv_sec * SECOND + (uint64_t)t.tv_nsec;
+}
+
+/* Makes the association and its channels. A client's own channel is opened once the handshake is done. */
+static void begin(void) {
+    const sctp_channels_options ordered_reliable = SCTP_CHANNELS_ORDERED_RELIABLE;
+    sctp_assoc_config config;
+    sctp_assoc_identity identity;
+    done(sctp_assoc_default_config(&config));
+    if (getentropy(&identity, sizeof identity) != 0)
+        stop("no random bytes: errno", (unsigned)errno);
+    identity.tag |= 1; /* so that neither number is 0 */
+    identity.initial_tsn |= 1;
+    done((is_client ? sctp_assoc_client : sctp_assoc_server)(&assoc, &config, MAX_PAYLOAD_SIZE, &identity, now()));
+    done(sctp_channels_begin(&channels, is_client ? SCTP_CHANNELS_CLIENT : SCTP_CHANNELS_SERVER));
+    if (is_client)
+        done(sctp_channels_open(&channels, &assoc, &ordered_reliable, (const uint8_t *)"chat", 4, NULL, 0, &channel));
+}
+
+static void print_all(uint16_t id) {
+    static uint8_t text[MAX_TEXT];
+    size_t length;
+    bool is_text;
+    while (done(sctp_channels_receive(&channels, &assoc, id, text, sizeof text, &length, &is_text)))
+        if (fwrite(text, 1, length, stdout) != length || putchar('\n') == EOF)
+            stop("no output: errno", (unsigned)errno);
+    fflush(stdout);
+}
+
+/* Whether messages can be sent: neither side has begun to end. */
+static bool can_send(void) {
+    bool is_established = false;
+    done(sctp_assoc_is_established(&assoc, &is_established));
+    return is_established && is_open;
+}
+
+/* Ends the association, once all that either side accepted is acknowledged. If the peer has begun to, that goes on. */
+static void end(void) {
+    if (sctp_assoc_shutdown(&assoc) != SCTP_ASSOC_DONE)
+        return;
+    is_ending = true;
+    end_until = now() + END_WITHIN * SECOND;
+}
+
+/* The first channel that opens is that of the chat. */
+static void take_channel(uint16_t id) {
+    if (!is_open)
+        channel = id;
+    is_open = true;
+}
+
+static void on_event(const sctp_channels_event *event) {
+    if (event->kind == SCTP_CHANNELS_EVENT_CONNECTED)
+        is_up = true;
+    else if (event->kind == SCTP_CHANNELS_EVENT_HANDSHAKE_FAILED)
+        stop("nobody answered for the reason", event->reason);
+    else if (event->kind == SCTP_CHANNELS_EVENT_FAILED && is_client)
+        stop("no channel was begun on the stream", event->id);
+    else if (event->kind == SCTP_CHANNELS_EVENT_OPENED || event->kind == SCTP_CHANNELS_EVENT_ANNOUNCED)
+        take_channel(event->id);
+    else if (event->kind == SCTP_CHANNELS_EVENT_MESSAGE)
+        print_all(event->id);
+    else if (event->kind == SCTP_CHANNELS_EVENT_CLOSED && is_open && event->id == channel)
+        end();
+}
+
+static void take_events(void) {
+    sctp_channels_event event;
+    while (done(sctp_channels_poll_event(&channels, &assoc, &event)))
+        on_event(&event);
+}
+
+/* Sends what is due. */
+static void send_all(void) {
+    static uint8_t datagram[SCTP_ASSOC_MAX_DATAGRAM];
+    size_t length;
+    while (done(sctp_assoc_watched_poll_transmit(&assoc, &watch, now(), datagram, sizeof datagram, &length)))
+        sendto(udp, datagram, length, 0, (struct sockaddr *)&peer, sizeof peer);
+}
+
+static void serve(void) {
+    take_events();
+    send_all();
+    take_events(); /* what was sent may have ended it */
+}
+
+/* A server's peer is whoever comes, until a handshake is done. */
+static void receive_all(void) {
+    static uint8_t datagram[65536];
+    struct sockaddr_in from;
+    socklen_t size = sizeof from;
+    ssize_t length;
+    uint32_t fate;
+    while ((length = recvfrom(udp, datagram, sizeof datagram, MSG_DONTWAIT, (struct sockaddr *)&from, &size)) >= 0) {
+        bool is_peer = from.sin_addr.s_addr == peer.sin_addr.s_addr && from.sin_port == peer.sin_port;
+        if (!is_peer && (is_client || is_up))
+            continue;
+        done(sctp_assoc_watched_handle_datagram(&assoc, &watch, now(), datagram, (size_t)length, &fate));
+        if (fate == SCTP_ASSOC_TAKEN)
+            peer = from;
+        serve();
+    }
+}
+
+static void say(const uint8_t *text, size_t length) {
+    done(sctp_channels_send(&channels, &assoc, channel, true, text, length));
+}
+
+/* Says the lines that are whole. The end of the input ends the last one, and the chat. */
+static void take_input(void) {
+    static uint8_t text[MAX_TEXT + 1];
+    static size_t length;
+    uint8_t *line_end;
+    ssize_t came = read(STDIN_FILENO, text + length, sizeof text - length);
+    if (came < 0)
+        stop("no input: errno", (unsigned)errno);
+    length += (size_t)came;
+    while ((line_end = memchr(text, '\n', length))) {
+        say(text, (size_t)(line_end - text));
+        length -= (size_t)(line_end + 1 - text);
+        memmove(text, line_end + 1, length);
+    }
+    if (length == sizeof text)
+        stop("a line has more bytes than", MAX_TEXT);
+    if (came > 0)
+        return;
+    if (length > 0)
+        say(text, length);
+    end();
+}
+
+/* Whether the input is to be read: not before the channel is open, nor while much waits to be acknowledged. */
+static bool wants_input(void) {
+    size_t buffered;
+    return can_send() && done(sctp_channels_buffered_amount(&channels, &assoc, channel, &buffered)) &&
+           buffered < MAX_BUFFERED;
+}
+
+/* Until a datagram or input comes, or a timer expires. Takes the input. */
+static void wait_for_any(void) {
+    uint64_t due, at = now();
+    bool is_timed = done(sctp_assoc_poll_timeout(&assoc, &due));
+    int timeout_ms = !is_timed ? -1 : due > at ? (int)((due - at + 999999) / 1000000) : 0;
+    int input = wants_input() ? STDIN_FILENO : -1;
+    struct pollfd ready[] = {{.fd = udp, .events = POLLIN}, {.fd = input, .events = POLLIN}};
+    if (poll(ready, 2, timeout_ms) > 0 && ready[1].revents)
+        take_input();
+}
+
+static void meet_timer(void) {
+    uint64_t due;
+    if (done(sctp_assoc_poll_timeout(&assoc, &due)) && due <= now())
+        done(sctp_assoc_handle_timeout(&assoc, now()));
+}
+
+/* Until the association has ended, but not for ever. */
+static bool goes_on(void) {
+    bool is_over = false;
+    done(sctp_assoc_is_drained(&assoc, &is_over));
+    if (is_ending && !is_over && now() > end_until)
+        stop("the end was not answered within seconds:", END_WITHIN);
+    return !is_over;
+}
+
+/* A socket of this machine alone, as what goes over it is not encrypted. */
+static void open_socket(void) {
+    struct sockaddr_in own = {.sin_family = AF_INET, .sin_addr.s_addr = htonl(INADDR_LOOPBACK)};
+    socklen_t size = sizeof own;
+    udp = socket(AF_INET, SOCK_DGRAM, 0);
+    if (udp < 0 || bind(udp, (struct sockaddr *)&own, sizeof own) != 0 ||
+        getsockname(udp, (struct sockaddr *)&own, &size) != 0)
+        stop("no UDP socket: errno", (unsigned)errno);
+    if (!is_client)
+        printf("serving on port %u\n", (unsigned)ntohs(own.sin_port));
+    fflush(stdout);
+}
+
+int main(int argc, char **argv) {
+    is_client = argc == 3 && strcmp(argv[1], "connect") == 0;
+    if (!is_client && (argc != 2 || strcmp(argv[1], "serve") != 0)) {
+        fprintf(stderr, "usage: chat serve | chat connect PORT\n");
+        return 2;
+    }
+    peer.sin_family = AF_INET;
+    peer.sin_addr.s_addr = htonl(INADDR_LOOPBACK);
+    if (is_client)
+        peer.sin_port = htons((uint16_t)atoi(argv[2]));
+    open_socket();
+    begin();
+    serve();
+    while (goes_on()) {
+        wait_for_any();
+        meet_timer();
+        receive_all();
+        serve();
+    }
+    done(sctp_channels_free(&channels));
+    done(sctp_assoc_free(&assoc));
+    return watch.end == SCTP_ASSOC_END_SHUT_DOWN ? 0 : 1;
+}
