@@ -1,12 +1,15 @@
 //! Runs the Rust code of README and docs/GUIDE.md, which `build.rs` takes out of the pages. Of the guide a client and a
 //! server, whose datagrams go through two queues, shake hands, exchange a message in each direction, close the stream
-//! and shut down. Two others are observed, and one aborts.
+//! and shut down. Two others are observed, and one aborts. With the feature `channels` two more have data channels.
 #![cfg(test)]
 use sctp_assoc::{Association, Config, Error, Event, Identity, PayloadType, Reliability, MAX_DATAGRAM};
 use std::fs::File;
 use std::io::{Read, Write};
 use std::sync::{Arc, Mutex};
 use std::time::{Duration, Instant};
+
+#[cfg(feature = "channels")]
+mod channels;
 
 struct End {
     association: Association,
