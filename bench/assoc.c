@@ -2,13 +2,14 @@
  * that got it polled after each.
  *
  *   assoc CASE COUNT SIZE     small, observed, packet, large, unordered, lossy, handshake or memory
+ *   channels channel COUNT SIZE   as small, over a data channel: compiled WITH_CHANNELS, over the archive that has them
  *   assoc CASE COUNT SIZE     streams, unread or in_flight: a message with little there, and with much
  *   assoc CASE COUNT SIZE     expired: COUNT ordered messages, whose lifetimes end in one poll
  *
  * Its clock goes on by 10 ms if both ends are idle. LOSS_SEED=2, 3 and so on loses other datagrams. */
 #define SCTP_ASSOC_HEAP
 #include "bench.h"
-#include "sctp_assoc.h"
+#include "sctp_channels.h"
 
 #define STREAM 1
 #define TICK_NS (TICK_MS * UINT64_C(1000000))
@@ -28,6 +29,13 @@ static sctp_assoc_watch watches[2];
 #define OBSERVED false
 #else
 #define OBSERVED is_observed
+#endif
+static bool is_channel, is_open; /* messages go over a data channel, which is open */
+static sctp_channels sides[2];
+#ifdef WITH_CHANNELS
+#define CHANNEL is_channel
+#else /* the archive is the one without data channels, so that there is no case `channel` */
+#define CHANNEL false
 #endif
 static sctp_assoc_config config;
 static uint64_t now, written, messages_read, bytes_read, allocations;
@@ -100,16 +108,37 @@ static void poll_end(int end) {
 static bool read_one(uint16_t stream) {
     size_t length;
     uint32_t type;
-    if (!done(sctp_assoc_read(&ends[1], stream, buffer, sizeof buffer, &length, &type)))
+    bool is_text;
+    if (!done(CHANNEL ? sctp_channels_receive(&sides[1], &ends[1], stream, buffer, sizeof buffer, &length, &is_text)
+                      : sctp_assoc_read(&ends[1], stream, buffer, sizeof buffer, &length, &type)))
         return false;
     messages_read++;
     bytes_read += length;
     return true;
 }
 
+/* Takes all events of the channels of an end, and reads all messages. */
+static void take_channel_events(int end) {
+    sctp_channels_event event;
+    while (done(sctp_channels_poll_event(&sides[end], &ends[end], &event))) {
+        if (event.kind == SCTP_CHANNELS_EVENT_CONNECTED)
+            established[end] = 1;
+        else if (event.kind == SCTP_CHANNELS_EVENT_OPENED)
+            is_open = true;
+        else if (event.kind == SCTP_CHANNELS_EVENT_LOST)
+            fail("an association was lost");
+        while (end == 1 && event.kind == SCTP_CHANNELS_EVENT_MESSAGE && read_one(event.id))
+            ;
+    }
+}
+
 /* Takes all events of an end. If `reads`, all messages are read, too. */
 static void take_events(int end, bool reads) {
     sctp_assoc_event event;
+    if (CHANNEL) {
+        take_channel_events(end);
+        return;
+    }
     while (has_event(end, &event)) {
         if (event.kind == SCTP_ASSOC_EVENT_CONNECTED)
             established[end] = 1;
@@ -160,6 +189,8 @@ static void expire(void) {
 static void begin(int end) {
     sctp_assoc_identity identity = {.tag = next_tag++, .initial_tsn = next_tag++};
     done((end == 0 ? sctp_assoc_client : sctp_assoc_server)(&ends[end], &config, PAYLOAD_SIZE, &identity, now));
+    if (CHANNEL) /* so that the first channel of end 0 has the identifier STREAM */
+        done(sctp_channels_begin(&sides[end], end == 0 ? SCTP_CHANNELS_SERVER : SCTP_CHANNELS_CLIENT));
 }
 
 static void join(void) {
@@ -179,6 +210,24 @@ static void join_with(uint16_t streams) {
         done(sctp_assoc_open_stream(&ends[0], STREAM + i, SCTP_ASSOC_PPID_BINARY));
 }
 
+/* A pair with a data channel, which takes one message each way to open. */
+static void join_with_channel(void) {
+    const sctp_channels_options ordered_reliable = SCTP_CHANNELS_ORDERED_RELIABLE;
+    uint16_t id;
+    join();
+    done(sctp_channels_open(&sides[0], &ends[0], &ordered_reliable, (const uint8_t *)"bench", 5, NULL, 0, &id));
+    take_events(0, true);
+    poll_end(0);
+    hand_over_all();
+    if (!is_open || id != STREAM)
+        fail("the channel did not open");
+    for (int end = 0; end < 2; end++) {
+        sctp_assoc_totals totals;
+        if (!done(sctp_assoc_stats(&ends[end], &totals)) || totals.data_chunks != 1)
+            fail("the channel opened by more than an OPEN and an ACK");
+    }
+}
+
 static void leave(void) {
     for (int end = 0; end < 2; end++) {
         done(sctp_assoc_free(&ends[end]));
@@ -195,7 +244,8 @@ static void exchange(uint64_t count, size_t size, uint16_t streams) {
         while (written < goal && written - messages_read < MAX_WAITING &&
                (written - messages_read) * size < MAX_WAITING_BYTES) {
             uint16_t stream = STREAM + (uint16_t)(written * 7919 % streams);
-            done(sctp_assoc_write(&ends[0], stream, SCTP_ASSOC_PPID_OF_STREAM, message, size));
+            done(CHANNEL ? sctp_channels_send(&sides[0], &ends[0], stream, false, message, size)
+                         : sctp_assoc_write(&ends[0], stream, SCTP_ASSOC_PPID_OF_STREAM, message, size));
             written++;
         }
         poll_end(0);
@@ -211,7 +261,15 @@ static void messages(struct measure *m) {
     if (is_observed)
         fail("the archive has no watches");
 #endif
-    join_with(1);
+    is_channel = !strcmp(m->name, "channel");
+#ifndef WITH_CHANNELS
+    if (is_channel)
+        fail("the archive has no data channels");
+#endif
+    if (CHANNEL)
+        join_with_channel();
+    else
+        join_with(1);
     if (!strcmp(m->name, "unordered"))
         done(sctp_assoc_set_reliability(&ends[0], STREAM, true, SCTP_ASSOC_RELIABLE, 0));
     lost_per_million = strcmp(m->name, "lossy") ? 0 : 10000;
