@@ -345,8 +345,8 @@ fn a_receive_buffer_that_is_exhausted_is_told() -> Result<()> {
     sides.send(0, id, Message::Binary(&[7; 6000]))?;
     for _ in 0..100 {
         sides.link.now += Duration::from_secs(1);
-        let now = sides.link.now;
         sides.link.settle()?;
+        let now = sides.link.now;
         sides.link.ends[0].handle_timeout(now)?;
     }
     assert_eq!(sides.events(1)?.last(), Some(&Event::Lost { reason: Reason::BufferExhausted }));

@@ -146,6 +146,25 @@ fn handshakes() -> Result<(), Error> {
     Ok(())
 }
 
+/// Memory is refused to channels. Each call can be made again, and the association goes on.
+#[cfg(feature = "channels")]
+fn refused_channels() -> Result<(), sctp_assoc::channels::Error> {
+    use sctp_assoc::channels::{Channels, Error, Kind, Role};
+    let mut link = Link::established(&Config::default())?;
+    let end = &mut link.ends[0];
+    assert_eq!(refusing(|| Channels::new(Role::Client)).expect_err("it is refused"), Error::NoMemory);
+    let mut channels = Channels::new(Role::Client)?;
+    assert_eq!(refusing(|| channels.open(end, "chat", "", &Kind::default())), Err(Error::NoMemory));
+    let id = channels.open(end, "chat", "", &Kind::default())?;
+    assert_eq!(refusing(|| channels.poll_event(end)), Err(Error::NoMemory));
+    assert_eq!(channels.poll_event(end)?, None);
+    assert_eq!(refusing(|| channels.send_text(end, id, "hello")), Err(Error::NoMemory));
+    channels.send_text(end, id, "hello")?;
+    assert!(end.is_established() && !end.is_failed());
+    assert_eq!(end.stream(id).buffered_amount()?, 12 + "chat".len() + "hello".len());
+    Ok(())
+}
+
 fn ends(link: &mut Link) -> Result<(), Error> {
     let now = link.now;
     let [client, server] = &mut link.ends;
@@ -177,6 +196,8 @@ fn each_error_once() -> Result<(), Error> {
     no_room(&mut link)?;
     ends(&mut link)?;
     drop(link);
+    #[cfg(feature = "channels")]
+    refused_channels().expect("memory is there again");
     assert_eq!(BLOCKS.load(SeqCst), 0, "blocks that were not given back");
     Ok(())
 }
