@@ -116,7 +116,9 @@ sctp_assoc_code sctp_channels_close(sctp_channels *slot, sctp_assoc *assoc, uint
 #define SCTP_CHANNELS_EVENT_FAILED 7           /* the peer's stream `id` began with something else than an OPEN and is
                                                 * being reset, or this side's channel `id` could not be begun. There is
                                                 * no such channel */
-#define SCTP_CHANNELS_EVENT_LOST 8             /* the association ended; `reason`. All channels are gone */
+#define SCTP_CHANNELS_EVENT_LOST 8             /* the association ended; `reason`. All channels are gone. A watch beside
+                                                * it does not see the events that are taken here: at the reason
+                                                * SCTP_ASSOC_REASON_BUFFER_EXHAUSTED its end is a fault */
 #define SCTP_CHANNELS_EVENT_HANDSHAKE_FAILED 9 /* its handshake failed; `reason`. All channels are gone */
 
 /* 12 bytes. */
