@@ -2,7 +2,7 @@
 ghost use Rattle.std.specs.Prelude.{◌≡◌, IfErr, IfOk, OnErr};
 ghost use Rattle.sctp_driver.specs.Messages.{ReadFails};
 ghost use Rattle.sctp_channels.specs.Receiving.{GivesFirst, ReadsNext, Receives, ReceivesOpen, ReceivesRead};
-ghost use Rattle.sctp_channels.specs.Receiving.{first_at, met, read_as};
+ghost use Rattle.sctp_channels.specs.Receiving.{met, read_as};
 
 use crate::channels::Channels;
 use crate::reading::{is_dcep, read};
@@ -38,24 +38,27 @@ impl Channels {
     ) -> Result<Received, ChannelError>
         ensures { Receives id self.old driver.old buffer.old result self.new driver.new buffer.new }
     {
-        match self.table.stage(id) {
-            None => Err(ChannelError::NoChannel),
-            Some(Stage::Waiting | Stage::Begun | Stage::Announcing) => Ok(Received::Nothing),
-            Some(Stage::Open) => self.receive_open(driver, id, buffer),
-            Some(Stage::Closing) => self.receive_open(driver, id, buffer),
+        let Some(channel) = self.table.get(id) else {
+            return Err(ChannelError::NoChannel);
+        };
+        let first = channel.first();
+        match channel.stage() {
+            Stage::Waiting | Stage::Begun | Stage::Announcing => Ok(Received::Nothing),
+            Stage::Open | Stage::Closing => self.receive_open(driver, id, first, buffer),
         }
     }
 
+    // Of an open channel, with what came in place of the ACK.
     fn receive_open(
         &mut self,
         driver: &mut Driver,
         id: StreamId,
+        first: Option<ShortMessage>,
         buffer: &mut [u8],
     ) -> Result<Received, ChannelError>
-        ensures { ReceivesOpen (first_at self.old.table id) id self.old driver.old buffer.old result self.new driver.new
-            buffer.new }
+        ensures { ReceivesOpen first id self.old driver.old buffer.old result self.new driver.new buffer.new }
     {
-        match self.first_of(id) {
+        match first {
             Some(message) => Ok(self.give_first(id, message, buffer)),
             None => self.read_on(driver, id, buffer),
         }
@@ -81,15 +84,6 @@ impl Channels {
         }
         // No memory holds so many messages.
         Err(ChannelError::Beneath(Error::ErrNoMemory))
-    }
-
-    fn first_of(&self, id: StreamId) -> Option<ShortMessage>
-        ensures { result ≡ first_at self.now.table id }
-    {
-        match self.table.get(id) {
-            Some(channel) => channel.first(),
-            None => None,
-        }
     }
 
     // Gives the message that came in place of the ACK.
