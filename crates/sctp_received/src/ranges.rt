@@ -96,6 +96,9 @@ impl Ranges {
         ensures held { result ≡ is_held tsn (tsns_of self.now) }
         ensures looks { (k : ℕ) → length self.now.ranges < 2 ^ k → looks.new ≤ looks.old + (k + 1) }
     {
+        if self.row.is_empty() {
+            return false;
+        }
         let offset = self.offset(tsn);
         let place = self.locate(offset, looks);
         place.is_begun(offset)
