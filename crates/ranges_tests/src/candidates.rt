@@ -51,3 +51,16 @@ fn members_move_up_as_places_leave(rt: HostRuntime) -> Result<(), Fail> {
     assert_eq!(rt; candidates.next(0, &mut looks), None);
     Ok(())
 }
+
+#[test]
+fn places_are_set_and_the_next_that_is_no_member_is_found(rt: HostRuntime) -> Result<(), Fail> {
+    let mut candidates = Candidates::new(rt.alloc());
+    assert_eq!(rt; candidates.next_other(2), 2);
+    add_places(&mut candidates, 7)?;
+    if 2 < candidates.places() {
+        candidates.set(1, true);
+        candidates.set(2, true);
+    }
+    assert_eq!(rt; candidates.next_other(0), 4);
+    Ok(())
+}

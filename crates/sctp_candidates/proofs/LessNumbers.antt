@@ -38,8 +38,8 @@ lowered_in b n (r ∷ rs) from =
     one : (f l : ℕ) → b ≤ f → b ≤ l → (leb (f - b) n && leb n (l - b)) ≡ (leb f (b + n) && leb (b + n) l)
     one f l v w = grind (arith, nat_tests, v, w)
 
-pub lowered_within : (b e : ℕ) (rs : List Run) → BeginFrom b rs → AreWithin b (b + e) rs
-    → AreWithin 0 e (map (lowered b) rs)
+pub lowered_within : (b e : ℕ) (rs : List Run) → BeginFrom b rs → AreWithin b e rs
+    → AreWithin 0 (e - b) (map (lowered b) rs)
 lowered_within b e rs from within n is =
     let both = within (b + n) (sym (lowered_in b n rs from) ∙ is) in
     (omega arith, omega (arith, both.1))

@@ -2,14 +2,14 @@
 use Rattle.std.proofs.Common.{◌≡◌, ℕ, zero, suc, ◌+◌, ◌-◌, ◌*◌, ◌<◌, ◌≤◌, max, Bool, true, false, ◌&&◌, ◌||◌, not}
 use Rattle.std.proofs.Common.{leb, eqb, List, [], ◌∷◌, length, slice_get, Option, Some, None, refl, ap, sym, ◌∙◌}
 use Rattle.std.proofs.Common.{⊎_elim, arith}
-use Rattle.std.proofs.lemmas.Bool.{cases_eq, le-leb, lt-leb, ne_eqb}
+use Rattle.std.proofs.lemmas.Bool.{cases_eq, le-leb, lt-leb, ne_eqb, leb-true}
 use Rattle.std.proofs.lemmas.Option.{slice_get_past}
 use Rattle.sctp_ranges.specs.declared.run.Run.{Run}
 use Rattle.sctp_ranges.specs.Runs.{AreApart, is_in, is_begun, ended_before}
-use Rattle.sctp_ranges.proofs.Halving.{in_place, not_ended_here}
-use Rattle.sctp_ranges.proofs.Parts.{range_is, reaches_here}
+use Rattle.sctp_ranges.proofs.Halving.{in_place, none_in, not_ended_here}
+use Rattle.sctp_ranges.proofs.Parts.{range_is, begins_more, reaches_here}
 use Rattle.sctp_ranges.proofs.Removals.{ended_more, in_range}
-use Rattle.sctp_candidates.specs.Candidates.{Members, is_member, IsNext, AreWithin}
+use Rattle.sctp_candidates.specs.Candidates.{Members, is_member, IsNext, IsNextOther, AreWithin}
 
 -- The next member.
 
@@ -26,6 +26,9 @@ first_past n m r rs apart from less to e =
     ap (λ i. is_begun m (slice_get rs i)) (same_place n m r rs from to e) ∙ ap (is_begun m) e ∙
     lt-leb r.first m less
 
+inside : (f l x : ℕ) → f ≤ x → x ≤ l → (leb f x && leb x l) ≡ true
+inside f l x a b = rw (le-leb f x a, le-leb x l b) refl
+
 pub next_found : (from number x b : ℕ) (r : Run) (s : Members) → AreApart 0 s.list → number ≡ s.begun + from
     → slice_get s.list (ended_before number s.list) ≡ Some r → x ≡ max r.first number → b ≡ s.begun
     → IsNext from (Some (x - b)) s
@@ -40,9 +43,6 @@ next_found from number x b r s apart is e top same =
       λ i f l. first_past number (s.begun + i) r s.list apart (omega (arith, is, f)) (omega (arith, top, is, same, f, l))
           (omega (arith, order.1, top, is, same, f, l)) e,
     )
-  where
-    inside : (f l x : ℕ) → f ≤ x → x ≤ l → (leb f x && leb x l) ≡ true
-    inside f l x a b = rw (le-leb f x a, le-leb x l b) refl
 
 none_there : (i : ℕ) (rs : List Run) → slice_get rs i ≡ None → length rs ≤ i
 none_there i [] e = omega arith
@@ -58,6 +58,49 @@ none_next from number s apart is e =
     omega (arith, none_there (ended_before number s.list) s.list e, ended_more number (s.begun + i) s.list more) in
     sym (in_place 0 (s.begun + i) s.list apart) ∙
     ap (is_begun (s.begun + i)) (slice_get_past s.list (ended_before (s.begun + i) s.list) past)
+
+-- The next place that is no member.
+
+neither : (b : Bool) → ((b && false) || false) ≡ false
+neither true = refl
+neither false = refl
+
+-- the number behind a range is in none
+behind_range : (l i : ℕ) (r : Run) (rs : List Run) → AreApart l rs → slice_get rs i ≡ Some r
+    → is_in (r.last + 1) rs ≡ false
+behind_range l i r [] apart e = absurd (cc)
+behind_range l zero r (x ∷ rs) apart e =
+    let same : x ≡ r = cc in
+    rw (
+      same,
+      lt-leb (r.last + 1) r.last (omega arith),
+      none_in (x.last + 2) (r.last + 1) rs apart.3 (omega (arith, ap (λ (z : Run). z.last) same)),
+    ) (neither (leb r.first (r.last + 1)))
+behind_range l (suc i) r (x ∷ rs) apart e =
+    let order = range_is (x.last + 2) i r rs apart.3 e in
+    let first = begins_more (x.last + 2) i rs apart.3 r e in
+    rw (
+      lt-leb (r.last + 1) x.last (omega (arith, order.1, first)),
+      behind_range (x.last + 2) i r rs apart.3 e,
+    ) (neither (leb x.first (r.last + 1)))
+
+pub other_found : (from number b : ℕ) (r : Run) (s : Members) → AreApart 0 s.list → number ≡ s.begun + from
+    → slice_get s.list (ended_before number s.list) ≡ Some r → is_begun number (Some r) ≡ true → b ≡ s.begun
+    → IsNextOther from (r.last - b + 1) s
+other_found from number b r s apart is e begun same =
+    let first : r.first ≤ number = leb-true r.first number begun in
+    let reach : number ≤ r.last = reaches_here number r s.list e in
+    let back : s.begun + (r.last - b + 1) ≡ r.last + 1 = omega (arith, reach, is, same) in (
+      omega (arith, reach, is, same),
+      ap (λ z. is_in z s.list) back ∙ behind_range 0 (ended_before number s.list) r s.list apart e,
+      λ i f l.
+          in_range (ended_before number s.list) (s.begun + i) r s.list e (
+          inside r.first r.last (s.begun + i) (omega (arith, first, is, f)) (omega (arith, back, l))
+          ),
+    )
+
+pub other_here : (from : ℕ) (s : Members) → is_member from s ≡ false → IsNextOther from from s
+other_here from s off = (omega arith, off, λ i f l. absurd (omega (arith, f, l)))
 
 -- a place is a member where the range at its number's place begins at the number or before it
 pub member_told : (index number : ℕ) (found : Option Run) (s : Members) → AreApart 0 s.list → number ≡ s.begun + index
@@ -115,10 +158,10 @@ fit_from b e (r ∷ rs) apart within le =
     let first = within r.first (in_first r rs r.first (omega arith) apart.1) in
     fit b b e (r ∷ rs) (first.0, apart.1, apart.2, apart.3) within le
 
-pub room_left : (b places room : ℕ) (rs : List Run) → AreApart 0 rs → AreWithin b (b + places) rs
-    → places ≤ 2 * room - 3 → 0 < places → length rs < room
-room_left b places room rs apart within fits some =
-    omega (arith, fit_from b (b + places) rs apart within (omega arith), fits, some)
+pub room_left : (b e bound room : ℕ) (rs : List Run) → AreApart 0 rs → AreWithin b e rs → e ≤ bound
+    → bound ≤ b + (2 * room - 3) → b < e → length rs < room
+room_left b e bound room rs apart within below fits some =
+    omega (arith, fit_from b e rs apart within (omega (arith, some)), below, fits, some)
 
 -- The first place leaves.
 

@@ -1,13 +1,14 @@
 -- The members stand for the elements that pass a test, and still do as elements come, leave and change.
 use Rattle.std.proofs.Common.{◌≡◌, ℕ, zero, suc, ◌+◌, ◌-◌, ◌<◌, Bool, true, false, ◌&&◌, ◌||◌, not, eqb}
-use Rattle.std.proofs.Common.{cond, List, [], ◌∷◌, ◌++◌, length, drop, slice_get, slice_set, Option, Some, None, refl, ap}
-use Rattle.std.proofs.Common.{sym, ◌∙◌, arith, length-append}
-use Rattle.std.specs.List.{position, position_or_len}
+use Rattle.std.proofs.Common.{cond, List, [], ◌∷◌, ◌++◌, length, map, take, drop, slice_get, slice_set}
+use Rattle.std.proofs.Common.{Option, Some, None, refl, ap, sym, ◌∙◌, ⊎_elim, max, min, arith, length-append}
+use Rattle.std.specs.List.{position, position_or_len, prefix_len}
 use Rattle.std.specs.Option.{option_map}
 use Rattle.std.proofs.Math.Dec.{eqb-suc-zero, eqb-zero-suc, eqb-suc-suc}
-use Rattle.std.proofs.lemmas.Bool.{le-ltb, lt-ltb}
-use Rattle.std.proofs.lemmas.List.{length-set}
-use Rattle.sctp_candidates.specs.Candidates.{Members, is_member, AreNone, IsNext, passes, StandFor}
+use Rattle.std.proofs.Math.Nat.{min-zero, zero-min}
+use Rattle.std.proofs.lemmas.Bool.{le-ltb, lt-ltb, cases_eq, eq-eqb, ne_eqb}
+use Rattle.std.proofs.lemmas.List.{length-map, length-set}
+use Rattle.sctp_candidates.specs.Candidates.{Members, is_member, AreNone, IsNext, IsNextOther, passes, StandFor}
 
 -- where there is no element there is no place
 pub stand_new : {X : Type 0} (test : X → Bool) (s : Members) → AreNone s → s.places ≡ 0 → StandFor s test []
@@ -78,6 +79,49 @@ stand_removed test s t xs index y stand l off places same = (
     part true b = refl
     part false b = refl
 
+-- an element becomes one of which it is known whether it passes
+pub stand_set : {X : Type 0} (test : X → Bool) (s t : Members) (xs : List X) (index : ℕ) (y : X) (b : Bool)
+    → StandFor s test xs → index < length xs → test y ≡ b → t.places ≡ s.places
+    → ((i : ℕ) → is_member i t ≡ cond (eqb i index) b (is_member i s)) → StandFor t test (slice_set xs index y)
+stand_set test s t xs index y b stand l is places same = (
+  places ∙ stand.0 ∙ sym (length-set xs index y),
+  λ i.
+      same i ∙ ap (λ c. cond (eqb i index) b c) (stand.1 i) ∙
+      ap (λ c. cond (eqb i index) c (passes test (slice_get xs i))) (sym is) ∙ sym (put_passes test y index i xs l),
+)
+
+-- an element becomes one that passes where it did
+pub stand_kept : {X : Type 0} (test : X → Bool) (s : Members) (xs : List X) (index : ℕ) (y : X) → StandFor s test xs
+    → index < length xs → test y ≡ passes test (slice_get xs index) → StandFor s test (slice_set xs index y)
+stand_kept test s xs index y stand l same = (
+  stand.0 ∙ sym (length-set xs index y),
+  λ i. stand.1 i ∙ kept i ∙ sym (put_passes test y index i xs l),
+)
+  where
+    kept : (i : ℕ) → passes test (slice_get xs i) ≡ cond (eqb i index) (test y) (passes test (slice_get xs i))
+    kept i =
+        ⊎_elim (λ (e : i ≡ index). rw (e, eq-eqb index index refl) (sym same))
+        (λ (e : i ≡ index → ⊥). rw (ne_eqb i index e) refl)
+        (cases_eq i index)
+
+-- places and members are the same
+pub stand_same : {X : Type 0} (test : X → Bool) (s t : Members) (xs : List X) → StandFor s test xs
+    → t.places ≡ s.places → ((i : ℕ) → is_member i t ≡ is_member i s) → StandFor t test xs
+stand_same test s t xs stand places same = (places ∙ stand.0, λ i. same i ∙ stand.1 i)
+
+-- each element becomes one that passes where it did
+pub stand_mapped : {X : Type 0} (test : X → Bool) (f : X → X) (s : Members) (xs : List X)
+    → ((x : X) → test (f x) ≡ test x) → StandFor s test xs → StandFor s test (map f xs)
+stand_mapped {X = X} test f s xs same stand = (
+  stand.0 ∙ sym (length-map xs f),
+  λ i. stand.1 i ∙ mapped i xs,
+)
+  where
+    mapped : (i : ℕ) (ys : List X) → passes test (slice_get ys i) ≡ passes test (slice_get (map f ys) i)
+    mapped i [] = refl
+    mapped zero (y ∷ ys) = sym (same y)
+    mapped (suc i) (y ∷ ys) = mapped i ys
+
 -- The next member is the next element that passes.
 
 get_drop : {X : Type 0} (k i : ℕ) (xs : List X) → slice_get (drop k xs) i ≡ slice_get xs (k + i)
@@ -124,3 +168,42 @@ next_passing test s xs from (Some n) stand is =
     ap (passes test) (get_drop from i xs) ∙ sym (stand.1 (from + i)) ∙
     is.2 (from + i) (omega arith) (omega (arith, l, is.0))) in
     rw (first.0, lt-ltb (n - from) (length (drop from xs)) first.1) refl
+
+-- and so it is found at its place
+pub next_found_at : {X : Type 0} (test : X → Bool) (s : Members) (xs : List X) (from : ℕ) (found : Option ℕ)
+    → StandFor s test xs → IsNext from found s
+    → option_map {U = ℕ} (λ n. from + n) (position test (drop from xs)) ≡ found
+next_found_at test s xs from found stand is =
+    ap (option_map {U = ℕ} (λ n. from + n)) (next_passing test s xs from found stand is) ∙ back found is
+  where
+    back : (found : Option ℕ) → IsNext from found s
+        → option_map {U = ℕ} (λ n. from + n) (option_map {U = ℕ} (λ n. n - from) found) ≡ found
+    back None is = refl
+    back (Some n) is =
+        let at : from + (n - from) ≡ n = omega (arith, is.0) in
+        ap Some at
+
+-- The elements up to the next place that is no member pass.
+
+passing_taken : {X : Type 0} (test : X → Bool) (n m : ℕ) (xs : List X) → passes test (slice_get xs n) ≡ false
+    → ((i : ℕ) → i < n → passes test (slice_get xs i) ≡ true) → prefix_len test (take m xs) ≡ min n m
+passing_taken test zero zero [] off on = refl
+passing_taken test zero (suc m) [] off on = sym (zero-min (suc m))
+passing_taken test (suc n) m [] off on = let first : false ≡ true = on 0 (omega arith) in absurd (cc)
+passing_taken test n zero (x ∷ xs) off on = sym (min-zero n)
+passing_taken test zero (suc m) (x ∷ xs) off on = let first : test x ≡ false = off in rw first (omega arith)
+passing_taken test (suc n) (suc m) (x ∷ xs) off on =
+    let first : test x ≡ true = on 0 (omega arith) in
+    rw (first, passing_taken test n m xs off (λ i l. on (suc i) (omega (arith, l)))) (omega arith)
+
+pub past_passing : {X : Type 0} (test : X → Bool) (s : Members) (xs : List X) (from to n : ℕ) → StandFor s test xs
+    → IsNextOther from n s → from + prefix_len test (take (to - from) (drop from xs)) ≡ max from (min n to)
+past_passing test s xs from to n stand is =
+    let at : from + (n - from) ≡ n = omega (arith, is.0) in
+    let passing =
+    passing_taken test (n - from) (to - from) (drop from xs)
+    (ap (passes test) (get_drop from (n - from) xs ∙ ap (slice_get xs) at) ∙ sym (stand.1 n) ∙ is.1)
+    (λ i l.
+    ap (passes test) (get_drop from i xs) ∙ sym (stand.1 (from + i)) ∙
+    is.2 (from + i) (omega arith) (omega (arith, l, is.0))) in
+    omega (arith, passing, is.0)

@@ -1,16 +1,17 @@
 -- Places of which some are members.
-use Rattle.std.specs.Prelude.{◌≡◌, ℕ, ◌+◌, ◌-◌, ◌*◌, ◌<◌, ◌≤◌, ◌^◌, Bool, true, false, length, slice_get}
+use Rattle.std.specs.Prelude.{◌≡◌, ℕ, ◌+◌, ◌-◌, ◌<◌, ◌≤◌, Bool, true, false, length, slice_get}
 use Rattle.std.specs.Prelude.{List, Option, Some, None}
 use Rattle.std.specs.List.{AllByRecursion}
 use Rattle.sctp_ranges.specs.declared.run.Run.{Run}
 use Rattle.sctp_ranges.specs.Runs.{run, is_in}
 
--- the numbers of the members as ranges, the number of the first place, how many places there are, and for how many
--- ranges there is memory
+-- the numbers of the members as ranges, the number of the first place, how many places there are, below which number
+-- there is memory for places, and for how many ranges there is memory
 pub record Members : Type 0 where
   pub list : List Run
   pub begun : ℕ
   pub places : ℕ
+  pub bound : ℕ
   pub room : ℕ
 
 -- the place at an index is a member
@@ -27,9 +28,14 @@ IsNext from None s = (i : ℕ) → from ≤ i → is_member i s ≡ false
 IsNext from (Some n) s =
     (from ≤ n) × (is_member n s ≡ true) × ((i : ℕ) → from ≤ i → i < n → is_member i s ≡ false)
 
+-- the first place at an index or past it that is no member
+abbrev pub IsNextOther : ℕ → ℕ → Members → Type 0
+IsNextOther from n s =
+    (from ≤ n) × (is_member n s ≡ false) × ((i : ℕ) → from ≤ i → i < n → is_member i s ≡ true)
+
 -- there is memory for one place more, whichever of all places become members
 abbrev pub HasRoom : Members → Type 0
-HasRoom s = (s.places + 1 ≤ 2 * s.room - 3) × (s.begun + s.places + 1 < 2 ^ 32)
+HasRoom s = s.begun + s.places < s.bound
 
 -- all numbers of ranges lie from one on and below another
 abbrev pub AreWithin : ℕ → ℕ → List Run → Type 0

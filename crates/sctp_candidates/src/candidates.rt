@@ -1,9 +1,10 @@
 // Places of which some are members.
 ghost use Rattle.std.specs.Prelude.{◌≡◌, ℕ, ◌+◌, ◌<◌, ◌≤◌, ◌==◌, ◌&&◌, ◌||◌, not, true, false, OnOk, OnErr};
+ghost use Rattle.std.specs.Prelude.{if◌then◌else◌};
 ghost use Rattle.std.specs.Prelude.{length, slice_get, None};
 ghost use Rattle.sctp_looks.specs.Looks.{ticked_by};
 ghost use Rattle.sctp_ranges.specs.Runs.{AreApart, ended_before};
-ghost use Rattle.sctp_candidates.specs.Candidates.{is_member, IsNext, HasRoom, AreNone};
+ghost use Rattle.sctp_candidates.specs.Candidates.{is_member, IsNext, IsNextOther, HasRoom, AreNone};
 
 use crate::lowered::lower_all;
 use sctp_looks::Looks;
@@ -23,8 +24,10 @@ pub struct Candidates {
     row: Row,
     // The number of the first place.
     begun: u32,
-    // How many places there are.
-    places: u32,
+    // The number behind that of the last place.
+    end: u32,
+    // For places with numbers below this one there is memory, whichever of them become members.
+    bound: u32,
     // The index of the range that a search looks at first: where a member was added or removed last.
     cursor: usize,
 }
@@ -36,10 +39,17 @@ impl Model for Candidates {
 
     ghost Value = { Members };
 
-    ghost view = { λ c. record { list = c.row.list; begun = c.begun; places = c.places; room = c.row.room } };
+    ghost view = { λ c. record {
+      list = c.row.list;
+      begun = c.begun;
+      places = c.end - c.begun;
+      bound = c.bound;
+      room = c.row.room;
+    } };
 
-    ghost invariant = { λ c. AreApart 0 c.row.list × AreWithin c.begun (c.begun + c.places) c.row.list
-        × (c.begun + c.places < 2 ^ 32) × (c.places ≤ 2 * c.row.room - 3) };
+    ghost invariant = { λ c. AreApart 0 c.row.list × AreWithin c.begun c.end c.row.list
+        × (c.begun ≤ c.end) × (c.end ≤ c.bound) × (c.bound ≤ c.begun + (2 * c.row.room - 3))
+        × (c.bound < 2 ^ 32) };
 }
 
 impl Candidates {
@@ -51,7 +61,8 @@ impl Candidates {
         Candidates {
             row: Row::new(alloc),
             begun: 0,
-            places: 0,
+            end: 0,
+            bound: 0,
             cursor: 0,
         }
     }
@@ -60,7 +71,7 @@ impl Candidates {
     pub fn places(&self) -> usize
         ensures { result ≡ self.now.places }
     {
-        self.places as usize
+        (self.end - self.begun) as usize
     }
 
     /// Whether no place is a member.
@@ -85,7 +96,7 @@ impl Candidates {
         ensures looks { looks.new ≡ ticked_by looks.old 1 }
     {
         looks.tick();
-        if self.places as usize <= from {
+        if (self.end - self.begun) as usize <= from {
             return None;
         }
         let number = self.number(from);
@@ -95,20 +106,50 @@ impl Candidates {
         }
     }
 
+    /// The first place at an index or past it that is no member; an index with no place is none.
+    pub fn next_other(&self, from: usize) -> usize
+        ensures { IsNextOther from result self.now }
+    {
+        if self.row.is_empty() || self.places() <= from {
+            return from;
+        }
+        let number = self.number(from);
+        match self.locate(number).begun(number) {
+            Some(run) => (run.last - self.begun) as usize + 1,
+            None => from,
+        }
+    }
+
     /// Takes memory for one place more, whichever of all places become members. 2^31 places count as want of memory.
+    #[inline(always)]
     pub fn reserve(&mut self) -> Result<(), AllocError>
         ensures same { (i : ℕ) → is_member i self.new ≡ is_member i self.old }
         ensures places { self.new.places ≡ self.old.places }
         ensures room { OnOk result (HasRoom self.new) }
     {
-        if self.places >= HALF {
+        if self.end < self.bound {
+            return Ok(());
+        }
+        self.make_room()
+    }
+
+    // Memory for some places more, so that `reserve` rarely comes here.
+    #[inline(never)]
+    fn make_room(&mut self) -> Result<(), AllocError>
+        ensures same { (i : ℕ) → is_member i self.new ≡ is_member i self.old }
+        ensures places { self.new.places ≡ self.old.places }
+        ensures room { OnOk result (HasRoom self.new) }
+    {
+        let places = self.places();
+        if places >= HALF as usize {
             return Err(AllocError);
         }
-        let wanted = self.places as usize / 2 + 3;
-        self.row.reserve(wanted.saturating_sub(self.row.len()))?;
         if self.begun >= HALF {
             self.lower();
         }
+        let wanted = places / 2 + 16;
+        self.row.reserve(wanted.saturating_sub(self.row.len()))?;
+        self.bound = self.begun + (2 * wanted - 3).min(HALF as usize) as u32;
         Ok(())
     }
 
@@ -120,27 +161,34 @@ impl Candidates {
         ensures begun { self.new.begun ≡ 0 }
     {
         lower_all(&mut self.row, self.begun);
+        self.end -= self.begun;
+        self.bound -= self.begun;
         self.begun = 0;
     }
 
     /// A place more behind the others, which is no member.
+    #[inline(always)]
     pub fn grow(&mut self)
         requires { HasRoom self.old }
         ensures same { (i : ℕ) → is_member i self.new ≡ is_member i self.old }
         ensures places { self.new.places ≡ self.old.places + 1 }
     {
-        self.places += 1;
+        self.end += 1;
     }
 
     /// The first place leaves.
+    #[inline(always)]
     pub fn pass(&mut self)
         requires { 0 < self.old.places }
         ensures left { (i : ℕ) → is_member i self.new ≡ is_member (i + 1) self.old }
         ensures places { self.new.places + 1 ≡ self.old.places }
     {
+        if self.row.is_empty() {
+            self.begun += 1;
+            return;
+        }
         self.remove(0);
         self.begun += 1;
-        self.places -= 1;
     }
 
     /// The place at an index becomes a member.
@@ -164,11 +212,27 @@ impl Candidates {
         ensures places { self.new.places ≡ self.old.places }
         ensures begun { self.new.begun ≡ self.old.begun }
     {
+        if self.row.is_empty() {
+            return;
+        }
         let number = self.number(index);
         let place = self.locate(number);
         if place.is_begun(number) {
             remove_offsets(&mut self.row, number, number, place, place);
             self.cursor = place.index;
+        }
+    }
+
+    /// The place at an index becomes a member, or is none any more.
+    pub fn set(&mut self, index: usize, member: bool)
+        requires { index < self.old.places }
+        ensures set { (i : ℕ) → is_member i self.new ≡ (if i == index then member else is_member i self.old) }
+        ensures places { self.new.places ≡ self.old.places }
+    {
+        if member {
+            self.insert(index);
+        } else {
+            self.remove(index);
         }
     }
 

@@ -13,5 +13,6 @@ returns-then-is_begun-clause-added c =
 pub add_at-self-inside-requires-clause-room : goal.add_at-self-inside-requires-clause-room
 add_at-self-inside-requires-clause-room c =
     let places = ap (λ (s : Members). s.places) c.self.view_is in
-    room_left c.self.inside.begun c.self.inside.places c.self.inside.row.room c.self.inside.row.list
-    c.self.invariant.0 c.self.invariant.1 c.self.invariant.3 (omega (arith, c.requires, places))
+    room_left c.self.inside.begun c.self.inside.end c.self.inside.bound c.self.inside.row.room
+    c.self.inside.row.list c.self.invariant.0 c.self.invariant.1 c.self.invariant.3 c.self.invariant.4
+    (omega (arith, c.requires, places))

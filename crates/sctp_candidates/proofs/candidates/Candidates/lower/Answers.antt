@@ -7,32 +7,32 @@ use Rattle.sctp_candidates.proofs.candidates.Candidates.lower.Goals as goal
 
 pub lower_all-requires : goal.lower_all-requires
 lower_all-requires c =
-    begin_within c.self.inside.begun (c.self.inside.begun + c.self.inside.places) 0 c.self.inside.row.list
+    begin_within c.self.inside.begun c.self.inside.end 0 c.self.inside.row.list
     c.self.invariant.0 c.self.invariant.1
 
 pub invariant_of-self : goal.invariant_of-self
 invariant_of-self c =
     let inside = c.self.inside in
     let from =
-    begin_within inside.begun (inside.begun + inside.places) 0 inside.row.list c.self.invariant.0 c.self.invariant.1 in
+    begin_within inside.begun inside.end 0 inside.row.list c.self.invariant.0 c.self.invariant.1 in
     let apart = lowered_apart inside.begun 0 inside.row.list c.self.invariant.0 from in
     let list = c.lower_all.ensures.list in (
       subst (AreApart 0) (sym list) (apart_from 0 (0 - inside.begun) _ (omega arith) apart),
       λ n is.
-          let both =
-          lowered_within inside.begun inside.places inside.row.list from c.self.invariant.1 n (
+          lowered_within inside.begun inside.end inside.row.list from c.self.invariant.1 n (
           sym (ap (is_in n) list) ∙ is
-          ) in
-          (both.0, omega (arith, both.1)),
-      omega (arith, c.self.invariant.2),
-      omega (arith, c.self.invariant.3, c.lower_all.ensures.room),
+          ),
+      omega arith,
+      omega (arith, c.self.invariant.3),
+      omega (arith, c.self.invariant.4, c.lower_all.ensures.room),
+      omega (arith, c.self.invariant.5),
     )
 
 pub returns-clause-same : goal.returns-clause-same
 returns-clause-same c =
     let inside = c.self.inside in
     let from =
-    begin_within inside.begun (inside.begun + inside.places) 0 inside.row.list c.self.invariant.0 c.self.invariant.1 in
+    begin_within inside.begun inside.end 0 inside.row.list c.self.invariant.0 c.self.invariant.1 in
     λ i.
     let same : 0 + i ≡ i = omega arith in
     ap (is_in (0 + i)) c.lower_all.ensures.list ∙ ap (λ n. is_in n _) same ∙

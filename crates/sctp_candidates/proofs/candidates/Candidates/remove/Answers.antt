@@ -7,8 +7,9 @@ pub remove_offsets-requires-clause-room : goal.remove_offsets-requires-clause-ro
 remove_offsets-requires-clause-room c =
     let places = ap (λ (s : Members). s.places) c.self.view_is in
     λ over.
-    room_left c.self.inside.begun c.self.inside.places c.self.inside.row.room c.self.inside.row.list
-    c.self.invariant.0 c.self.invariant.1 c.self.invariant.3 (omega (arith, c.requires, places))
+    room_left c.self.inside.begun c.self.inside.end c.self.inside.bound c.self.inside.row.room
+    c.self.inside.row.list c.self.invariant.0 c.self.invariant.1 c.self.invariant.3 c.self.invariant.4
+    (omega (arith, c.requires, places))
 
 pub returns-else-is_begun-clause-removed : goal.returns-else-is_begun-clause-removed
 returns-else-is_begun-clause-removed c =
