@@ -68,6 +68,11 @@ no_gap [] i lt e = absurd (omega (arith, lt))
 no_gap (x ∷ xs) zero lt e = cc
 no_gap (x ∷ xs) (suc i) lt e = no_gap xs i (omega (arith, lt)) e
 
+pub none_past : (xs : List InFlight) (i : ℕ) → (i < length xs → false ≡ true) → slice_get xs i ≡ None
+none_past [] i out = refl
+none_past (x ∷ xs) zero out = let e = out (omega arith) in absurd (cc)
+none_past (x ∷ xs) (suc i) out = none_past xs i (λ l. out (omega (arith, l)))
+
 pub passed : (xs : List InFlight) (i : ℕ) (x : InFlight) → slice_get xs i ≡ Some x → is_outstanding x ≡ false
     → i ≤ first_outstanding_of xs → suc i ≤ first_outstanding_of xs
 passed [] i x e a le = absurd (cc)

@@ -1,5 +1,4 @@
 pub mod QueuedBytes
-pub mod AckedBefore
 pub mod BytesLeft
 pub mod Covered
 pub mod Deadlines
@@ -7,5 +6,6 @@ pub mod ExpiredUnsent
 pub mod FirstOutstanding
 pub mod PiecesCut
 pub mod ReportedMissing
+pub mod StandingPieces
 pub mod StretchLists
 pub mod Timely

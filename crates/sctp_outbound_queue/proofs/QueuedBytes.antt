@@ -14,16 +14,18 @@ use Rattle.sctp_outbound_queue.specs.Waiting.{Waiting}
 use Rattle.sctp_outbound_queue.specs.Message.{accepted, acked, is_timed, message_bytes, is_expired_unsent}
 use Rattle.sctp_outbound_queue.specs.Message.{without_piece, sent_once, is_of, is_outstanding, marked_again}
 use Rattle.sctp_outbound_queue.specs.Message.{outstanding_bytes, outstanding_bytes_of, flagged, marker_of, soonest}
-use Rattle.sctp_outbound_queue.specs.Message.{sent_started, waiting_started}
+use Rattle.sctp_outbound_queue.specs.Message.{counted_again, sent_started, waiting_started}
+use Rattle.sctp_outbound_queue.specs.declared.message.Retransmission.{Retransmission}
+use Rattle.sctp_outbound_queue.specs.declared.message.Retransmission.TheVariants as causes
 use Rattle.sctp_outbound_queue.specs.Expiry.{without_expired, after_expiry}
 use Rattle.sctp_outbound_queue.specs.Outbound.{abandoned_at, all_flagged, released, Outbound, AreKept, waiting_of}
 use Rattle.sctp_outbound_queue.specs.Outbound.{outstanding_of, outstanding_of_message, left_behind, after_piece}
 use Rattle.sctp_outbound_queue.specs.Outbound.{marked_of, tail_dropped, tail_dropped_from}
 use Rattle.sctp_outbound_queue.proofs.FirstOutstanding.{abandoned, acknowledged, after_change, after_change_at}
-use Rattle.sctp_outbound_queue.proofs.FirstOutstanding.{after_more, started_too}
+use Rattle.sctp_outbound_queue.proofs.FirstOutstanding.{after_more, popped_there, resent_there, started_too}
 use Rattle.sctp_outbound_queue.proofs.Timely.{acked_keeps, flagged_keeps, timely_at, timely_changed, timely_dropped}
 use Rattle.sctp_outbound_queue.proofs.Timely.{timely_looked, timely_marker, timely_more, timely_raised, timely_sent}
-use Rattle.sctp_outbound_queue.proofs.Timely.{timely_started}
+use Rattle.sctp_outbound_queue.proofs.Timely.{timely_behind, timely_resent, timely_started}
 use Rattle.sctp_outbound_queue.specs.declared.clocks.Clocks.{Clocks}
 use Rattle.sctp_outbound_queue.specs.declared.clocks.Look.{Look}
 use Rattle.sctp_outbound_queue.specs.Clocks.{AllFrom, AllRun, AreSentTimely, accepted_by, dropped_by, sent_by, Cover}
@@ -145,6 +147,18 @@ flagged_sum id (p ∷ ps) =
     let c = sum_by-cons outstanding_bytes p ps in
     omega (arith, one, more, a, b, c)
 
+-- no piece gets a mark
+pub fewer_marked : (id : ℕ) (ps : List InFlight) → marked_of (map (flagged id) ps) ≤ marked_of ps
+fewer_marked id [] = omega arith
+fewer_marked id (p ∷ ps) =
+    let more = fewer_marked id ps in
+    let a = sum_by-cons (λ (q : InFlight). cond q.retransmit 1 0) (flagged id p) (map (flagged id) ps) in
+    let b = sum_by-cons (λ (q : InFlight). cond q.retransmit 1 0) p ps in
+    let one : cond (flagged id p).retransmit 1 0 ≤ cond p.retransmit 1 0 =
+    ⊎_elim (λ (t : is_of id p ≡ true). rw t (omega arith)) (λ (f : is_of id p ≡ false). rw f (omega arith))
+    (cases_Bool (is_of id p)) in
+    omega (arith, a, b, more, one)
+
 -- the unsent pieces of the first message
 
 tail_from : (ms : List Waiting) (q : Outbound) (id : ℕ) → (tail_dropped_from ms q id).1 ≤ waiting_of ms
@@ -263,6 +277,50 @@ kept_acked {x} clocks ms ps i kept there bytes mark now_acked =
       omega (arith, marks, e),
       omega (arith, first, kept.4),
       timely_at _ acked (acked_keeps _ _) ms ps i x there kept.5,
+    )
+
+-- the first piece left
+pub kept_popped : {ps2 : List InFlight} {w o k b m s s2 : ℕ} {p : InFlight} (clocks : Clocks) (ms : List Waiting)
+    (ps : List InFlight) → AreKept ms ps w o k s clocks → slice_get ps 0 ≡ Some p → ps2 ≡ drop 1 ps
+    → b ≡ outstanding_bytes p → m ≡ cond p.retransmit 1 0 → s2 ≡ s - 1
+    → AreKept ms ps2 w (o - b) (k - m) s2 clocks
+kept_popped clocks ms [] kept there left bytes mark begin = absurd (cc)
+kept_popped {s} {p} clocks ms (x ∷ ps) kept there left bytes mark begin =
+    let same : x ≡ p = cc in
+    let own = ap outstanding_bytes same in
+    let marked : cond x.retransmit 1 0 ≡ cond p.retransmit 1 0 = ap (λ (q : InFlight). cond {A = ℕ} q.retransmit 1 0) same in
+    let all = sum_by-cons outstanding_bytes x ps in
+    let marks = sum_by-cons (λ (q : InFlight). cond q.retransmit 1 0) x ps in
+    rw (left, begin) (
+      kept.0,
+      omega (arith, all, own, bytes, kept.1),
+      omega (arith, kept.2),
+      omega (arith, marks, marked, mark, kept.3),
+      popped_there (x ∷ ps) p s there kept.4,
+      timely_behind clocks ms (x ∷ ps) kept.5,
+    )
+
+resent_bytes : (by : Retransmission) (p : InFlight) → outstanding_bytes (counted_again by p) ≡ outstanding_bytes p
+resent_bytes causes.Timer p = refl
+resent_bytes causes.Fast p = refl
+
+-- a piece was sent again
+pub kept_resent : {w o k m n s : ℕ} {x y : InFlight} (by : Retransmission) (clocks : Clocks) (ms : List Waiting)
+    (ps : List InFlight) (i : ℕ) → AreKept ms ps w o k s clocks → slice_get ps i ≡ Some x → y ≡ counted_again by x
+    → m ≡ cond x.retransmit 1 0 → n ≡ cond y.retransmit 1 0 → AreKept ms (slice_set ps i y) w o (k - m + n) s clocks
+kept_resent {s} {x} by clocks ms ps i kept there again before after =
+    let sum = set_sum outstanding_bytes ps i x (counted_again by x) there in
+    let same = resent_bytes by x in
+    let marks = set_sum (λ (q : InFlight). cond q.retransmit 1 0) ps i x (counted_again by x) there in
+    let within = set_sum (λ (q : InFlight). cond q.retransmit 1 0) ps i x (acked x) there in
+    let left = after ∙ ap (λ (q : InFlight). cond {A = ℕ} q.retransmit 1 0) again in
+    rw again (
+      kept.0,
+      omega (arith, sum, same, kept.1),
+      kept.2,
+      omega (arith, marks, within, before, left, kept.3),
+      resent_there by ps i s x there kept.4,
+      timely_resent by clocks ms ps i x there kept.5,
     )
 
 -- a sum over what a change leaves as it is

@@ -3,6 +3,7 @@ pub mod Expiry
 pub mod Laws
 pub mod Message
 pub mod Outbound
+pub mod PieceSets
 pub mod Stretches
 pub mod Waiting
 pub mod Cut

@@ -5,6 +5,7 @@
 mod clocks;
 mod laws;
 mod message;
+mod piece_sets;
 mod queue;
 mod stretches;
 mod walks;

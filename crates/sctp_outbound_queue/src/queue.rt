@@ -1,8 +1,9 @@
 // Messages that wait to be sent, and pieces in flight.
 ghost use Rattle.std.specs.Prelude.{◌≡◌, ◌==◌, ◌&&◌, ◌+◌, ◌-◌, ◌^◌, find, length, map, min, nat_lt, position};
-ghost use Rattle.std.specs.Prelude.{slice_get, take};
+ghost use Rattle.std.specs.Prelude.{drop, slice_get, take};
 ghost use Rattle.std.specs.Prelude.{IfOk, OnOk, OnErr, is_some, true};
 ghost use Rattle.std.specs.Option.{option_copied, option_map};
+ghost use Rattle.sctp_looks.specs.Looks.{ticked_by};
 ghost use Rattle.sctp_serial.specs.Serial.{tsn_past};
 ghost use Rattle.sctp_outbound_queue.specs.Message.{is_outstanding, is_expired_piece, is_expired_unsent, counted_again};
 ghost use Rattle.sctp_outbound_queue.specs.Message.{is_third_report, marked_again, picks, flagged, waiting_started};
@@ -19,13 +20,15 @@ ghost use Rattle.sctp_outbound_queue.specs.Expiry.{after_tail_expiry, is_expired
 
 use crate::clocks::Clocks;
 use crate::message::soonest;
+use crate::piece_sets::PieceSets;
 use crate::walks::{
-    any_of_message, any_of_stream, any_waiting_of_stream, bytes_of_message, count_marked,
+    any_of_message, any_of_stream, any_waiting_of_stream, bytes_of_message, count_marked_left,
     drop_expired, first_expired_piece, first_missing, first_not_abandoned, first_outstanding,
-    flag_all, mark_all, next_sent, pieces_of, report_missing, skip_acknowledged, start_sent,
-    start_waiting, take_piece,
+    flag_all, mark_all, next_sent, pieces_of, report_missing, start_sent, start_waiting,
+    take_piece,
 };
 use crate::{Attributes, InFlight, PendingMessage, Retransmission};
+use sctp_looks::Looks;
 use sctp_wire_types::{Instant, StreamId};
 use std::alloc::{AllocError, Global};
 use std::collections::VecDeque;
@@ -45,6 +48,8 @@ pub struct Released {
 pub struct OutboundQueue {
     pending: VecDeque<PendingMessage>,
     in_flight: VecDeque<InFlight>,
+    // Which pieces in flight are to be sent again, and which were acknowledged.
+    sets: PieceSets,
     first_tsn: u32,
     next_message_id: u64,
     // The bytes of the pieces that wait.
@@ -82,6 +87,7 @@ impl fmt::Debug for OutboundQueue {
 
 impl Model for OutboundQueue {
     ghost use Rattle.sctp_outbound_queue.specs.Outbound.{Outbound, AreKept};
+    ghost use Rattle.sctp_outbound_queue.specs.PieceSets.{AreStanding};
 
     ghost Value = { Outbound };
 
@@ -93,7 +99,7 @@ impl Model for OutboundQueue {
     } };
 
     ghost invariant = { λ q. AreKept q.pending.items q.in_flight.items q.pending_bytes q.outstanding_bytes
-        q.marked q.settled q.clocks };
+        q.marked q.settled q.clocks × AreStanding q.sets q.in_flight.items };
 }
 
 impl OutboundQueue {
@@ -104,6 +110,7 @@ impl OutboundQueue {
         OutboundQueue {
             pending: VecDeque::new(alloc),
             in_flight: VecDeque::new(alloc),
+            sets: PieceSets::new(alloc),
             first_tsn,
             next_message_id: 0,
             pending_bytes: 0,
@@ -245,11 +252,13 @@ impl OutboundQueue {
         ensures ok { OnOk result (self.new ≡ sent_next self.old now) }
         ensures err { OnErr result (self.new ≡ self.old) }
     {
+        self.sets.reserve()?;
         self.in_flight.reserve(1)?;
         if let Some(piece) = take_piece(&mut self.pending, now) {
             let bytes = piece.outstanding_bytes();
             self.clocks.send(&piece.message, piece.ending_fragment);
             self.in_flight.push_back_reserved(piece);
+            self.sets.grow();
             self.pending_bytes -= bytes;
             self.outstanding_bytes += bytes;
         }
@@ -265,12 +274,12 @@ impl OutboundQueue {
 
     /// Passes over pieces in flight that gap ack blocks acknowledged before and that are not marked to be sent again.
     /// Answers the first index from `from` on, below `to`, at which no such piece stands; where each is one, that is
-    /// `to`, or the number of pieces in flight where that is less, and never less than `from`. Goes over the pieces
-    /// that it passes, and one more at most.
+    /// `to`, or the number of pieces in flight where that is less, and never less than `from`. Goes over no piece: it
+    /// searches the ranges of such pieces by halving.
     pub fn skip_acknowledged(&self, from: usize, to: usize) -> usize
         ensures { result ≡ past_acknowledged from to self.now.in_flight }
     {
-        skip_acknowledged(&self.in_flight, from, to)
+        self.sets.skip_acknowledged(from, to)
     }
 
     /// Takes out the first piece in flight: it is acknowledged cumulatively. Goes over no other piece.
@@ -280,6 +289,7 @@ impl OutboundQueue {
         ensures rest { self.new ≡ without_first self.old }
     {
         let piece = self.in_flight.pop_front()?;
+        self.sets.pass();
         self.first_tsn = self.first_tsn.wrapping_add(1);
         self.outstanding_bytes -= piece.outstanding_bytes();
         self.marked -= usize::from(piece.retransmit);
@@ -294,10 +304,11 @@ impl OutboundQueue {
     {
         let index = self.index_of(tsn);
         match self.in_flight.get_mut(index) {
-            Some(piece) => {
-                let bytes = piece.outstanding_bytes();
-                self.marked -= usize::from(piece.retransmit);
-                piece.acknowledge();
+            Some(named) => {
+                let bytes = named.outstanding_bytes();
+                self.marked -= usize::from(named.retransmit);
+                named.acknowledge();
+                self.sets.settle(index, named);
                 self.outstanding_bytes -= bytes;
                 bytes
             }
@@ -309,7 +320,7 @@ impl OutboundQueue {
     pub fn mark_all_to_retransmit(&mut self)
         ensures { self.new ≡ all_marked self.old }
     {
-        self.marked = mark_all(&mut self.in_flight);
+        self.marked = mark_all(&mut self.in_flight, &mut self.sets);
     }
 
     /// Counts that a piece is sent again. One that goes because the timer marked it loses the mark. Goes over no other
@@ -321,8 +332,17 @@ impl OutboundQueue {
         if let Some(piece) = self.in_flight.get_mut(index) {
             self.marked -= usize::from(piece.retransmit);
             piece.resend(by);
+            self.sets.settle(index, piece);
             self.marked += usize::from(piece.retransmit);
         }
+    }
+
+    /// The first piece in flight from an index on that is sent again for this reason. One look, however it is found.
+    pub fn next(&self, by: Retransmission, from: usize, looks: &mut Looks) -> Option<usize>
+        ensures next { result ≡ option_map (λ n. from + n) (position (picks by) (drop from self.now.in_flight)) }
+        ensures looks { looks.new ≡ ticked_by looks.old 1 }
+    {
+        self.sets.next(by, from, looks)
     }
 
     /// The first piece in flight that fast retransmission sends again. Goes over the pieces before it.
@@ -338,7 +358,7 @@ impl OutboundQueue {
         ensures third { result ≡ list_any is_third_report (take count self.old.in_flight) }
         ensures counted { self.new ≡ with_missing count self.old }
     {
-        report_missing(&mut self.in_flight, count)
+        report_missing(&mut self.in_flight, &mut self.sets, count)
     }
 
     /// How many TSNs past the first one in flight the first outstanding piece is. Goes over the pieces before it that
@@ -438,7 +458,9 @@ impl OutboundQueue {
             return Ok(0);
         }
         let bytes = first.bytes();
+        self.sets.reserve()?;
         self.in_flight.push_back(InFlight::marker(first.message))?;
+        self.sets.grow();
         self.clocks.send(&first.message, true);
         self.pending.pop_front();
         self.pending_bytes -= bytes;
@@ -450,8 +472,8 @@ impl OutboundQueue {
         ensures { self.new ≡ all_flagged message_id self.old }
     {
         self.outstanding_bytes -= bytes_of_message(&self.in_flight, message_id);
-        flag_all(&mut self.in_flight, message_id);
-        self.marked = count_marked(&self.in_flight);
+        flag_all(&mut self.in_flight, &mut self.sets, message_id);
+        self.marked = count_marked_left(&self.in_flight, self.marked);
     }
 
     /// Lets the time of each message that has one run from `now` on, where it does not run yet. Goes over what was

@@ -1,6 +1,6 @@
 // What goes over a list of the queue.
 ghost use Rattle.std.specs.Prelude.{◌≡◌, ◌+◌, ◌-◌, ◌^◌, ◌<◌, ◌≤◌, ◌++◌, not, length, map, min, fold, find, take, drop};
-ghost use Rattle.std.specs.Prelude.{ℕ, None};
+ghost use Rattle.std.specs.Prelude.{ℕ, List, None, Some, slice_set};
 ghost use Rattle.std.specs.Prelude.{position, slice_get, true};
 ghost use Rattle.std.specs.List.{list_any, position_or_len};
 ghost use Rattle.std.specs.Option.{option_copied, option_map};
@@ -12,7 +12,8 @@ ghost use Rattle.sctp_outbound_queue.specs.Message.{sent_started, moved_down, se
 ghost use Rattle.sctp_outbound_queue.specs.Message.{reported_missing};
 ghost use Rattle.sctp_outbound_queue.specs.Outbound.{outstanding_of_message, pieces_waiting, after_piece, marked_of};
 ghost use Rattle.sctp_outbound_queue.specs.Outbound.{is_outstanding_piece, is_third_report_of, with_report};
-ghost use Rattle.sctp_outbound_queue.specs.Outbound.{past_acknowledged};
+ghost use Rattle.sctp_outbound_queue.specs.PieceSets.{AreStanding, HavePlace};
+ghost use Rattle.sctp_outbound_queue.specs.declared.message.InFlight.{InFlight as Piece};
 ghost use Rattle.sctp_outbound_queue.specs.Clocks.{AllFrom, AllRun, AreSentTimely, AreWaitingTimely, Cover};
 ghost use Rattle.sctp_outbound_queue.specs.Stretches.{total};
 ghost use Rattle.sctp_outbound_queue.specs.Message.{sooner, sooner_piece};
@@ -20,6 +21,7 @@ ghost use Rattle.sctp_outbound_queue.specs.Expiry.{without_expired};
 
 use crate::clocks::{Clocks, Look};
 use crate::message::soonest;
+use crate::piece_sets::PieceSets;
 use crate::stretches::{Stretch, Stretches};
 use crate::{Attributes, InFlight, PendingMessage, Retransmission};
 use sctp_wire_types::{Instant, StreamId};
@@ -69,10 +71,21 @@ fn add_pieces(messages: &VecDeque<PendingMessage>) -> usize
 }
 
 // How many pieces are marked to be sent again.
-pub(crate) fn count_marked(pieces: &VecDeque<InFlight>) -> usize
+fn count_marked(pieces: &VecDeque<InFlight>) -> usize
     ensures { result ≡ marked_of pieces.now.items }
 {
     pieces.iter().filter(|piece| piece.retransmit).count()
+}
+
+// How many pieces are marked, of which there are no more than before. Where there were none nothing is gone over.
+pub(crate) fn count_marked_left(pieces: &VecDeque<InFlight>, before: usize) -> usize
+    requires { marked_of pieces.now.items ≤ before }
+    ensures { result ≡ marked_of pieces.now.items }
+{
+    if before == 0 {
+        return 0;
+    }
+    count_marked(pieces)
 }
 
 // The index of the first outstanding piece, or how many there are. No piece before `from` is outstanding.
@@ -95,32 +108,6 @@ fn is_outstanding_at(pieces: &VecDeque<InFlight>, index: usize) -> bool
         Some(piece) => piece.is_outstanding(),
         None => false,
     }
-}
-
-// Passes over pieces that were acknowledged: answers the first index from `from` on, below `to`, at which no such piece
-// stands.
-pub(crate) fn skip_acknowledged(pieces: &VecDeque<InFlight>, from: usize, to: usize) -> usize
-    ensures { result ≡ past_acknowledged from to pieces.now.items }
-{
-    let (front, back) = pieces.as_slices();
-    let index = skip_in_row(front, from, to);
-    if index < front.len() {
-        return index;
-    }
-    front.len() + skip_in_row(back, index - front.len(), to.saturating_sub(front.len()))
-}
-
-// So it does with pieces that lie in one row.
-fn skip_in_row(pieces: &[InFlight], from: usize, to: usize) -> usize
-    ensures { result ≡ past_acknowledged from to pieces.now }
-{
-    let end = to.min(pieces.len());
-    for index in from..end {
-        if !pieces[index].was_acknowledged() {
-            return index;
-        }
-    }
-    end.max(from)
 }
 
 pub(crate) fn first_missing(pieces: &VecDeque<InFlight>) -> Option<&InFlight>
@@ -363,63 +350,112 @@ fn move_down_from(messages: &mut VecDeque<PendingMessage>, index: usize, dropped
     move_down(&mut later[index..], &dropped.message);
 }
 
-pub(crate) fn flag_all(pieces: &mut VecDeque<InFlight>, message_id: u64)
-    ensures { pieces.new.items ≡ map (flagged message_id) pieces.old.items }
+// Abandons the pieces of a message.
+pub(crate) fn flag_all(pieces: &mut VecDeque<InFlight>, sets: &mut PieceSets, message_id: u64)
+    requires { AreStanding sets.old pieces.old.items }
+    ensures flagged { pieces.new.items ≡ map (flagged message_id) pieces.old.items }
+    ensures sets { AreStanding sets.new pieces.new.items }
 {
-    flag_each(pieces.make_contiguous(), message_id);
+    flag_each(pieces.make_contiguous(), sets, message_id);
 }
 
-// Marks every outstanding piece, and answers how many pieces are marked then.
-pub(crate) fn mark_all(pieces: &mut VecDeque<InFlight>) -> usize
-    ensures marked { pieces.new.items ≡ map marked_again pieces.old.items }
-    ensures count { result ≡ marked_of pieces.new.items }
+fn flag_each(pieces: &mut [InFlight], sets: &mut PieceSets, message_id: u64)
+    requires { AreStanding sets.old pieces.old }
+    ensures flagged { pieces.new ≡ map (flagged message_id) pieces.old }
+    ensures sets { AreStanding sets.new pieces.new }
 {
-    mark_each(pieces.make_contiguous());
-    count_marked(pieces)
-}
-
-fn mark_each(pieces: &mut [InFlight])
-    ensures { pieces.new ≡ map marked_again pieces.old }
-{
+    let mut index = 0;
     for piece in pieces.iter_mut() {
-        piece.mark();
+        flag(piece, sets, index, message_id);
+        index += 1;
     }
 }
 
+// Abandons a piece at an index, if it is one of this message.
+#[inline(always)]
+fn flag(piece: &mut InFlight, sets: &mut PieceSets, index: usize, message_id: u64)
+    requires { HavePlace index sets.old }
+    ensures flagged { piece.new ≡ flagged message_id piece.old }
+    ensures sets { (ps : List Piece) → slice_get ps index ≡ Some piece.old → AreStanding sets.old ps
+        → AreStanding sets.new (slice_set ps index piece.new) }
+{
+    piece.abandon(message_id);
+    if piece.is_of(message_id) {
+        sets.settle(index, piece);
+    }
+}
+
+// Marks every outstanding piece, and answers how many pieces are marked then.
+pub(crate) fn mark_all(pieces: &mut VecDeque<InFlight>, sets: &mut PieceSets) -> usize
+    requires { AreStanding sets.old pieces.old.items }
+    ensures marked { pieces.new.items ≡ map marked_again pieces.old.items }
+    ensures count { result ≡ marked_of pieces.new.items }
+    ensures sets { AreStanding sets.new pieces.new.items }
+{
+    mark_each(pieces.make_contiguous(), sets);
+    count_marked(pieces)
+}
+
+fn mark_each(pieces: &mut [InFlight], sets: &mut PieceSets)
+    requires { AreStanding sets.old pieces.old }
+    ensures marked { pieces.new ≡ map marked_again pieces.old }
+    ensures sets { AreStanding sets.new pieces.new }
+{
+    let mut index = 0;
+    for piece in pieces.iter_mut() {
+        mark(piece, sets, index);
+        index += 1;
+    }
+}
+
+// Marks a piece at an index, if it is outstanding.
+fn mark(piece: &mut InFlight, sets: &mut PieceSets, index: usize)
+    requires { HavePlace index sets.old }
+    ensures marked { piece.new ≡ marked_again piece.old }
+    ensures sets { (ps : List Piece) → slice_get ps index ≡ Some piece.old → AreStanding sets.old ps
+        → AreStanding sets.new (slice_set ps index piece.new) }
+{
+    piece.mark();
+    sets.settle_mark(index, piece);
+}
+
 // The first `count` pieces are reported missing. Answers whether it was the third report of one of them.
-pub(crate) fn report_missing(pieces: &mut VecDeque<InFlight>, count: usize) -> bool
+pub(crate) fn report_missing(
+    pieces: &mut VecDeque<InFlight>,
+    sets: &mut PieceSets,
+    count: usize,
+) -> bool
+    requires { AreStanding sets.old pieces.old.items }
     ensures third { result ≡ list_any is_third_report (take count pieces.old.items) }
     ensures counted { pieces.new.items ≡
         map reported_missing (take count pieces.old.items) ++ drop count pieces.old.items }
+    ensures sets { AreStanding sets.new pieces.new.items }
 {
     let mut any_third = false;
     for index in 0..count.min(pieces.len()) {
-        any_third |= report_at(pieces, index);
+        any_third |= report_at(pieces, sets, index);
     }
     any_third
 }
 
 // One piece is reported missing. Answers whether it was its third report.
-fn report_at(pieces: &mut VecDeque<InFlight>, index: usize) -> bool
+fn report_at(pieces: &mut VecDeque<InFlight>, sets: &mut PieceSets, index: usize) -> bool
+    requires { AreStanding sets.old pieces.old.items }
     ensures third { result ≡ is_third_report_of (slice_get pieces.old.items index) }
     ensures counted { pieces.new.items ≡
         with_report (slice_get pieces.old.items index) index pieces.old.items }
+    ensures sets { AreStanding sets.new pieces.new.items }
 {
     match pieces.get_mut(index) {
         Some(piece) => {
             let is_third = piece.is_third_report();
             piece.report_missing();
+            if is_third {
+                sets.settle_missing(index, piece);
+            }
             is_third
         }
         None => false,
-    }
-}
-
-fn flag_each(pieces: &mut [InFlight], message_id: u64)
-    ensures { pieces.new ≡ map (flagged message_id) pieces.old }
-{
-    for piece in pieces.iter_mut() {
-        piece.abandon(message_id);
     }
 }
 

@@ -1,10 +1,20 @@
-use Rattle.std.proofs.Common.{arith}
+use Rattle.std.proofs.Common.{Some, ap, arith, ◌∙◌}
 use Rattle.std.proofs.lemmas.List.Edits.{map_over_more}
 use Rattle.sctp_outbound_queue.specs.Message.{marked_again}
+use Rattle.sctp_outbound_queue.proofs.FirstOutstanding.{item_there}
 use Rattle.sctp_outbound_queue.proofs.walks.mark_each.Goals as goal
 
 pub loop-piece-preserved : goal.loop-piece-preserved
 loop-piece-preserved c =
-    rw (c.mark.ensures, ← c.piece-item.is)
-    (map_over_more marked_again c.args.pieces.now c.loop-piece.pieces c.loop-piece.piece-index c.piece-item.result
-    (omega arith) c.loop-piece.invariant c.piece-item.is)
+    let there = item_there c.loop-piece.pieces c.loop-piece.piece-index c.piece-item.result (omega arith)
+    c.piece-item.is in
+    record {
+      at = omega (arith, c.loop-piece.invariant.at);
+      marked =
+          rw (c.mark.ensures.marked, ← c.piece-item.is)
+          (map_over_more marked_again c.args.pieces.now c.loop-piece.pieces c.loop-piece.piece-index
+          c.piece-item.result (omega arith) c.loop-piece.invariant.marked c.piece-item.is);
+      sets =
+          rw (← c.loop-piece.invariant.at)
+          (c.mark.ensures.sets c.loop-piece.pieces (rw c.loop-piece.invariant.at (there ∙ ap Some c.piece-item.is)) c.loop-piece.invariant.sets);
+    }

@@ -1,7 +1,11 @@
 use Rattle.std.proofs.Common.{◌≡◌, ◌++◌, map, take, drop}
 use Rattle.sctp_outbound_queue.specs.Message.{marked_again}
+use Rattle.sctp_outbound_queue.specs.PieceSets.{AreStanding}
 use Rattle.sctp_outbound_queue.proofs.walks.mark_each.Given as goal
 
 abbrev pub invariant-loop-piece : goal.invariant-loop-piece
-invariant-loop-piece l =
-    l.pieces ≡ map marked_again (take l.piece-index l.fn.pieces) ++ drop l.piece-index l.fn.pieces
+invariant-loop-piece l = record {
+  at : l.index ≡ l.piece-index;
+  marked : l.pieces ≡ map marked_again (take l.piece-index l.fn.pieces) ++ drop l.piece-index l.fn.pieces;
+  sets : AreStanding l.sets l.pieces;
+}

@@ -4,6 +4,8 @@ use Rattle.sctp_outbound_queue.proofs.walks.report_missing.Goals as goal
 
 pub loop-index-preserved : goal.loop-index-preserved
 loop-index-preserved c =
+    let on =
     reported_on c.args.pieces.now.items c.loop-index.pieces.items c.loop-index.index
-    (omega (arith, c.loop-index-test.true, c.len.ensures, c.min-index-end.ensures)) c.loop-index.invariant.0
-    c.loop-index.invariant.1 c.report_at-any_third.ensures.counted c.report_at-any_third.ensures.third
+    (omega (arith, c.loop-index-test.true, c.len.ensures, c.min-index-end.ensures)) c.loop-index.invariant.counted
+    c.loop-index.invariant.third c.report_at-any_third.ensures.counted c.report_at-any_third.ensures.third in
+    record { counted = on.0; third = on.1; sets = c.report_at-any_third.ensures.sets }

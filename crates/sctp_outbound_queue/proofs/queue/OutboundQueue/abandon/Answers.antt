@@ -7,7 +7,7 @@ pub overflow_add-result : goal.overflow_add-result
 overflow_add-result c =
     let kept : AreKept c.args.self.now.pending c.args.self.now.in_flight c.self.inside.pending_bytes
     c.self.inside.outstanding_bytes c.self.inside.marked c.self.inside.settled c.self.inside.clocks =
-    rw (← c.self.view_is) c.self.invariant in
+    rw (← c.self.view_is) c.self.invariant.0 in
     let bound = released_bound _ c.args.self.now c.in-Some.piece.now.message.message_id _ _ _ _ kept in
     let tail = ap (λ (z : Outbound × ℕ). z.1) c.in_ok-tail.ensures.ok in
     let sent = c.bytes_of_message-sent.ensures in

@@ -1,4 +1,4 @@
-use Rattle.std.proofs.Common.{◌≡◌, ap, rules}
+use Rattle.std.proofs.Common.{◌≡◌, ap, refl, rules}
 use Rattle.sctp_outbound_queue.specs.Waiting.{Waiting}
 use Rattle.sctp_outbound_queue.proofs.QueuedBytes.{kept_marker}
 use Rattle.sctp_outbound_queue.proofs.queue.OutboundQueue.drop_tail.Goals as goal
@@ -6,7 +6,11 @@ use Rattle.sctp_outbound_queue.proofs.queue.OutboundQueue.drop_tail.Goals as goa
 pub invariant_of-self-2 : goal.invariant_of-self-2
 invariant_of-self-2 c =
     let same : c.first.inside.message ≡ c.in-Some.first.now.message =
-    ap (λ (m : Waiting). m.message) c.first.view_is in
-    rw (c.send.ensures, same)
-    (kept_marker c.self.inside.clocks c.in-Some.first.now c.self.inside.pending.items c.self.inside.in_flight.items
-    c.self.invariant (search rules) (search rules) (search rules) c.bytes-bytes.ensures)
+    ap (λ (m : Waiting). m.message) c.first.view_is in (
+      rw (c.send.ensures, same)
+          (kept_marker c.self.inside.clocks c.in-Some.first.now c.self.inside.pending.items c.self.inside.in_flight.items
+          c.self.invariant.0 (search rules) (search rules) (search rules) c.bytes-bytes.ensures),
+      rw c.in_ok-push_back.ensures.items
+          (c.grow.ensures c.self.inside.in_flight.items c.marker.result (rw c.marker.ensures (refl, refl, refl))
+          (c.reserve.ensures.same c.self.inside.in_flight.items c.self.invariant.1)),
+    )

@@ -13,17 +13,20 @@ returns-then-not-is_over-clause-index c =
       first_tsn = q.first_tsn;
       next_message_id = q.next_message_id;
     })
-    c.self.invariant.5
+    c.self.invariant.0.5
     (sym c.is_over.ensures ∙ c.if-not-is_over.true))
 
 pub invariant_of-self : goal.invariant_of-self
 invariant_of-self c = (
-  c.self.invariant.0,
+  (
+    c.self.invariant.0.0,
+    c.self.invariant.0.1,
+    c.self.invariant.0.2,
+    c.self.invariant.0.3,
+    c.self.invariant.0.4,
+    rw c.next_sent-self-inside.ensures
+        (timely_sent_anew c.self.inside.clocks c.self.inside.pending.items c.self.inside.in_flight.items
+        c.self.invariant.0.5),
+  ),
   c.self.invariant.1,
-  c.self.invariant.2,
-  c.self.invariant.3,
-  c.self.invariant.4,
-  rw c.next_sent-self-inside.ensures
-      (timely_sent_anew c.self.inside.clocks c.self.inside.pending.items c.self.inside.in_flight.items
-      c.self.invariant.5),
 )

@@ -8,13 +8,16 @@ use Rattle.sctp_outbound_queue.proofs.queue.OutboundQueue.mark_all_to_retransmit
 
 pub invariant_of-self : goal.invariant_of-self
 invariant_of-self c = (
-  c.self.invariant.0,
-  c.self.invariant.1
-      ∙ sym (ap outstanding_of c.mark_all-self-inside.ensures.marked ∙ marked_sum c.self.inside.in_flight.items),
-  c.self.invariant.2,
-  c.mark_all-self-inside.ensures.count,
-  rw c.mark_all-self-inside.ensures.marked
-      (omega (arith, after_change marked_again marked c.self.inside.in_flight.items, c.self.invariant.4)),
-  rw c.mark_all-self-inside.ensures.marked
-      (timely_changed _ marked_again (marked_keeps _ _) _ c.self.inside.in_flight.items c.self.invariant.5),
+  (
+    c.self.invariant.0.0,
+    c.self.invariant.0.1
+        ∙ sym (ap outstanding_of c.mark_all-self-inside.ensures.marked ∙ marked_sum c.self.inside.in_flight.items),
+    c.self.invariant.0.2,
+    c.mark_all-self-inside.ensures.count,
+    rw c.mark_all-self-inside.ensures.marked
+        (omega (arith, after_change marked_again marked c.self.inside.in_flight.items, c.self.invariant.0.4)),
+    rw c.mark_all-self-inside.ensures.marked
+        (timely_changed _ marked_again (marked_keeps _ _) _ c.self.inside.in_flight.items c.self.invariant.0.5),
+  ),
+  c.mark_all-self-inside.ensures.sets,
 )

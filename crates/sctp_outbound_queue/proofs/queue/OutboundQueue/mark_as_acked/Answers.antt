@@ -8,10 +8,12 @@ use Rattle.sctp_outbound_queue.proofs.queue.OutboundQueue.mark_as_acked.Goals as
 pub invariant_of-self : goal.invariant_of-self
 invariant_of-self c =
     let item = c.in-Some.ensures.item in
-    let there = item_there c.self.inside.in_flight.items c.index_of-index.result c.in-Some.piece.now item.3.0 item.1 in
-    let mark : c.from.result ≡ cond c.in-Some.piece.now.retransmit 1 0 =
-    ⊎_elim (λ (t : c.in-Some.piece.now.retransmit ≡ true). let e = rw t at c.from.ensures in rw t e)
-    (λ (f : c.in-Some.piece.now.retransmit ≡ false). let e = rw f at c.from.ensures in rw f e)
-    (cases_Bool c.in-Some.piece.now.retransmit) in
-    kept_acked _ c.self.inside.pending.items c.self.inside.in_flight.items c.index_of-index.result c.self.invariant
-    there c.outstanding_bytes-bytes.ensures mark c.acknowledge.ensures
+    let there = item_there c.self.inside.in_flight.items c.index_of-index.result c.in-Some.named.now item.3.0 item.1 in
+    let mark : c.from.result ≡ cond c.in-Some.named.now.retransmit 1 0 =
+    ⊎_elim (λ (t : c.in-Some.named.now.retransmit ≡ true). let e = rw t at c.from.ensures in rw t e)
+    (λ (f : c.in-Some.named.now.retransmit ≡ false). let e = rw f at c.from.ensures in rw f e)
+    (cases_Bool c.in-Some.named.now.retransmit) in (
+      kept_acked _ c.self.inside.pending.items c.self.inside.in_flight.items c.index_of-index.result c.self.invariant.0
+          there c.outstanding_bytes-bytes.ensures mark c.acknowledge.ensures,
+      c.settle.ensures c.self.inside.in_flight.items c.self.invariant.1,
+    )

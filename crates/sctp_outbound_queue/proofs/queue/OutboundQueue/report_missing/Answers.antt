@@ -8,21 +8,24 @@ use Rattle.sctp_outbound_queue.proofs.queue.OutboundQueue.report_missing.Goals a
 
 pub invariant_of-self : goal.invariant_of-self
 invariant_of-self c = (
-  c.self.invariant.0,
-  c.self.invariant.1
-      ∙ sym (ap outstanding_of c.report_missing.ensures.counted
-      ∙ as_many_outstanding c.args.count c.self.inside.in_flight.items),
-  c.self.invariant.2,
-  c.self.invariant.3
-      ∙ sym (ap marked_of c.report_missing.ensures.counted
-      ∙ as_many_marked c.args.count c.self.inside.in_flight.items),
-  rw c.report_missing.ensures.counted
-      (omega (
-        arith,
-        after_reports reported_missing reported c.args.count c.self.inside.in_flight.items,
-        c.self.invariant.4,
-      )),
-  rw c.report_missing.ensures.counted
-      (timely_first _ reported_missing
-      (reported_keeps _ _) c.args.count _ c.self.inside.in_flight.items c.self.invariant.5),
+  (
+    c.self.invariant.0.0,
+    c.self.invariant.0.1
+        ∙ sym (ap outstanding_of c.report_missing.ensures.counted
+        ∙ as_many_outstanding c.args.count c.self.inside.in_flight.items),
+    c.self.invariant.0.2,
+    c.self.invariant.0.3
+        ∙ sym (ap marked_of c.report_missing.ensures.counted
+        ∙ as_many_marked c.args.count c.self.inside.in_flight.items),
+    rw c.report_missing.ensures.counted
+        (omega (
+          arith,
+          after_reports reported_missing reported c.args.count c.self.inside.in_flight.items,
+          c.self.invariant.0.4,
+        )),
+    rw c.report_missing.ensures.counted
+        (timely_first _ reported_missing
+        (reported_keeps _ _) c.args.count _ c.self.inside.in_flight.items c.self.invariant.0.5),
+  ),
+  c.report_missing.ensures.sets,
 )

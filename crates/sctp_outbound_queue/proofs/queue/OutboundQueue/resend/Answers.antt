@@ -1,0 +1,37 @@
+use Rattle.std.proofs.Common.{◌≡◌, true, false, ⊎_elim, refl, arith}
+use Rattle.std.proofs.Math.Bool.{cond}
+use Rattle.std.proofs.lemmas.Bool.{cases_Bool}
+use Rattle.sctp_outbound_queue.proofs.FirstOutstanding.{item_there, none_past}
+use Rattle.sctp_outbound_queue.proofs.QueuedBytes.{kept_resent}
+use Rattle.sctp_outbound_queue.proofs.queue.OutboundQueue.resend.Goals as goal
+
+pub invariant_of-self : goal.invariant_of-self
+invariant_of-self c =
+    let item = c.in-Some.ensures.item in
+    let there = item_there c.self.inside.in_flight.items c.args.index c.in-Some.piece.now item.3.0 item.1 in
+    let before : c.from.result ≡ cond c.in-Some.piece.now.retransmit 1 0 =
+    ⊎_elim (λ (t : c.in-Some.piece.now.retransmit ≡ true). let e = rw t at c.from.ensures in rw t e)
+    (λ (f : c.in-Some.piece.now.retransmit ≡ false). let e = rw f at c.from.ensures in rw f e)
+    (cases_Bool c.in-Some.piece.now.retransmit) in
+    let after : c.from-in-Some.result ≡ cond c.resend.new.self.retransmit 1 0 =
+    ⊎_elim (λ (t : c.resend.new.self.retransmit ≡ true). let e = rw t at c.from-in-Some.ensures in rw t e)
+    (λ (f : c.resend.new.self.retransmit ≡ false). let e = rw f at c.from-in-Some.ensures in rw f e)
+    (cases_Bool c.resend.new.self.retransmit) in (
+      kept_resent c.args.by c.self.inside.clocks c.self.inside.pending.items c.self.inside.in_flight.items c.args.index
+          c.self.invariant.0 there c.resend.ensures before after,
+      c.settle.ensures c.self.inside.in_flight.items c.self.invariant.1,
+    )
+
+pub returns-in-Some : goal.returns-in-Some
+returns-in-Some c =
+    let item = c.in-Some.ensures.item in
+    let there = item_there c.self.inside.in_flight.items c.args.index c.in-Some.piece.now item.3.0 item.1 in
+    rw (← c.self.view_is, there, c.resend.ensures) refl
+
+pub returns-in_default : goal.returns-in_default
+returns-in_default c =
+    rw (
+      ← c.self.view_is,
+      none_past c.self.inside.in_flight.items c.args.index
+          (λ l. c.in_default.ensures.variant.1 (omega (arith, l, c.self.inside.in_flight.ok.0))),
+    ) refl
