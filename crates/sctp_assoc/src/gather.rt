@@ -29,6 +29,7 @@ ghost use Rattle.sctp_resets.specs.Resets.{request_sent};
 use crate::Association;
 use crate::control::Control;
 use bytes::Bytes;
+use sctp_looks::Looks;
 use sctp_outbound_queue::Retransmission;
 use sctp_parts::state::AckState;
 use sctp_parts::timer::Timer;
@@ -197,7 +198,9 @@ impl Association {
         ensures grows { OnErr result (gives_up_before (uses_forward_tsn self.old) by self.old.sender ≡ true) }
     {
         let forward = self.handshake.use_forward_tsn;
-        self.sender.give_up(&mut self.streams, fallen, forward, by)?;
+        let mut looks = Looks::new();
+        self.sender
+            .give_up(&mut self.streams, fallen, forward, by, &mut looks)?;
         Ok(())
     }
 
@@ -213,7 +216,7 @@ impl Association {
         ensures grows { OnErr result (marks_give self.old ≡ true) }
     {
         self.give_up(fallen, Retransmission::Timer)?;
-        self.sender.resend_marked(packets)?;
+        self.sender.resend_marked(packets, &mut Looks::new())?;
         packets.close()
     }
 
@@ -229,7 +232,7 @@ impl Association {
         ensures grows { OnErr result (fast_gives self.old ≡ true) }
     {
         self.give_up(fallen, Retransmission::Fast)?;
-        let fast = self.sender.resend_missing(packets)?;
+        let fast = self.sender.resend_missing(packets, &mut Looks::new())?;
         self.stats.add_fast_retrans(fast);
         packets.close()
     }

@@ -13,3 +13,4 @@ pub mod Spared
 pub mod NoneLeft
 pub mod Dropped
 pub mod Falling
+pub mod Passes

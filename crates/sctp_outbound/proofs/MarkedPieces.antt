@@ -1,16 +1,12 @@
 -- Where the retransmission timer marked none of the pieces in flight, none is sent again.
-use Rattle.std.proofs.Common.{◌≡◌, ℕ, zero, suc, ◌+◌, false, Bool, true, List, [], ◌∷◌, drop, refl, ap, ◌∙◌, arith}
+use Rattle.std.proofs.Common.{◌≡◌, ℕ, ◌+◌, false, Bool, true, List, [], ◌∷◌, refl, ap, ◌∙◌, arith}
 use Rattle.std.proofs.Math.Bool.{cond}
-use Rattle.std.proofs.lemmas.Bool.{eqb-true}
 use Rattle.std.proofs.lemmas.List.Sums.{sum_by-cons}
-use Rattle.sctp_wire_types.specs.declared.chunk.ChunkPayloadData.{ChunkPayloadData}
 use Rattle.sctp_outbound_queue.specs.declared.message.InFlight.{InFlight}
-use Rattle.sctp_outbound_queue.specs.declared.message.Retransmission.{Retransmission}
 use Rattle.sctp_outbound_queue.specs.declared.message.Retransmission.TheVariants as causes
 use Rattle.sctp_outbound_queue.specs.Outbound.{marked_of}
-use Rattle.sctp_outbound.specs.declared.sender.Sender.{Sender}
-use Rattle.sctp_outbound.specs.Sender.{none_left, resent_chunks, resent_pieces}
-use Rattle.sctp_outbound.proofs.SenderSteps.{Stopped, chunks_skip, pieces_skip}
+use Rattle.sctp_outbound.specs.Sender.{resent_chunks, resent_pieces}
+use Rattle.sctp_outbound.proofs.SenderSteps.{chunks_skip, pieces_skip}
 
 count_none : (b : Bool) (n m : ℕ) → m ≡ cond b 1 0 + n → m ≡ 0 → (b ≡ false) × (n ≡ 0)
 count_none true n m sum none = absurd (omega (arith, sum, none))
@@ -21,33 +17,15 @@ none_of p ps none =
     count_none p.retransmit (marked_of ps) (marked_of (p ∷ ps))
     (sum_by-cons (λ (q : InFlight). cond q.retransmit 1 0) p ps) none
 
-none_resent : (first index room : ℕ) (ps : List InFlight) → marked_of ps ≡ 0
+pub none_resent : (first index room : ℕ) (ps : List InFlight) → marked_of ps ≡ 0
     → resent_chunks causes.Timer first index room ps ≡ []
 none_resent first index room [] none = refl
 none_resent first index room (p ∷ ps) none =
     let both = none_of p ps none in
     chunks_skip causes.Timer p ps first index room both.0 ∙ none_resent first (index + 1) room ps both.1
 
-all_stay : (room : ℕ) (ps : List InFlight) → marked_of ps ≡ 0 → resent_pieces causes.Timer room ps ≡ ps
+pub all_stay : (room : ℕ) (ps : List InFlight) → marked_of ps ≡ 0 → resent_pieces causes.Timer room ps ≡ ps
 all_stay room [] none = refl
 all_stay room (p ∷ ps) none =
     let both = none_of p ps none in
     pieces_skip causes.Timer p ps room both.0 ∙ ap (λ z. p ∷ z) (all_stay room ps both.1)
-
-none_behind : (i : ℕ) (ps : List InFlight) → marked_of ps ≡ 0 → marked_of (drop i ps) ≡ 0
-none_behind zero ps none = none
-none_behind (suc i) [] none = refl
-none_behind (suc i) (p ∷ ps) none = none_behind i ps (none_of p ps none).1
-
--- nothing more is resent from an index on
-pub stops : (k : Retransmission) (s : Sender) (i left : ℕ) (given : List ChunkPayloadData) → none_left k s ≡ true
-    → Stopped k s s i left given given
-stops causes.Timer s i left given known =
-    let none = none_behind i s.queue.in_flight (eqb-true (marked_of s.queue.in_flight) 0 known) in
-    record {
-      sender = refl;
-      sent = refl;
-      pieces = all_stay left (drop i s.queue.in_flight) none;
-      chunks = none_resent s.queue.first_tsn i left (drop i s.queue.in_flight) none;
-    }
-stops causes.Fast s i left given known = absurd (cc)

@@ -1,11 +1,14 @@
 // Messages that are given up (RFC 3758 section 3.5).
-ghost use Rattle.std.specs.Prelude.{◌≡◌, ◌<◌, is_some, nat_lt, length, slice_get, true, Some, IfOk, OnErr, OnOk};
+ghost use Rattle.std.specs.Prelude.{◌≡◌, ◌<◌, ◌≤◌, ◌+◌, is_some, nat_lt, length, slice_get, true, false, Some};
+ghost use Rattle.std.specs.Prelude.{IfOk, OnErr, OnOk};
+ghost use Rattle.std.specs.List.{position_or_len};
+ghost use Rattle.sctp_outbound_queue.specs.Message.{picks};
 ghost use Rattle.sctp_outbound_queue.specs.Expiry.{after_tail_expiry};
 ghost use Rattle.sctp_outbound_queue.specs.Outbound.{abandoned_at};
 ghost use Rattle.sctp_streams.specs.LowMarks.{AreGathered, falls_in};
 ghost use Rattle.sctp_streams.specs.Streams.{released_in};
 ghost use Rattle.sctp_outbound.specs.Abandonment.{abandoned_if, abandoned_of, all_given_up, asked_past, expired_by};
-ghost use Rattle.sctp_outbound.specs.Abandonment.{expires};
+ghost use Rattle.sctp_outbound.specs.Abandonment.{expires, looks_for, pass_looks};
 ghost use Rattle.sctp_outbound.specs.Abandonment.{first_spent, given_up_before, gives_up_before, has_late_tail};
 ghost use Rattle.sctp_outbound.specs.Abandonment.{is_pass_due, is_spent, next_given_up, pass_room};
 ghost use Rattle.sctp_outbound.specs.Abandonment.{reached_at, released_with, spent_index, tail_given_up, with_started};
@@ -13,6 +16,7 @@ ghost use Rattle.sctp_outbound.specs.Falling.{falls_at, fell_at, fell_before, fe
 ghost use Rattle.sctp_outbound.specs.Falling.{fell_with_tail};
 
 use crate::sender::Sender;
+use sctp_looks::Looks;
 use sctp_outbound_queue::{InFlight, OutboundQueue, Retransmission};
 use sctp_streams::{Fallen, Streams};
 use sctp_wire_types::{Instant, Policy, StreamId};
@@ -42,8 +46,9 @@ impl Sender {
     /// Where FORWARD TSN is in use, gives up what `resend_marked` or `resend_missing` would send again too often: a
     /// piece that the pass reaches and that was sent more often than its message may be sent again. Its message is
     /// abandoned whole, and its bytes are released at its stream; the pass is looked at anew after each. Answers
-    /// whether any message was given up. It lacks memory only where one is. Goes over what is in flight once, and twice
-    /// more for each message that is given up; over nothing where nothing is marked, or fast retransmission is not due.
+    /// whether any message was given up. It lacks memory only where one is. A pass looks for each piece that it would
+    /// send again and once more, and not at all where nothing is marked, or fast retransmission is not due; for each
+    /// message that is given up all that is in flight is gone over.
     #[tactic(auto, using(sctp_streams::proofs::LowMarks::none_gathered))]
     pub fn give_up(
         &mut self,
@@ -51,17 +56,20 @@ impl Sender {
         fallen: &mut Fallen,
         forward: bool,
         by: Retransmission,
+        looks: &mut Looks,
     ) -> Result<bool, AllocError>
         ensures exact { OnOk result (given_up_before forward by (self.old, streams.old) ≡ (self.new, streams.new)) }
         ensures any { IfOk result (λ any. any ≡ gives_up_before forward by self.old) }
         ensures falls { OnOk result
             (AreGathered (fell_before forward by (self.old, streams.old)) fallen.old fallen.new) }
         ensures grows { OnErr result (gives_up_before forward by self.old ≡ true) }
+        ensures looks { (gives_up_before forward by self.old ≡ false)
+            → looks.new ≤ looks.old + pass_looks by self.old }
     {
         if !forward {
             return Ok(false);
         }
-        self.abandon_all(streams, fallen, &Reason::Spent(by))
+        self.abandon_all(streams, fallen, &Reason::Spent(by), looks)
     }
 
     /// Where FORWARD TSN is in use, lets the time of each message that has one run from `now` on where it does not run
@@ -85,7 +93,8 @@ impl Sender {
             return Ok(false);
         }
         self.start_timed(now);
-        let any_sent = self.abandon_all(streams, fallen, &Reason::Expired(now))?;
+        let why = Reason::Expired(now);
+        let any_sent = self.abandon_all(streams, fallen, &why, &mut Looks::new())?;
         let tail = self.expire_tail(streams, fallen, now)?;
         Ok(any_sent | tail)
     }
@@ -121,16 +130,19 @@ impl Sender {
         streams: &mut Streams,
         fallen: &mut Fallen,
         why: &Reason,
+        looks: &mut Looks,
     ) -> Result<bool, AllocError>
         ensures exact { OnOk result (all_given_up why.now (self.old, streams.old) ≡ (self.new, streams.new)) }
         ensures any { IfOk result (λ any. any ≡ is_some (next_given_up why.now self.old)) }
         ensures falls { OnOk result
             (AreGathered (fell_giving_up why.now (self.old, streams.old)) fallen.old fallen.new) }
         ensures grows { OnErr result (is_some (next_given_up why.now self.old) ≡ true) }
+        ensures looks { (is_some (next_given_up why.now self.old) ≡ false)
+            → looks.new ≤ looks.old + looks_for why.now self.old }
     {
         let count = self.queue.inflight_len();
         for done in 0..count {
-            if !self.abandon_next(streams, fallen, why)? {
+            if !self.abandon_next(streams, fallen, why, looks)? {
                 return Ok(done > 0);
             }
         }
@@ -144,6 +156,7 @@ impl Sender {
         streams: &mut Streams,
         fallen: &mut Fallen,
         why: &Reason,
+        looks: &mut Looks,
     ) -> Result<bool, AllocError>
         ensures exact { OnOk result
             (abandoned_if (next_given_up why.now self.old) (self.old, streams.old) ≡ (self.new, streams.new)) }
@@ -151,8 +164,9 @@ impl Sender {
         ensures falls { OnOk result
             (AreGathered (fell_at (next_given_up why.now self.old) (self.old, streams.old)) fallen.old fallen.new) }
         ensures grows { OnErr result (is_some (next_given_up why.now self.old) ≡ true) }
+        ensures looks { looks.new ≤ looks.old + looks_for why.now self.old }
     {
-        match self.next_given_up(why) {
+        match self.next_given_up(why, looks) {
             Some(index) => {
                 self.abandon(streams, fallen, index)?;
                 Ok(true)
@@ -189,24 +203,26 @@ impl Sender {
     }
 
     // The index of the piece in flight whose message is given up next.
-    fn next_given_up(&mut self, why: &Reason) -> Option<usize>
+    fn next_given_up(&mut self, why: &Reason, looks: &mut Looks) -> Option<usize>
         ensures same { self.new ≡ self.old }
         ensures index { result ≡ next_given_up why.now self.old }
+        ensures looks { looks.new ≤ looks.old + looks_for why.now self.old }
     {
         match why {
             Reason::Expired(now) => self.queue.expired_inflight(*now),
-            Reason::Spent(by) => self.first_spent(*by),
+            Reason::Spent(by) => self.first_spent(*by, looks),
         }
     }
 
     // The index of the first piece that a pass would send again too often.
-    fn first_spent(&self, by: Retransmission) -> Option<usize>
-        ensures { result ≡ first_spent by self.now }
+    fn first_spent(&self, by: Retransmission, looks: &mut Looks) -> Option<usize>
+        ensures index { result ≡ first_spent by self.now }
+        ensures looks { looks.new ≤ looks.old + pass_looks by self.now }
     {
         if !self.is_pass_due(by) {
             return None;
         }
-        self.spent_index(by)
+        self.spent_index(by, looks)
     }
 
     fn is_pass_due(&self, by: Retransmission) -> bool
@@ -218,20 +234,25 @@ impl Sender {
         }
     }
 
-    fn pass_room(&self, by: Retransmission) -> u64
+    // The room of a pass whose first piece stands at this index.
+    fn pass_room(&self, by: Retransmission, first: usize) -> u64
+        requires { first ≡ position_or_len (picks by) self.now.queue.in_flight }
         ensures { result ≡ pass_room by self.now }
     {
         match by {
             Retransmission::Timer => u64::from(self.congestion.cwnd.min(self.rwnd())),
-            Retransmission::Fast => self.fast_room(),
+            Retransmission::Fast => self.fast_room(first),
         }
     }
 
-    fn spent_index(&self, by: Retransmission) -> Option<usize>
-        ensures { result ≡ spent_index by 0 (pass_room by self.now) self.now.queue.in_flight }
+    fn spent_index(&self, by: Retransmission, looks: &mut Looks) -> Option<usize>
+        ensures index { result ≡ spent_index by 0 (pass_room by self.now) self.now.queue.in_flight }
+        ensures looks { looks.new ≤ looks.old + pass_looks by self.now }
     {
-        let mut left = self.pass_room(by);
-        for index in 0..self.queue.inflight_len() {
+        let count = self.queue.inflight_len();
+        let mut index = self.next_picked(by, 0, looks);
+        let mut left = self.pass_room(by, index);
+        'pieces: while index < count {
             let Some(piece) = self.queue.get(index) else {
                 return None;
             };
@@ -240,6 +261,7 @@ impl Sender {
                 Reached::Spent => return Some(index),
                 Reached::Full => return None,
             }
+            index = self.next_picked(by, index + 1, looks);
         }
         None
     }

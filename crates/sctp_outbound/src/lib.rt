@@ -8,6 +8,7 @@ mod gap_acks;
 mod laws;
 mod progress;
 mod recovery;
+mod resending;
 mod sender;
 mod unsent;
 

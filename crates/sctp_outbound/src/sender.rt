@@ -6,23 +6,21 @@ ghost use Rattle.sctp_streams.specs.Streams.{released_in};
 ghost use Rattle.sctp_streams.specs.LowMarks.{Gathers};
 ghost use Rattle.std.specs.Prelude.{true, is_some, ◌≡◌, ◌+◌, ◌-◌, ◌/◌, if◌then◌else◌, ◌≤◌, ◌<◌, ◌^◌, ◌++◌, ◌∷◌, []};
 ghost use Rattle.std.specs.Prelude.{OnErr, OnOk, IfOk, IfSome, length, slice_get, nat_lt};
-ghost use Rattle.sctp_outbound.specs.Sender.{goes_again, none_left, resends, sends_new, fresh_sender, window_left};
+ghost use Rattle.sctp_outbound.specs.Sender.{sends_new, fresh_sender, window_left};
 ghost use Rattle.sctp_outbound.specs.Sender.{marks};
 ghost use Rattle.sctp_outbound.specs.Sender.{cumulative_tsn_ack_point_of, tsns_up_to, after_first, acknowledged};
 ghost use Rattle.sctp_outbound.specs.Sacks.{progress_of, sack_taken, with_growth};
 ghost use Rattle.sctp_outbound.specs.Progress.{any_new_up_to, is_new_piece};
 ghost use Rattle.sctp_outbound.specs.Sender.{after_t3_timeout};
 ghost use Rattle.sctp_outbound.specs.Sender.{sack_outcome, with_first_window, with_window, t3_after_sack, chunk_of};
-ghost use Rattle.sctp_outbound.specs.Sender.{next_chunk_of, data_of, can_send_next, is_measured, after_resending};
-ghost use Rattle.sctp_outbound.specs.Sender.{resent_by, alone_length, with_in_flight, resent_pieces, resent_chunks};
-ghost use Rattle.sctp_outbound.specs.Sender.{after_marked, after_missing, fast_room, marked_by, missing_by};
+ghost use Rattle.sctp_outbound.specs.Sender.{next_chunk_of, data_of, can_send_next, is_measured};
 ghost use Rattle.sctp_wire.specs.DataPackets.{with_all};
-ghost use Rattle.sctp_outbound.specs.Sender.{chunks_tried, tried_again, sent_new, sent_within, sent_one};
+ghost use Rattle.sctp_outbound.specs.Sender.{sent_new, sent_within, sent_one};
 
 use crate::congestion::CongestionWindow;
 use crate::progress::{Progress, is_new};
 use bytes::Bytes;
-use sctp_outbound_queue::{Attributes, InFlight, OutboundQueue, PendingMessage, Retransmission};
+use sctp_outbound_queue::{Attributes, InFlight, OutboundQueue, PendingMessage};
 use sctp_parts::estimate::RtoManager;
 use sctp_parts::timer::{Timer, TimerTable};
 use sctp_streams::{Fallen, Streams};
@@ -32,9 +30,6 @@ use std::alloc::{AllocError, Global};
 
 /// Bytes that a packet may have beside the payload of one DATA chunk, without padding: common header and DATA header.
 const PACKET_OVERHEAD: u32 = 28;
-
-/// Bytes of the common header of a packet (RFC 4960 section 3.1).
-const COMMON_HEADER: u32 = 12;
 
 /// What a SACK was to the sender.
 #[derive(Clone, Copy, Debug, PartialEq, Eq)]
@@ -303,141 +298,6 @@ impl Sender {
         self.congestion.on_t3_timeout(self.mtu);
     }
 
-    /// Sends marked DATA again, in TSN order (RFC 4960 section 6.3.3): at each call as many bytes of payload as the
-    /// lesser of the congestion window and what is left of the peer's window. What earlier calls sent again is not
-    /// taken off, and it may be several packets. Where the peer's window is too small for the first TSN in flight, that
-    /// one goes alone. It lacks memory only where a chunk is sent again. Goes over what is in flight until no more of
-    /// it is marked, so over nothing where nothing is.
-    pub fn resend_marked(&mut self, out: &mut DataPackets) -> Result<(), AllocError>
-        ensures sender { OnOk result (self.new ≡ after_marked self.old) }
-        ensures chunks { OnOk result (out.new ≡ with_all out.old (marked_by self.old)) }
-        ensures grows { OnErr result (nat_lt 0 (length (marked_by self.old)) ≡ true) }
-    {
-        if let Some(length) = self.alone_length() {
-            self.resend_at(Retransmission::Timer, 0, length, out)?;
-            return Ok(());
-        }
-        let window = self.congestion.cwnd.min(self.rwnd());
-        self.resend_within(Retransmission::Timer, u64::from(window), out)?;
-        Ok(())
-    }
-
-    /// Sends again, where fast retransmission is due, one packet of the DATA that was sent once and is missing (RFC
-    /// 4960 section 7.2.4), and answers how many chunks. It lacks memory only where a chunk is sent again. Goes over
-    /// what is in flight.
-    pub fn resend_missing(&mut self, out: &mut DataPackets) -> Result<u64, AllocError>
-        ensures count { IfOk result (λ count. count ≡ length (missing_by self.old)) }
-        ensures sender { OnOk result (self.new ≡ after_missing self.old) }
-        ensures chunks { OnOk result (out.new ≡ with_all out.old (missing_by self.old)) }
-        ensures grows { OnErr result (nat_lt 0 (length (missing_by self.old)) ≡ true) }
-    {
-        if !self.is_fast_due {
-            return Ok(0);
-        }
-        let room = self.fast_room();
-        self.is_fast_due = false;
-        self.resend_within(Retransmission::Fast, room, out)
-    }
-
-    // The room of one packet behind its common header, in bytes; a piece that is longer goes alone.
-    pub(crate) fn fast_room(&self) -> u64
-        ensures { result ≡ fast_room self.now }
-    {
-        let room = u64::from(self.mtu.saturating_sub(COMMON_HEADER));
-        match self.queue.first_missing() {
-            Some(piece) => room.max(piece.room_taken(Retransmission::Fast)),
-            None => room,
-        }
-    }
-
-    // The length of the first piece in flight, where it is marked and the peer's window is too small for it.
-    fn alone_length(&self) -> Option<u64>
-        ensures { result ≡ alone_length self.now }
-    {
-        let piece = self.queue.get(0)?;
-        let length = piece.user_data.len() as u64;
-        if piece.retransmit && u64::from(self.rwnd()) < length {
-            Some(length)
-        } else {
-            None
-        }
-    }
-
-    // Whether it is known that a reason picks no piece in flight: the marks of the timer are counted.
-    pub(crate) fn none_left(&self, by: Retransmission) -> bool
-        ensures { result ≡ none_left by self.now }
-    {
-        match by {
-            Retransmission::Timer => self.queue.marked_len() == 0,
-            Retransmission::Fast => false,
-        }
-    }
-
-    // Sends pieces again for a reason, in TSN order, until none is left or one does not fit into what is left of `room`
-    // bytes, and answers how many.
-    fn resend_within(
-        &mut self,
-        by: Retransmission,
-        room: u64,
-        out: &mut DataPackets,
-    ) -> Result<u64, AllocError>
-        ensures count { IfOk result
-            (λ count. count ≡ length (resent_chunks by self.old.queue.first_tsn 0 room self.old.queue.in_flight)) }
-        ensures sender { OnOk result
-            (self.new ≡ with_in_flight self.old (resent_pieces by room self.old.queue.in_flight)) }
-        ensures chunks { OnOk result (out.new ≡
-            with_all out.old (resent_chunks by self.old.queue.first_tsn 0 room self.old.queue.in_flight)) }
-        ensures grows { OnErr result
-            (nat_lt 0 (length (resent_chunks by self.old.queue.first_tsn 0 room self.old.queue.in_flight)) ≡ true) }
-    {
-        let mut left = room;
-        let mut sent = 0;
-        for index in 0..self.queue.inflight_len() {
-            if self.none_left(by) {
-                return Ok(sent);
-            }
-            match self.resend_at(by, index, left, out)? {
-                Attempt::Passed => {}
-                Attempt::Sent { room } => {
-                    left = room;
-                    sent += 1;
-                }
-                Attempt::Full => return Ok(sent),
-            }
-        }
-        Ok(sent)
-    }
-
-    // Sends the piece at an index again, where the reason picks it and `room` bytes are enough for it.
-    fn resend_at(
-        &mut self,
-        by: Retransmission,
-        index: usize,
-        room: u64,
-        out: &mut DataPackets,
-    ) -> Result<Attempt, AllocError>
-        ensures exact { IfOk result (λ attempt. tried_again by (slice_get self.old.queue.in_flight index) self.old index
-            room ≡ (self.new, attempt)) }
-        ensures chunks { IfOk result (λ attempt. out.new ≡ with_all out.old
-            (chunks_tried by (slice_get self.old.queue.in_flight index) self.old index room)) }
-        ensures grows { OnErr result (goes_again by (slice_get self.old.queue.in_flight index) room ≡ true) }
-    {
-        let Some(piece) = self.queue.get(index) else {
-            return Ok(Attempt::Full);
-        };
-        if !piece.goes_again(by) {
-            return Ok(Attempt::Passed);
-        }
-        let taken = piece.room_taken(by);
-        if taken > room {
-            return Ok(Attempt::Full);
-        }
-        let chunk = sent_chunk(piece, self.queue.tsn_at(index))?;
-        out.add(&chunk)?;
-        self.queue.resend(index, by);
-        Ok(Attempt::Sent { room: room - taken })
-    }
-
     /// Sends DATA that waits while the windows allow it, and answers whether any was sent. With nothing in flight one
     /// piece goes whatever the windows are, to probe them (RFC 4960 section 6.1). It lacks memory only where a chunk is
     /// sent.
@@ -529,7 +389,7 @@ pub(crate) fn release(streams: &mut Streams, fallen: &mut Fallen, piece: &InFlig
 }
 
 // A piece in flight, as DATA.
-fn sent_chunk(piece: &InFlight, tsn: u32) -> Result<ChunkPayloadData, AllocError>
+pub(crate) fn sent_chunk(piece: &InFlight, tsn: u32) -> Result<ChunkPayloadData, AllocError>
     ensures { IfOk result (λ chunk. chunk ≡ chunk_of piece.now tsn) }
 {
     data_chunk(

@@ -1,6 +1,7 @@
 // The sender gives DATA out, and again after a timeout or once it is reported missing.
 use crate::outbound_queue::message;
 use bytes::Bytes;
+use sctp_looks::Looks;
 use sctp_outbound::{SackOutcome, Sender};
 use sctp_parts::estimate::RtoManager;
 use sctp_parts::timer::TimerTable;
@@ -48,7 +49,7 @@ fn sent_twice(alloc: Global) -> Result<[(Vec<u32>, usize); 2], Fail> {
     sender.send_new(&mut first, Instant::from_millis(0))?;
     sender.on_t3_timeout();
     let mut again = no_packets(alloc);
-    sender.resend_marked(&mut again)?;
+    sender.resend_marked(&mut again, &mut Looks::new())?;
     Ok([tsns_in(alloc, first)?, tsns_in(alloc, again)?])
 }
 
@@ -101,7 +102,7 @@ fn again_after(alloc: Global, reports: u16) -> Result<(Vec<u32>, u32), Fail> {
         report(alloc, &mut sender, last)?;
     }
     let mut out = no_packets(alloc);
-    sender.resend_missing(&mut out)?;
+    sender.resend_missing(&mut out, &mut Looks::new())?;
     let (tsns, _) = tsns_in(alloc, out)?;
     Ok((tsns, sender.congestion.ssthresh))
 }

@@ -1,4 +1,4 @@
-use Rattle.std.specs.Prelude.{◌-◌}
+use Rattle.std.specs.Prelude.{◌-◌, ◌≡◌}
 use Rattle.sctp_outbound.specs.Falling.{fell_first}
 use Rattle.sctp_outbound.proofs.Falling.{FallsOn}
 use Rattle.sctp_outbound.proofs.GivenUp.{GivesUpOn}
@@ -9,3 +9,4 @@ invariant-loop-done l =
     GivesUpOn l.why l.count l.done (l.fn.self, l.fn.streams) (l.self, l.streams)
     × FallsOn (fell_first l.count l.why (l.fn.self, l.fn.streams))
     (fell_first (l.count - l.done) l.why (l.self, l.streams)) l.fn.fallen l.fallen
+    × (l.done ≡ 0 → l.looks ≡ l.fn.looks)

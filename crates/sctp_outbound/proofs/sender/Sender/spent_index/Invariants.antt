@@ -1,8 +1,11 @@
-use Rattle.std.proofs.Common.{◌≡◌, drop}
-use Rattle.sctp_outbound.specs.Abandonment.{pass_room, spent_index}
+use Rattle.std.proofs.Common.{◌-◌}
+use Rattle.sctp_outbound.specs.Abandonment.{pass_room}
+use Rattle.sctp_outbound.proofs.Passes.{Walks}
 use Rattle.sctp_outbound.proofs.sender.Sender.spent_index.Given as goal
 
-abbrev pub invariant-loop-index : goal.invariant-loop-index
-invariant-loop-index l =
-    spent_index l.by l.index l.left (drop l.index l.self.queue.in_flight)
-    ≡ spent_index l.by 0 (pass_room l.by l.self) l.self.queue.in_flight
+abbrev pub invariant-pieces : goal.invariant-pieces
+invariant-pieces l =
+    Walks l.by l.self.queue.in_flight l.self.queue.first_tsn (pass_room l.by l.self) l.index l.left l.fn.looks l.looks
+
+abbrev pub decreases-pieces : goal.decreases-pieces
+decreases-pieces l = l.count - l.index
