@@ -17,4 +17,6 @@ mod queues;
 #[cfg(test)]
 mod received;
 #[cfg(test)]
+mod searches;
+#[cfg(test)]
 mod timers;
