@@ -110,6 +110,8 @@ static void honest_init_ack(size_t count) {
     end_chunk();
 }
 
+#define BLOCKS 368 /* the most in a datagram of that length */
+
 static void put_sack(size_t blocks, uint32_t between, uint32_t first, uint32_t last) {
     uint64_t sent = 24000; /* in_flight sent so many before */
     begin_chunk(3, 0);
@@ -130,7 +132,29 @@ static void dear_sack(size_t count) {
 
 static void honest_sack(size_t count) {
     (void)count;
-    put_sack(368, 10, 2, 6);
+    put_sack(BLOCKS, 10, 2, 6);
+}
+
+/* Each second piece in flight was acknowledged by a block. */
+static void holes(void) {
+    in_flight();
+    for (uint32_t first = 2; first <= IN_FLIGHT; first += 2 * BLOCKS) {
+        uint32_t left = (IN_FLIGHT - first) / 2 + 1;
+        begin_packet(OWN_TAG);
+        put_sack(left < BLOCKS ? left : BLOCKS, 2, first, first);
+        hand_in();
+    }
+}
+
+/* It fills all holes. */
+static void dear_holes(size_t count) {
+    put_sack(count, 0, 2, IN_FLIGHT);
+}
+
+/* It names what was acknowledged before. */
+static void honest_holes(size_t count) {
+    (void)count;
+    put_sack(BLOCKS, 2, 2, 2);
 }
 
 static void dear_heartbeat(size_t count) {
@@ -250,7 +274,8 @@ static const struct dear_case cases[] = {
     {"data_skips", skipping, 93, dear_behind, honest_behind, 0, 0, false, false},
     {"init", server, 367, dear_init, honest_init, 1, 0, false, false},
     {"init_ack", client, 367, dear_init_ack, honest_init_ack, 2, 0, false, false},
-    {"sack", in_flight, 368, dear_sack, honest_sack, 3, 0, false, false},
+    {"sack", in_flight, BLOCKS, dear_sack, honest_sack, 3, 0, false, false},
+    {"sack_holes", holes, 1, dear_holes, honest_holes, 3, 0, false, false},
     {"heartbeat", joined, 186, dear_heartbeat, honest_heartbeat, 4, 0, false, false},
     {"heartbeat_ack", retiring, 371, dear_parts, honest_parts, 5, 0, true, false},
     {"abort", retiring, 371, dear_parts, honest_parts, 6, 0, true, false},
