@@ -28,8 +28,6 @@ pub struct Candidates {
     end: u32,
     // For places with numbers below this one there is memory, whichever of them become members.
     bound: u32,
-    // The index of the range that a search looks at first: where a member was added or removed last.
-    cursor: usize,
 }
 
 impl Model for Candidates {
@@ -63,7 +61,6 @@ impl Candidates {
             begun: 0,
             end: 0,
             bound: 0,
-            cursor: 0,
         }
     }
 
@@ -202,7 +199,7 @@ impl Candidates {
         if place.is_begun(number) {
             return;
         }
-        self.cursor = add_at(&mut self.row, number, place, &mut Looks::new());
+        add_at(&mut self.row, number, place, &mut Looks::new());
     }
 
     /// The place at an index is no member any more.
@@ -219,7 +216,6 @@ impl Candidates {
         let place = self.locate(number);
         if place.is_begun(number) {
             remove_offsets(&mut self.row, number, number, place, place);
-            self.cursor = place.index;
         }
     }
 
@@ -242,7 +238,6 @@ impl Candidates {
         ensures places { self.new.places ≡ self.old.places }
     {
         self.row.clear();
-        self.cursor = 0;
     }
 
     // The number of a place.
@@ -253,7 +248,7 @@ impl Candidates {
         self.begun + index as u32
     }
 
-    // The range of a number, or the next one: one look at the range at the cursor, then halving on one side of it.
+    // The range of a number, or the next one: one look where a range came or left last, then halving on one side of it.
     #[tactic(auto, using(sctp_ranges::proofs::Halving::ended_here, sctp_ranges::proofs::Halving::not_ended_here, sctp_ranges::proofs::Halving::ended_within, std::proofs::lemmas::Option::slice_get_past))]
     fn locate(&self, number: u32) -> Place
         ensures index { result.index ≡ ended_before number self.now.list }
@@ -262,16 +257,15 @@ impl Candidates {
     {
         let mut looks = Looks::new();
         let len = self.row.len();
-        if len <= self.cursor {
+        let last = self.row.last_place();
+        if len <= last {
             return self.row.halve(number, 0, len, None, &mut looks);
         }
-        let run = self.row.at(self.cursor, &mut looks);
+        let run = self.row.at(last, &mut looks);
         if run.last < number {
-            self.row
-                .halve(number, self.cursor + 1, len, None, &mut looks)
+            self.row.halve(number, last + 1, len, None, &mut looks)
         } else {
-            self.row
-                .halve(number, 0, self.cursor, Some(run), &mut looks)
+            self.row.halve(number, 0, last, Some(run), &mut looks)
         }
     }
 }

@@ -3,6 +3,7 @@
 #![tactic(auto)]
 
 mod added;
+mod gap;
 mod removed;
 mod row;
 mod run;

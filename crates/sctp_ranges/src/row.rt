@@ -5,6 +5,7 @@ ghost use Rattle.std.specs.Option.{option_to_list};
 ghost use Rattle.sctp_looks.specs.Looks.{ticked_by};
 ghost use Rattle.sctp_ranges.specs.Runs.{AreApart, ended_before};
 
+use crate::gap::{move_gap, open_gap};
 use crate::run::{Place, Run};
 use sctp_looks::Looks;
 use std::alloc::{AllocError, Global};
@@ -13,19 +14,31 @@ use std::marker::Model;
 // Memory for more ranges than these is given back once there is none.
 const KEPT_ROOM: usize = 64;
 
+// More ranges than these count as want of memory.
+const MOST: usize = u32::MAX as usize;
+
 /// A list of ranges. The only call that reads one is `at`, which counts a look: nothing else leads to them.
+///
+/// A range comes or leaves at no cost where the last one did: only ranges between the two places move.
 #[derive(Drop)]
 pub struct Row {
+    // The ranges, and somewhere among them a gap: places that hold none.
     runs: Vec<Run>,
+    // How many ranges stand in front of the gap.
+    front: u32,
+    // How many places the gap has.
+    gap: u32,
 }
 
 impl Model for Row {
-    ghost use Rattle.std.specs.Prelude.{vec_capacity};
-    ghost use Rattle.sctp_ranges.specs.Stored.{Stored};
+    ghost use Rattle.std.specs.Prelude.{ℕ, ◌+◌, ◌^◌, ◌<◌, ◌≤◌, length, vec_capacity};
+    ghost use Rattle.sctp_ranges.specs.Stored.{Stored, closed};
 
     ghost Value = { Stored };
 
-    ghost view = { λ r. record { list = r.runs.items; room = vec_capacity r.runs } };
+    ghost view = { λ r. record { list = closed r.front r.gap r.runs.items; room = vec_capacity r.runs } };
+
+    ghost invariant = { λ r. (r.front + r.gap ≤ length r.runs.items) × (vec_capacity r.runs < 2 ^ 32) };
 }
 
 impl Row {
@@ -35,6 +48,8 @@ impl Row {
     {
         Row {
             runs: Vec::new(alloc),
+            front: 0,
+            gap: 0,
         }
     }
 
@@ -42,14 +57,22 @@ impl Row {
     pub fn len(&self) -> usize
         ensures { result ≡ length self.now.list }
     {
-        self.runs.len()
+        self.runs.len() - self.gap as usize
     }
 
     /// Whether there is no range.
     pub fn is_empty(&self) -> bool
         ensures { result ≡ (length self.now.list == 0) }
     {
-        self.runs.len() == 0
+        self.len() == 0
+    }
+
+    /// The index where a range came last, or in front of which the last ones left: a search may well begin there.
+    #[tactic(auto, using(crate::proofs::Rows::length_closed))]
+    pub fn last_place(&self) -> usize
+        ensures { result ≤ length self.now.list }
+    {
+        (self.front as usize).saturating_sub(1)
     }
 
     /// The range at an index, at which this looks once.
@@ -59,7 +82,11 @@ impl Row {
         ensures looks { looks.new ≡ ticked_by looks.old 1 }
     {
         looks.tick();
-        self.runs[index]
+        if index < self.front as usize {
+            self.runs[index]
+        } else {
+            self.runs[index + self.gap as usize]
+        }
     }
 
     /// Another range at an index.
@@ -68,7 +95,11 @@ impl Row {
         ensures { self.new ≡ record self.old { list = slice_set self.old.list index run } }
     {
         let runs = &mut self.runs;
-        runs[index] = run;
+        if index < self.front as usize {
+            runs[index] = run;
+        } else {
+            runs[index + self.gap as usize] = run;
+        }
     }
 
     /// One range more, before the one at an index; there is room for it.
@@ -77,7 +108,22 @@ impl Row {
         requires room { length self.old.list < self.old.room }
         ensures { self.new ≡ record self.old { list = insert self.old.list index run } }
     {
-        self.runs.insert(index, run).unwrap();
+        if self.gap == 0 {
+            let len = self.runs.len();
+            open_gap(&mut self.runs, run);
+            self.front = len as u32;
+            self.gap = (self.runs.len() - len) as u32;
+        }
+        move_gap(
+            &mut self.runs,
+            self.front as usize,
+            self.gap as usize,
+            index,
+        );
+        let runs = &mut self.runs;
+        runs[index] = run;
+        self.front = index as u32 + 1;
+        self.gap -= 1;
     }
 
     /// A range in the place of the one in front of an index, or one more where that is the index to start from; answers
@@ -109,31 +155,46 @@ impl Row {
     }
 
     /// Without the ranges from one index up to another, which is left out.
-    #[tactic(auto, using(crate::proofs::Rows::closed_up))]
     pub fn remove_between(&mut self, start: usize, end: usize)
         requires start { start ≤ end }
         requires end { end ≤ length self.old.list }
         ensures { self.new ≡ record self.old { list = take start self.old.list ++ drop end self.old.list } }
     {
-        let len = self.runs.len();
-        self.runs.copy_within(end..len, start);
-        self.runs.truncate(len - (end - start));
+        let nearest = (self.front as usize).max(start).min(end);
+        move_gap(
+            &mut self.runs,
+            self.front as usize,
+            self.gap as usize,
+            nearest,
+        );
+        self.front = start as u32;
+        self.gap += (end - start) as u32;
     }
 
     /// No range any more.
     pub fn clear(&mut self)
         ensures { self.new ≡ record self.old { list = [] } }
     {
-        self.runs.truncate(0);
+        self.front = 0;
+        self.gap = self.runs.len() as u32;
     }
 
-    /// Room for more ranges. Where memory is refused all stays as it was.
+    /// Room for more ranges. Where memory is refused all stays as it was; 2^32 ranges count as want of memory.
     pub fn reserve(&mut self, more: usize) -> Result<(), AllocError>
         ensures list { self.new.list ≡ self.old.list }
         ensures room { OnOk result (length self.new.list + more ≤ self.new.room) }
         ensures err { OnErr result (self.new ≡ self.old) }
     {
-        self.runs.reserve(more)
+        let len = self.len();
+        let room = self.runs.capacity();
+        if more <= room - len {
+            return Ok(());
+        }
+        if MOST - len < more {
+            return Err(AllocError);
+        }
+        let wanted = (len + more).max((2 * room).min(MOST));
+        self.runs.reserve_exact(wanted - self.runs.len())
     }
 
     /// Gives memory back where there is no range and it has become much.
@@ -141,7 +202,10 @@ impl Row {
         ensures list { self.new.list ≡ self.old.list }
         ensures room { 0 < length self.old.list → self.new.room ≡ self.old.room }
     {
-        if self.runs.len() == 0 && KEPT_ROOM < self.runs.capacity() {
+        if self.is_empty() && KEPT_ROOM < self.runs.capacity() {
+            self.runs.truncate(0);
+            self.front = 0;
+            self.gap = 0;
             self.runs.shrink_to(0);
         }
     }
