@@ -47,8 +47,7 @@ impl Sender {
     /// piece that the pass reaches and that was sent more often than its message may be sent again. Its message is
     /// abandoned whole, and its bytes are released at its stream; the pass is looked at anew after each. Answers
     /// whether any message was given up. It lacks memory only where one is. A pass looks for each piece that it would
-    /// send again and once more, and not at all where nothing is marked, or fast retransmission is not due; for each
-    /// message that is given up all that is in flight is gone over.
+    /// send again and once more; for each message that is given up all that is in flight is gone over.
     #[tactic(auto, using(sctp_streams::proofs::LowMarks::none_gathered))]
     pub fn give_up(
         &mut self,

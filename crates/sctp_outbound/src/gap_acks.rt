@@ -28,10 +28,10 @@ impl Sender {
     /// Takes in the gap ack blocks of a SACK whose cumulative TSN ack was taken in before (RFC 4960 sections 3.3.4 and
     /// 6.2.1). The pieces in flight that a block names are acknowledged, and those bytes of them that were outstanding
     /// until then are released at their streams. Blocks may overlap, stand in any order and be empty; offsets past what
-    /// is in flight name nothing. Goes over the offsets that the blocks name and that are in flight, block by block in
-    /// their order, and over nothing else; an offset that several blocks name is gone over once for each of them. A
-    /// piece that was acknowledged before is passed over. Streams that fall to their low mark are gathered. Answers the
-    /// last index that is acknowledged for the first time.
+    /// is in flight name nothing. Goes over the pieces that it acknowledges, block by block in their order, and over
+    /// nothing else: past pieces that were acknowledged before and are not marked to be sent again, or that a block
+    /// before named, it searches among ranges of them. Streams that fall to their low mark are gathered. Answers the last
+    /// index that is acknowledged for the first time.
     pub fn acknowledge_blocks(
         &mut self,
         rto: &mut RtoManager,
@@ -54,8 +54,8 @@ impl Sender {
     }
 
     // Takes in one block. The cumulative TSN ack is the TSN before the first one in flight, so the piece at index j is
-    // at the offset j + 1. Under loss each SACK names again what the ones before it named, until the gap is filled: the
-    // queue passes over those pieces, since nothing of them changes, and only the others are acknowledged.
+    // at the offset j + 1. Under loss each SACK names again what the ones before it named, until the gap is filled: of
+    // those pieces nothing changes, and only the others, which the queue finds, are acknowledged.
     fn acknowledge_block(
         &mut self,
         rto: &mut RtoManager,

@@ -1,8 +1,9 @@
 // DATA that is sent again (RFC 4960 sections 6.3.3 and 7.2.4).
-ghost use Rattle.std.specs.Prelude.{true, ◌≡◌, ◌+◌, ◌<◌, ◌≤◌, drop, length, nat_lt, slice_get};
+ghost use Rattle.std.specs.Prelude.{true, false, ◌≡◌, ◌+◌, ◌<◌, ◌≤◌, drop, length, nat_lt, slice_get};
 ghost use Rattle.std.specs.Prelude.{OnErr, OnOk, IfOk};
 ghost use Rattle.std.specs.List.{position_or_len};
 ghost use Rattle.sctp_outbound_queue.specs.Message.{picks};
+ghost use Rattle.sctp_outbound_queue.specs.Outbound.{marked_of};
 ghost use Rattle.sctp_wire.specs.DataPackets.{with_all};
 ghost use Rattle.sctp_outbound.specs.Sender.{after_marked, after_missing, alone_length, chunks_tried, fast_room};
 ghost use Rattle.sctp_outbound.specs.Sender.{goes_again, marked_by, missing_by, resent_chunks, resent_pieces};
@@ -22,7 +23,7 @@ impl Sender {
     /// lesser of the congestion window and what is left of the peer's window. What earlier calls sent again is not
     /// taken off, and it may be several packets. Where the peer's window is too small for the first TSN in flight, that
     /// one goes alone. It lacks memory only where a chunk is sent again. Looks for each TSN that it sends again and
-    /// once more, and not at all where nothing is marked.
+    /// once more; where nothing is marked it does not look.
     pub fn resend_marked(
         &mut self,
         out: &mut DataPackets,
@@ -32,6 +33,7 @@ impl Sender {
         ensures chunks { OnOk result (out.new ≡ with_all out.old (marked_by self.old)) }
         ensures grows { OnErr result (nat_lt 0 (length (marked_by self.old)) ≡ true) }
         ensures looks { looks.new ≤ looks.old + (length (marked_by self.old) + 1) }
+        ensures none { marked_of self.old.queue.in_flight ≡ 0 → looks.new ≡ looks.old }
     {
         if self.queue.marked_len() == 0 {
             return Ok(());
@@ -48,7 +50,7 @@ impl Sender {
 
     /// Sends again, where fast retransmission is due, one packet of the DATA that was sent once and is missing (RFC
     /// 4960 section 7.2.4), and answers how many chunks. It lacks memory only where a chunk is sent again. Looks for
-    /// each TSN that it sends again and once more, and not at all where fast retransmission is not due.
+    /// each TSN that it sends again and once more; where fast retransmission is not due it does not look.
     pub fn resend_missing(
         &mut self,
         out: &mut DataPackets,
@@ -59,6 +61,7 @@ impl Sender {
         ensures chunks { OnOk result (out.new ≡ with_all out.old (missing_by self.old)) }
         ensures grows { OnErr result (nat_lt 0 (length (missing_by self.old)) ≡ true) }
         ensures looks { looks.new ≤ looks.old + (length (missing_by self.old) + 1) }
+        ensures none { self.old.is_fast_due ≡ false → looks.new ≡ looks.old }
     {
         if !self.is_fast_due {
             return Ok(0);

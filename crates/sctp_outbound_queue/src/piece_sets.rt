@@ -18,7 +18,7 @@ use std::alloc::{AllocError, Global};
 pub(crate) struct PieceSets {
     /// Those that the retransmission timer marked to be sent again.
     marked: Candidates,
-    /// Those that were sent once and reported missing three times.
+    /// Those that are outstanding, were sent once and were reported missing three times.
     missing: Candidates,
     /// Those that gap ack blocks named and that are not marked to be sent again.
     acked: Candidates,
@@ -47,7 +47,7 @@ impl PieceSets {
         self.acked.reserve()
     }
 
-    /// One piece more is in flight, of which nothing is known yet.
+    /// One piece more is in flight, which is in no set.
     #[inline(always)]
     pub(crate) fn grow(&mut self)
         requires { HaveRoom self.old }
@@ -82,7 +82,7 @@ impl PieceSets {
         self.acked.set(index, piece.was_acknowledged());
     }
 
-    /// A piece changed that stays in the other two sets, or out of them.
+    /// A piece changed that may be marked now, or not any more. It stays in the other two sets, or out of them.
     pub(crate) fn settle_mark(&mut self, index: usize, piece: &InFlight)
         requires { HavePlace index self.old }
         ensures { (ps : List Piece) → (p : Piece) → slice_get ps index ≡ Some p
@@ -92,7 +92,7 @@ impl PieceSets {
         self.marked.set(index, piece.retransmit);
     }
 
-    /// A piece changed that stays in the other two sets, or out of them.
+    /// A piece changed that may be missing now, or not any more. It stays in the other two sets, or out of them.
     pub(crate) fn settle_missing(&mut self, index: usize, piece: &InFlight)
         requires { HavePlace index self.old }
         ensures { (ps : List Piece) → (p : Piece) → slice_get ps index ≡ Some p

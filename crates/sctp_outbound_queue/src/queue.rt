@@ -247,7 +247,8 @@ impl OutboundQueue {
         tsn.wrapping_sub(self.first_tsn) as usize
     }
 
-    /// Puts the next piece that waits in flight under the next TSN, sent once at `now`.
+    /// Puts the next piece that waits in flight under the next TSN, sent once at `now`. 2^31 pieces in flight count as
+    /// want of memory.
     pub fn send_next(&mut self, now: Instant) -> Result<(), AllocError>
         ensures ok { OnOk result (self.new ≡ sent_next self.old now) }
         ensures err { OnErr result (self.new ≡ self.old) }
