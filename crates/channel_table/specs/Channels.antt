@@ -1,5 +1,5 @@
 -- One channel.
-use Rattle.std.specs.Prelude.{ℕ, Bool, true, false, List, Option, Some, None}
+use Rattle.std.specs.Prelude.{ℕ, ◌&&◌, Bool, true, false, List, Option, Some, None, is_none}
 use Rattle.dcep_messages.specs.declared.persistence.Persistence.{Persistence}
 use Rattle.dcep_messages.specs.declared.persistence.Persistence.TheVariants as persistences
 use Rattle.channel_table.specs.declared.channel.Stage.{Stage}
@@ -58,6 +58,17 @@ may_send stages.Begun = true
 may_send stages.Announcing = false
 may_send stages.Open = true
 may_send stages.Closing = false
+
+abbrev pub is_open : Stage → Bool
+is_open stages.Waiting = false
+is_open stages.Begun = false
+is_open stages.Announcing = false
+is_open stages.Open = true
+is_open stages.Closing = false
+
+-- a channel is open, and no message of it is kept
+abbrev pub is_ready : ChannelView → Bool
+is_ready c = is_open c.stage && is_none c.first
 
 abbrev pub retransmits_of : Persistence → Option ℕ
 retransmits_of persistences.Reliable = None

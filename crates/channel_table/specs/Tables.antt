@@ -10,7 +10,7 @@ use Rattle.channel_table.specs.declared.channel.ShortMessage.{ShortMessage}
 use Rattle.channel_table.specs.declared.error.ChannelError.{ChannelError}
 use Rattle.channel_table.specs.declared.error.ChannelError.TheVariants as faults
 use Rattle.channel_table.specs.declared.kind.Role.{Role}
-use Rattle.channel_table.specs.Channels.{ChannelView, with_first, with_stage, without_first}
+use Rattle.channel_table.specs.Channels.{ChannelView, is_ready, with_first, with_stage, without_first}
 use Rattle.channel_table.specs.Kinds.{own_parity}
 
 -- the channel of an identifier
@@ -49,6 +49,23 @@ stage_in (Some c) = Some c.stage
 -- how far the channel of an identifier came
 abbrev pub stage_at : List (ℕ × ChannelView) → ℕ → Option Stage
 stage_at t id = stage_in (channel_at t id)
+
+abbrev pub first_in : Option ChannelView → Option ShortMessage
+first_in None = None
+first_in (Some c) = c.first
+
+-- the message of an identifier's channel that came in place of the ACK
+abbrev pub first_at : List (ℕ × ChannelView) → ℕ → Option ShortMessage
+first_at t id = first_in (channel_at t id)
+
+abbrev pub is_ready_in : Option ChannelView → Bool
+is_ready_in None = false
+is_ready_in (Some c) = is_ready c
+
+-- the channel that is at hand, if one is, is open, and no message of it is kept
+abbrev pub IsAtHand : Option ℕ → List (ℕ × ChannelView) → Type 0
+IsAtHand None t = Unit {0}
+IsAtHand (Some id) t = is_ready_in (channel_at t id) ≡ true
 
 -- a channel is not open yet, and may be
 abbrev pub may_open : Option Stage → Bool

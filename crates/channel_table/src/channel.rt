@@ -1,8 +1,8 @@
 // One channel.
 ghost use Rattle.std.specs.Prelude.{◌≡◌, length, not};
 ghost use Rattle.dcep_messages.specs.Codec.{label_in, ordered_in, persistence_in, priority_in, protocol_in};
-ghost use Rattle.channel_table.specs.Channels.{announced, life_time_of, may_send, opened, retransmits_of, state_of};
-ghost use Rattle.channel_table.specs.Channels.{with_first, with_stage, without_first};
+ghost use Rattle.channel_table.specs.Channels.{announced, is_ready, life_time_of, may_send, opened, retransmits_of};
+ghost use Rattle.channel_table.specs.Channels.{state_of, with_first, with_stage, without_first};
 ghost use Rattle.channel_table.specs.Kinds.{reliability_type, reliability_value};
 
 use crate::kind::{reliability_type, reliability_value};
@@ -216,6 +216,13 @@ impl Channel {
         ensures { result ≡ self.now.first }
     {
         self.first
+    }
+
+    // Whether it is open, and no message of it is kept.
+    pub(crate) fn is_ready(&self) -> bool
+        ensures { result ≡ is_ready self.now }
+    {
+        matches!(self.stage, Stage::Open) && self.first.is_none()
     }
 
     pub(crate) fn set_stage(&mut self, stage: Stage)

@@ -5,8 +5,8 @@ ghost use Rattle.std.specs.Map.{lookup, remove_entry};
 ghost use Rattle.std.specs.Ordering.{nat_cmp};
 ghost use Rattle.channel_table.specs.declared.channel.Stage.TheVariants as stages;
 ghost use Rattle.channel_table.specs.Tables.{Chooses, ChoosesOwn, IsLeastFree, Keeps, KeepsOrEnds, KeepsOthers};
-ghost use Rattle.channel_table.specs.Tables.{TakesNegotiated, at_stage, channel_at, has_ended, is_taken, keeping_first};
-ghost use Rattle.channel_table.specs.Tables.{may_open, stage_at, without_kept};
+ghost use Rattle.channel_table.specs.Tables.{TakesNegotiated, at_stage, channel_at, first_at, has_ended, is_taken};
+ghost use Rattle.channel_table.specs.Tables.{keeping_first, may_open, stage_at, without_kept};
 
 use crate::channel::{Channel, ShortMessage, Stage};
 use crate::error::ChannelError;
@@ -20,15 +20,20 @@ use std::marker::Model;
 #[derive(Debug, Drop)]
 pub struct Table {
     by_id: BTreeMap<StreamId, Channel>,
+    // the channel that was found last, where it is open and no message of it is kept
+    at_hand: Option<StreamId>,
 }
 
 impl Model for Table {
     ghost use Rattle.std.specs.Prelude.{ℕ, List};
     ghost use Rattle.channel_table.specs.Channels.{ChannelView};
+    ghost use Rattle.channel_table.specs.Tables.{IsAtHand};
 
     ghost Value = { List (ℕ × ChannelView) };
 
     ghost view = { λ t. t.by_id.entries };
+
+    ghost invariant = { λ t. IsAtHand t.at_hand t.by_id.entries };
 }
 
 impl Table {
@@ -38,6 +43,7 @@ impl Table {
     {
         Table {
             by_id: BTreeMap::new(alloc),
+            at_hand: None,
         }
     }
 
@@ -61,6 +67,7 @@ impl Table {
         ensures keeps { OnOk result (is_taken self.old id ≡ false → Keeps self.old self.new) }
         ensures err { OnErr result (self.new ≡ self.old) }
     {
+        self.at_hand = None;
         self.by_id.insert(id, channel)?;
         Ok(())
     }
@@ -72,6 +79,7 @@ impl Table {
         ensures others { KeepsOthers id self.old self.new }
         ensures keeps { KeepsOrEnds self.old self.new }
     {
+        self.at_hand = None;
         self.by_id.remove(&id);
     }
 
@@ -80,6 +88,7 @@ impl Table {
         ensures none { self.new ≡ [] }
         ensures keeps { KeepsOrEnds self.old self.new }
     {
+        self.at_hand = None;
         self.by_id.clear();
     }
 
@@ -90,6 +99,35 @@ impl Table {
         match self.get(id) {
             Some(channel) => Some(channel.stage()),
             None => None,
+        }
+    }
+
+    /// The same, and a channel that is open, and of which no message is kept, is at hand from then on.
+    pub fn recall(&mut self, id: StreamId) -> Option<Stage>
+        ensures stage { result ≡ stage_at self.old id }
+        ensures same { self.new ≡ self.old }
+    {
+        match self.by_id.get(&id) {
+            Some(channel) => {
+                let stage = channel.stage();
+                if channel.is_ready() {
+                    self.at_hand = Some(id);
+                }
+                Some(stage)
+            }
+            None => None,
+        }
+    }
+
+    /// Whether the channel of this identifier is at hand, for which nothing is searched.
+    #[inline(always)]
+    pub fn is_at_hand(&self, id: StreamId) -> bool
+        ensures open { result ≡ true → stage_at self.now id ≡ Some stages.Open }
+        ensures nothing_kept { result ≡ true → first_at self.now id ≡ None }
+    {
+        match self.at_hand {
+            Some(at_hand) => at_hand == id,
+            None => false,
         }
     }
 
@@ -108,6 +146,7 @@ impl Table {
         ensures open { may_open (stage_at self.old id) ≡ true → stage_at self.new id ≡ Some stages.Open }
     {
         self.set_stage(id, Stage::Open);
+        self.recall(id);
     }
 
     /// The same by a message of one byte that came in place of the ACK, which is kept.
@@ -132,6 +171,7 @@ impl Table {
     fn set_stage(&mut self, id: StreamId, stage: Stage)
         ensures { self.new ≡ at_stage self.old id stage }
     {
+        self.at_hand = None;
         if let Some(channel) = self.by_id.get_mut(&id) {
             channel.set_stage(stage);
         }
@@ -140,6 +180,7 @@ impl Table {
     fn keep_first(&mut self, id: StreamId, message: ShortMessage)
         ensures { self.new ≡ keeping_first self.old id message }
     {
+        self.at_hand = None;
         if let Some(channel) = self.by_id.get_mut(&id) {
             channel.keep_first(message);
         }
@@ -149,6 +190,7 @@ impl Table {
     pub fn forget_first(&mut self, id: StreamId)
         ensures { self.new ≡ without_kept self.old id }
     {
+        self.at_hand = None;
         if let Some(channel) = self.by_id.get_mut(&id) {
             channel.forget_first();
         }

@@ -17,7 +17,7 @@ use Rattle.channel_table.specs.declared.payload.Received.{Received}
 use Rattle.channel_table.specs.declared.payload.Received.TheVariants as receipts
 use Rattle.channel_table.specs.Channels.{ChannelView}
 use Rattle.channel_table.specs.Payloads.{is_empty, received_as}
-use Rattle.channel_table.specs.Tables.{channel_at, stage_at, without_kept}
+use Rattle.channel_table.specs.Tables.{first_at, stage_at, without_kept}
 use Rattle.sctp_channels.specs.declared.receiving.Next.{Next}
 use Rattle.sctp_channels.specs.declared.receiving.Next.TheVariants as nexts
 use Rattle.sctp_channels.specs.Channels.{ChannelsView, with_table}
@@ -86,14 +86,6 @@ GivesFirstWhere false m id c buffer r f filled =
 -- what came in place of the ACK is received, where the buffer has room for its byte
 abbrev pub GivesFirst : ShortMessage → ℕ → ChannelsView → List ℕ → Received → ChannelsView → List ℕ → Type 0
 GivesFirst m id c buffer r f filled = GivesFirstWhere (is_empty buffer) m id c buffer r f filled
-
-abbrev pub first_in : Option ChannelView → Option ShortMessage
-first_in None = None
-first_in (Some c) = c.first
-
--- the message of an identifier's channel that came in place of the ACK
-abbrev pub first_at : List (ℕ × ChannelView) → ℕ → Option ShortMessage
-first_at t id = first_in (channel_at t id)
 
 abbrev pub GivesFirstOk : ShortMessage → ℕ → ChannelsView → List ℕ → Result Received ChannelError → ChannelsView
     → List ℕ → Type 0

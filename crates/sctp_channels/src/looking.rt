@@ -37,7 +37,7 @@ pub(crate) fn look(
     ensures err { OnErr result (table.new ≡ table.old) }
     ensures passes { IfErr result (λ error. may_pass error ≡ true) }
 {
-    match table.stage(id) {
+    match table.recall(id) {
         None => meet(alloc, table, driver, id),
         Some(Stage::Waiting) => begin(table, driver, id),
         Some(Stage::Begun) => await_answer(table, driver, id),

@@ -127,7 +127,11 @@ fn meet_event(
     ensures busy { result ≢ Turn.Idle }
 {
     match event {
+        Event::DatagramReceived => Turn::Silent,
         Event::Stream(StreamEvent::Readable { id }) => {
+            if table.is_at_hand(id) {
+                return Turn::Tells(ChannelEvent::Message(id));
+            }
             due.push_back_reserved(id);
             Turn::Silent
         }

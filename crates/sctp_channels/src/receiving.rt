@@ -38,6 +38,21 @@ impl Channels {
     ) -> Result<Received, ChannelError>
         ensures { Receives id self.old driver.old buffer.old result self.new driver.new buffer.new }
     {
+        if self.table.is_at_hand(id) {
+            return self.read_on(driver, id, buffer);
+        }
+        self.receive_found(driver, id, buffer)
+    }
+
+    // The same, and the channel is searched for.
+    fn receive_found(
+        &mut self,
+        driver: &mut Driver,
+        id: StreamId,
+        buffer: &mut [u8],
+    ) -> Result<Received, ChannelError>
+        ensures { Receives id self.old driver.old buffer.old result self.new driver.new buffer.new }
+    {
         let Some(channel) = self.table.get(id) else {
             return Err(ChannelError::NoChannel);
         };
@@ -103,6 +118,7 @@ impl Channels {
 }
 
 // Reads the next message of a stream.
+#[inline(always)]
 fn read_next(driver: &mut Driver, id: StreamId, buffer: &mut [u8]) -> Result<Next, Error>
     ensures ok { IfOk result (λ next. ReadsNext id driver.old buffer.old next driver.new buffer.new) }
     ensures err { IfErr result (λ error. ReadFails driver.old id error driver.new) }
@@ -114,6 +130,7 @@ fn read_next(driver: &mut Driver, id: StreamId, buffer: &mut [u8]) -> Result<Nex
     }
 }
 
+#[inline(always)]
 fn read_as(answer: ReadAnswer) -> Next
     ensures { result ≡ read_as answer }
 {
@@ -127,6 +144,7 @@ fn read_as(answer: ReadAnswer) -> Next
     }
 }
 
+#[inline(always)]
 fn meet(payload_type: PayloadProtocolIdentifier, length: usize) -> Next
     ensures { result ≡ met payload_type length }
 {

@@ -49,6 +49,9 @@ impl Channels {
     ) -> Result<(), ChannelError>
         ensures { Sends id payload_type bytes.now self.now driver.old result driver.new }
     {
+        if self.table.is_at_hand(id) {
+            return write(driver, id, payload_type, bytes);
+        }
         match self.table.get(id) {
             None => Err(ChannelError::NoChannel),
             Some(channel) => {
