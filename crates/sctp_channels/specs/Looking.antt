@@ -1,5 +1,5 @@
 -- What is done for a channel when something came for it.
-use Rattle.std.specs.Prelude.{◌≡◌, ◌⊎◌, ℕ, ◌==◌, Bool, true, false, not, List, [], Option, Some, None}
+use Rattle.std.specs.Prelude.{◌≡◌, ◌⊎◌, ℕ, Bool, true, false, not, List, [], Some, None}
 use Rattle.sctp_wire_types.specs.declared.error.Error.{Error}
 use Rattle.sctp_wire_types.specs.declared.error.Error.TheVariants.{ErrNoMemory, ErrAssociationFailed}
 use Rattle.sctp_wire_types.specs.declared.ids.PayloadProtocolIdentifier.TheVariants as kinds
@@ -8,7 +8,6 @@ use Rattle.sctp_streams.specs.declared.setting.Setting.TheVariants as settings
 use Rattle.sctp_assoc.specs.Calls.{adjusted, opened, written}
 use Rattle.sctp_driver.specs.Driving.{Driving, with_association}
 use Rattle.dcep_messages.specs.Codec.{ack_bytes, ordered_in, persistence_in}
-use Rattle.channel_table.specs.declared.channel.Stage.{Stage}
 use Rattle.channel_table.specs.declared.channel.Stage.TheVariants as stages
 use Rattle.channel_table.specs.Channels.{ChannelView}
 use Rattle.channel_table.specs.Kinds.{reliability_type, reliability_value}

@@ -1,7 +1,6 @@
 -- Messages that an application receives.
 use Rattle.std.specs.Prelude.{◌≡◌, ◌⊎◌, ℕ, zero, suc, ◌-◌, ◌^◌, ◌==◌, ◌&&◌, not, if◌then◌else◌}
 use Rattle.std.specs.Prelude.{Bool, true, false, List, slice_set, Option, Some, None, Result, Ok, Err}
-use Rattle.sctp_wire_types.specs.declared.error.Error.{Error}
 use Rattle.sctp_wire_types.specs.declared.error.Error.TheVariants as errors
 use Rattle.sctp_wire_types.specs.declared.ids.PayloadProtocolIdentifier.{PayloadProtocolIdentifier}
 use Rattle.sctp_driver.specs.declared.messages.ReadAnswer.{ReadAnswer}
@@ -15,7 +14,6 @@ use Rattle.channel_table.specs.declared.error.ChannelError.{ChannelError}
 use Rattle.channel_table.specs.declared.error.ChannelError.TheVariants as faults
 use Rattle.channel_table.specs.declared.payload.Received.{Received}
 use Rattle.channel_table.specs.declared.payload.Received.TheVariants as receipts
-use Rattle.channel_table.specs.Channels.{ChannelView}
 use Rattle.channel_table.specs.Payloads.{is_empty, received_as}
 use Rattle.channel_table.specs.Tables.{first_at, stage_at, without_kept}
 use Rattle.sctp_channels.specs.declared.receiving.Next.{Next}

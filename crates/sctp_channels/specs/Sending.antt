@@ -1,25 +1,15 @@
 -- Messages of an application.
-use Rattle.std.specs.Prelude.{◌≡◌, ℕ, ◌+◌, ◌==◌, Bool, true, false, if◌then◌else◌, List, [], ◌∷◌, ◌++◌, drop, length}
-use Rattle.std.specs.Prelude.{Option, Some, None, Result, Ok, Err, slice_set}
-use Rattle.sctp_wire_types.specs.declared.error.Error.{Error}
+use Rattle.std.specs.Prelude.{◌≡◌, ℕ, Bool, true, false, if◌then◌else◌, List, length}
+use Rattle.std.specs.Prelude.{Option, Some, None, Result, Ok, Err}
 use Rattle.sctp_wire_types.specs.declared.ids.PayloadProtocolIdentifier.{PayloadProtocolIdentifier}
-use Rattle.sctp_wire_types.specs.declared.ids.PayloadProtocolIdentifier.TheVariants as kinds
 use Rattle.sctp_assoc.specs.Calls.{RefusesOrLacksMemory, refusal_to_write, written}
-use Rattle.sctp_driver.specs.declared.messages.ReadAnswer.{ReadAnswer}
-use Rattle.sctp_driver.specs.declared.messages.ReadAnswer.TheVariants as answers
 use Rattle.sctp_driver.specs.Driving.{Driving, with_association}
-use Rattle.sctp_driver.specs.Messages.{Reads, ReadFails, with_message}
-use Rattle.channel_table.specs.declared.channel.ShortMessage.{ShortMessage}
-use Rattle.channel_table.specs.declared.channel.Stage.TheVariants as stages
 use Rattle.channel_table.specs.declared.error.ChannelError.{ChannelError}
 use Rattle.channel_table.specs.declared.error.ChannelError.TheVariants as faults
-use Rattle.channel_table.specs.declared.payload.Received.{Received}
-use Rattle.channel_table.specs.declared.payload.Received.TheVariants as receipts
 use Rattle.channel_table.specs.Channels.{ChannelView, may_send}
-use Rattle.channel_table.specs.Payloads.{payload, received_as}
-use Rattle.channel_table.specs.Tables.{channel_at, without_kept}
-use Rattle.sctp_channels.specs.Channels.{ChannelsView, with_table}
-use Rattle.sctp_channels.specs.Opening.{Resets}
+use Rattle.channel_table.specs.Payloads.{payload}
+use Rattle.channel_table.specs.Tables.{channel_at}
+use Rattle.sctp_channels.specs.Channels.{ChannelsView}
 
 -- one message is written on a stream, or the driver refuses that and stays as it is
 abbrev pub Writes : ℕ → PayloadProtocolIdentifier → List ℕ → Driving → Result (Unit {0}) ChannelError → Driving → Type 0
@@ -39,6 +29,11 @@ abbrev pub SendsAt : Option ChannelView → ℕ → PayloadProtocolIdentifier �
     → Result (Unit {0}) ChannelError → Driving → Type 0
 SendsAt None id kind bytes d r e = (r ≡ Err faults.NoChannel) × (e ≡ d)
 SendsAt (Some c) id kind bytes d r e = SendsWhere (may_send c.stage) id kind bytes d r e
+
+-- why nothing is sent on a channel, if so
+abbrev pub send_check : Option ChannelView → Result (Unit {0}) ChannelError
+send_check None = Err faults.NoChannel
+send_check (Some c) = if may_send c.stage then Ok tt else Err faults.NotOpen
 
 -- A message is sent on a channel under this payload type: it is written, whole, an empty one as a byte 0. Without such
 -- a channel, or where its OPEN was not written or it ends, nothing happens.

@@ -21,7 +21,6 @@ pub(crate) enum First {
 
 /// Whether a refusal may pass: the call can be made again, or the association failed. Any other one says that the
 /// stream cannot do it.
-#[inline(always)]
 pub(crate) fn may_pass(error: Error) -> bool
     ensures { result ≡ may_pass error }
 {
@@ -29,7 +28,6 @@ pub(crate) fn may_pass(error: Error) -> bool
 }
 
 /// The next message of a stream; `Nothing` also where the stream is gone or its read half closed.
-#[inline(always)]
 pub(crate) fn read(
     driver: &mut Driver,
     id: StreamId,

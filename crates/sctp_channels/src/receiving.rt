@@ -41,11 +41,11 @@ impl Channels {
         if self.table.is_at_hand(id) {
             return self.read_on(driver, id, buffer);
         }
-        self.receive_found(driver, id, buffer)
+        self.receive_searched(driver, id, buffer)
     }
 
-    // The same, and the channel is searched for.
-    fn receive_found(
+    // The same of a channel that is not at hand.
+    fn receive_searched(
         &mut self,
         driver: &mut Driver,
         id: StreamId,
@@ -79,6 +79,8 @@ impl Channels {
         }
     }
 
+    // It is put into its callers, so that what was read is not handed on once more.
+    #[inline(always)]
     fn read_on(
         &mut self,
         driver: &mut Driver,
@@ -130,7 +132,6 @@ fn read_next(driver: &mut Driver, id: StreamId, buffer: &mut [u8]) -> Result<Nex
     }
 }
 
-#[inline(always)]
 fn read_as(answer: ReadAnswer) -> Next
     ensures { result ≡ read_as answer }
 {
@@ -144,7 +145,6 @@ fn read_as(answer: ReadAnswer) -> Next
     }
 }
 
-#[inline(always)]
 fn meet(payload_type: PayloadProtocolIdentifier, length: usize) -> Next
     ensures { result ≡ met payload_type length }
 {

@@ -1,7 +1,8 @@
 // Messages of an application are sent.
 ghost use Rattle.std.specs.Prelude.{◌≡◌};
 ghost use Rattle.channel_table.specs.Payloads.{binary_type, is_empty, payload, text_type};
-ghost use Rattle.sctp_channels.specs.Sending.{Sends, Writes};
+ghost use Rattle.channel_table.specs.Tables.{channel_at};
+ghost use Rattle.sctp_channels.specs.Sending.{Sends, Writes, send_check};
 
 use crate::channels::Channels;
 use channel_table::{ChannelError, binary_type, text_type};
@@ -49,14 +50,21 @@ impl Channels {
     ) -> Result<(), ChannelError>
         ensures { Sends id payload_type bytes.now self.now driver.old result driver.new }
     {
-        if self.table.is_at_hand(id) {
-            return write(driver, id, payload_type, bytes);
+        if !self.table.is_at_hand(id) {
+            self.check_sending(id)?;
         }
+        write(driver, id, payload_type, bytes)
+    }
+
+    // Refuses what `send_text` does of a channel that is not at hand.
+    fn check_sending(&self, id: StreamId) -> Result<(), ChannelError>
+        ensures { result ≡ send_check (channel_at self.now.table id) }
+    {
         match self.table.get(id) {
             None => Err(ChannelError::NoChannel),
             Some(channel) => {
                 if channel.may_send() {
-                    write(driver, id, payload_type, bytes)
+                    Ok(())
                 } else {
                     Err(ChannelError::NotOpen)
                 }
@@ -80,6 +88,7 @@ fn write(
     }
 }
 
+#[inline(always)]
 fn write_whole(
     driver: &mut Driver,
     id: StreamId,

@@ -61,6 +61,8 @@ impl ChannelsSlot {
 
 /// Takes the channels and the driver out of their slots; None, with both as they were, where either is empty. Whoever
 /// takes them puts them back.
+// It is put into the calls, so that the two boxes are not handed on through memory.
+#[inline(always)]
 pub(crate) fn take_both(
     slot: &mut ChannelsSlot,
     assoc: &mut Slot,
