@@ -98,7 +98,10 @@ impl Channels {
         ensures role { self.new.role ≡ self.old.role }
         ensures passes { IfErr result (λ error. may_pass error ≡ true) }
     {
-        self.due.reserve(1)?;
+        // No stream is due, so that any place that there is is free.
+        if self.due.capacity() == 0 {
+            self.due.reserve(1)?;
+        }
         match driver.poll_event()? {
             None => Ok(Turn::Idle),
             Some(event) => Ok(meet_event(
