@@ -119,7 +119,7 @@ impl Table {
         }
     }
 
-    /// Whether the channel of this identifier is at hand, for which nothing is searched.
+    /// Whether the channel of this identifier is at hand, for which nothing is searched. That it is not says nothing.
     #[inline(always)]
     pub fn is_at_hand(&self, id: StreamId) -> bool
         ensures open { result ≡ true → stage_at self.now id ≡ Some stages.Open }
