@@ -44,7 +44,8 @@ impl Channels {
         self.receive_searched(driver, id, buffer)
     }
 
-    // The same of a channel that is not at hand.
+    // The same of a channel that is not at hand. It stays apart from what is done for each message.
+    #[inline(never)]
     fn receive_searched(
         &mut self,
         driver: &mut Driver,

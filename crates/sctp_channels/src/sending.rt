@@ -41,6 +41,8 @@ impl Channels {
         self.send(driver, id, binary_type(bytes.is_empty()), bytes)
     }
 
+    // It is put into its callers, so that the message is not handed on once more.
+    #[inline(always)]
     fn send(
         &self,
         driver: &mut Driver,
@@ -56,7 +58,8 @@ impl Channels {
         write(driver, id, payload_type, bytes)
     }
 
-    // Refuses what `send_text` does of a channel that is not at hand.
+    // Refuses what `send_text` does of a channel that is not at hand. It stays apart from what is done for each message.
+    #[inline(never)]
     fn check_sending(&self, id: StreamId) -> Result<(), ChannelError>
         ensures { result ≡ send_check (channel_at self.now.table id) }
     {
