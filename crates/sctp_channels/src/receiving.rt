@@ -1,6 +1,8 @@
 // Messages of an application are received.
-ghost use Rattle.std.specs.Prelude.{◌≡◌, IfErr, IfOk, OnErr};
+ghost use Rattle.std.specs.Prelude.{◌≡◌, ℕ, List, IfErr, IfOk, OnErr};
+ghost use Rattle.sctp_driver.specs.Driving.{Driving};
 ghost use Rattle.sctp_driver.specs.Messages.{ReadFails};
+ghost use Rattle.sctp_channels.specs.declared.receiving.Next.TheVariants as nexts;
 ghost use Rattle.sctp_channels.specs.Receiving.{GivesFirst, ReadsNext, Receives, ReceivesOpen, ReceivesRead};
 ghost use Rattle.sctp_channels.specs.Receiving.{met, read_as};
 
@@ -44,8 +46,7 @@ impl Channels {
         self.receive_searched(driver, id, buffer)
     }
 
-    // The same of a channel that is not at hand. It stays apart from what is done for each message.
-    #[inline(never)]
+    // The same of a channel that is not at hand.
     fn receive_searched(
         &mut self,
         driver: &mut Driver,
@@ -90,7 +91,28 @@ impl Channels {
     ) -> Result<Received, ChannelError>
         ensures { ReceivesRead id self.old driver.old buffer.old result self.new driver.new buffer.new }
     {
-        for _dropped in 0..u64::MAX {
+        match read_next(driver, id, buffer)? {
+            Next::Given(received) => Ok(received),
+            Next::Dropped => self.read_further(driver, id, buffer),
+            Next::SecondOpen => {
+                self.reset(driver, id)?;
+                Ok(Received::Nothing)
+            }
+        }
+    }
+
+    // The same where the message read last was dropped. It stays apart from what is done for each message.
+    #[inline(never)]
+    fn read_further(
+        &mut self,
+        driver: &mut Driver,
+        id: StreamId,
+        buffer: &mut [u8],
+    ) -> Result<Received, ChannelError>
+        ensures { (d : Driving) → (bytes : List ℕ) → ReadsNext id d bytes nexts.Dropped driver.old buffer.old
+            → ReceivesRead id self.old d bytes result self.new driver.new buffer.new }
+    {
+        for _dropped in 1..u64::MAX {
             match read_next(driver, id, buffer)? {
                 Next::Given(received) => return Ok(received),
                 Next::Dropped => {}
