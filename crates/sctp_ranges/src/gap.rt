@@ -4,9 +4,6 @@ ghost use Rattle.sctp_ranges.specs.Stored.{closed};
 
 use crate::run::Run;
 
-// Places that are added at once where there are none.
-const FIRST_PLACES: usize = 8;
-
 /// Moves a gap so that it lies behind so many ranges: the ranges between the two places move, no other.
 pub(crate) fn move_gap(runs: &mut Vec<Run>, front: usize, gap: usize, to: usize)
     requires from { front + gap ≤ length runs.old.items }
@@ -22,15 +19,16 @@ pub(crate) fn move_gap(runs: &mut Vec<Run>, front: usize, gap: usize, to: usize)
     }
 }
 
-/// Adds places behind the others, as many as there are and some more, for which there is memory.
+/// Adds so many places behind the others, or those for which there is memory.
 #[inline(never)]
-pub(crate) fn open_gap(runs: &mut Vec<Run>, run: Run)
+pub(crate) fn open_gap(runs: &mut Vec<Run>, run: Run, places: usize)
+    requires { 0 < places }
     ensures front { take (length runs.old.items) runs.new.items ≡ runs.old.items }
     ensures more { length runs.old.items < vec_capacity runs.old → length runs.old.items < length runs.new.items }
     ensures capacity { vec_capacity runs.new ≡ vec_capacity runs.old }
 {
     let len = runs.len();
-    let end = len.saturating_mul(2).saturating_add(FIRST_PLACES);
+    let end = len.saturating_add(places);
     for index in len..runs.capacity().min(end) {
         runs.insert(index, run).unwrap();
     }

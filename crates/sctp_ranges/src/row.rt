@@ -14,6 +14,9 @@ use std::marker::Model;
 // Memory for more ranges than these is given back once there is none.
 const KEPT_ROOM: usize = 64;
 
+// Places that are added at once where there are none, besides as many as there are.
+const FIRST_PLACES: usize = 8;
+
 // More ranges than these count as want of memory.
 const MOST: usize = u32::MAX as usize;
 
@@ -54,6 +57,7 @@ impl Row {
     }
 
     /// How many ranges there are.
+    #[inline(always)]
     pub fn len(&self) -> usize
         ensures { result ≡ length self.now.list }
     {
@@ -61,6 +65,7 @@ impl Row {
     }
 
     /// Whether there is no range.
+    #[inline(always)]
     pub fn is_empty(&self) -> bool
         ensures { result ≡ (length self.now.list == 0) }
     {
@@ -76,6 +81,7 @@ impl Row {
     }
 
     /// The range at an index, at which this looks once.
+    #[inline(always)]
     pub fn at(&self, index: usize, looks: &mut Looks) -> Run
         requires { index < length self.now.list }
         ensures run { slice_get self.now.list index ≡ Some result }
@@ -90,6 +96,7 @@ impl Row {
     }
 
     /// Another range at an index.
+    #[inline(always)]
     pub fn set(&mut self, index: usize, run: Run)
         requires { index < length self.old.list }
         ensures { self.new ≡ record self.old { list = slice_set self.old.list index run } }
@@ -102,7 +109,7 @@ impl Row {
         }
     }
 
-    /// One range more, before the one at an index; there is room for it.
+    /// One range more, before the one at an index; there is room for it. Behind all of them no gap is kept for others.
     pub fn insert(&mut self, index: usize, run: Run)
         requires index { index ≤ length self.old.list }
         requires room { length self.old.list < self.old.room }
@@ -110,7 +117,12 @@ impl Row {
     {
         if self.gap == 0 {
             let len = self.runs.len();
-            open_gap(&mut self.runs, run);
+            let places = if index == len {
+                1
+            } else {
+                len.saturating_add(FIRST_PLACES)
+            };
+            open_gap(&mut self.runs, run, places);
             self.front = len as u32;
             self.gap = (self.runs.len() - len) as u32;
         }

@@ -15,37 +15,18 @@ returns c =
     let ready : (closed now.front now.gap now.runs.items ≡ c.args.self.now.list) × (0 < now.gap)
     × (length now.runs.items ≡ length c.args.self.now.list + now.gap) × (vec_capacity now.runs ≡ c.args.self.now.room) =
     elim c.if-self-eq0.branch [
-      | then-self-eq0 w ↦ rw w.self-inside-is (
-        (λ i. closed ((w.len-len.ensures ∙ inside.runs.ok.0) i)
-            ((w.len.ensures ∙ w.open_gap.new.runs.ok.0) i - (w.len-len.ensures ∙ inside.runs.ok.0) i) w.open_gap.new.runs.items)
-            ∙ opened inside.front inside.runs.items w.open_gap.new.runs.items w.open_gap.ensures.front
-            ∙ ap (λ n. closed inside.front n inside.runs.items) (sym w.if-self-eq0.true) ∙ list,
-        omega (
-          arith,
-          c.requires.room,
-          len,
-          long,
-          room,
-          c.self.invariant.0,
-          w.if-self-eq0.true,
-          w.open_gap.ensures.more,
-          (w.len-len.ensures ∙ inside.runs.ok.0),
-          (w.len.ensures ∙ w.open_gap.new.runs.ok.0),
-        ),
-        omega (
-          arith,
-          c.requires.room,
-          len,
-          long,
-          room,
-          c.self.invariant.0,
-          w.if-self-eq0.true,
-          w.open_gap.ensures.more,
-          (w.len-len.ensures ∙ inside.runs.ok.0),
-          (w.len.ensures ∙ w.open_gap.new.runs.ok.0),
-        ),
-        w.open_gap.ensures.capacity ∙ room,
-      )
+      | then-self-eq0 w ↦
+          let before = w.len-len.ensures ∙ inside.runs.ok.0 in
+          let after = w.len.ensures ∙ w.open_gap.new.runs.ok.0 in
+          let wider = w.open_gap.ensures.more (omega (arith, c.requires.room, len, long, room, w.if-self-eq0.true)) in
+          rw w.self-inside-is (
+            (λ i. closed (before i) (after i - before i) w.open_gap.new.runs.items)
+                ∙ opened inside.front inside.runs.items w.open_gap.new.runs.items w.open_gap.ensures.front
+                ∙ ap (λ n. closed inside.front n inside.runs.items) (sym w.if-self-eq0.true) ∙ list,
+            omega (arith, wider, before, after),
+            omega (arith, wider, before, after, len, long, w.if-self-eq0.true),
+            w.open_gap.ensures.capacity ∙ room,
+          )
       | else-self-eq0 w ↦ rw w.self-inside-is (list, omega (arith, w.if-self-eq0.false), omega (arith, len, long, c.self.invariant.0), room)
     ] in
     let put =
