@@ -539,11 +539,14 @@ fn start_each_sent(pieces: &mut [InFlight], now: Instant)
     }
 }
 
+// A function of its own, which keeps what it compares with in registers.
+#[inline(never)]
 fn move_down(messages: &mut [PendingMessage], dropped: &Attributes)
     ensures { messages.new ≡ map (moved_down dropped.now) messages.old }
 {
+    let dropped = *dropped;
     for message in messages.iter_mut() {
-        message.move_down(dropped);
+        message.move_down(&dropped);
     }
 }
 
