@@ -6,20 +6,19 @@ use Rattle.std.specs.List.{list_all}
 use Rattle.std.proofs.lemmas.List.Sums.{sum_by-cons, sum_by_push}
 use Rattle.std.proofs.lemmas.Bool.{cases_Bool}
 use Rattle.sctp_serial.specs.Serial.{tsn_past}
-use Rattle.sctp_outbound_queue.specs.declared.message.Attributes.{Attributes}
 use Rattle.sctp_outbound_queue.specs.declared.message.InFlight.{InFlight}
 use Rattle.sctp_outbound_queue.specs.declared.queue.Released.{Released}
 use Rattle.sctp_outbound_queue.specs.Waiting.{Waiting}
 use Rattle.sctp_outbound_queue.specs.Message.{message_bytes, sent_once, marker_of, is_of, outstanding_bytes}
-use Rattle.sctp_outbound_queue.specs.Message.{outstanding_bytes_of, acked, flagged, is_expired_unsent}
+use Rattle.sctp_outbound_queue.specs.Message.{acked, flagged, is_expired_unsent}
 use Rattle.sctp_outbound_queue.specs.Outbound.{Outbound, sent_next, sent_from, without_first, without_first_of}
-use Rattle.sctp_outbound_queue.specs.Outbound.{waiting_of, outstanding_of, outstanding_of_message, changed_from}
+use Rattle.sctp_outbound_queue.specs.Outbound.{waiting_of, outstanding_of, changed_from}
 use Rattle.sctp_outbound_queue.specs.Outbound.{bytes_of_piece, piece_at, acked_at, tail_dropped, tail_dropped_from}
 use Rattle.sctp_outbound_queue.specs.Outbound.{abandoned_at, abandoned_from}
 use Rattle.sctp_outbound_queue.specs.Expiry.{without_expired, expired_in, after_expiry, is_expired_tail}
 use Rattle.sctp_outbound_queue.specs.Expiry.{after_tail_expiry, after_tail_expiry_of}
 use Rattle.sctp_outbound_queue.specs.Laws.{bytes_in, released_bytes, IsReleased, is_whole}
-use Rattle.sctp_outbound_queue.proofs.QueuedBytes.{flagged_sum, left_behind_bytes}
+use Rattle.sctp_outbound_queue.proofs.QueuedBytes.{flagged_sum, left_behind_bytes, tail_of_message}
 use Rattle.sctp_outbound_queue.proofs.ExpiredUnsent.{without_none, without_bytes}
 
 none_or_some : {X : Type 0} (x : X) → None ≡ Some x → ⊥
@@ -86,11 +85,6 @@ acked_bytes q tsn =
 
 -- the unsent pieces of the first message
 
-marker_of_message : (id : ℕ) (a : Attributes) → outstanding_bytes_of id (marker_of a) ≡ 0
-marker_of_message id a =
-    ⊎_elim (λ (b : is_of id (marker_of a) ≡ true). rw b) (λ (b : is_of id (marker_of a) ≡ false). rw b)
-    (cases_Bool (is_of id (marker_of a)))
-
 tail_from : (ms : List Waiting) (q : Outbound) (id : ℕ) → q.pending ≡ ms
     → bytes_in (tail_dropped_from ms q id).0 + (tail_dropped_from ms q id).1 ≡ bytes_in q
 tail_from [] q id e = omega arith
@@ -105,16 +99,6 @@ tail_from (m ∷ ms) q id e =
 pub tail_bytes : (q : Outbound) (id : ℕ) → bytes_in (tail_dropped q id).0 + (tail_dropped q id).1 ≡ bytes_in q
 tail_bytes q id = tail_from q.pending q id refl
 
-message_from : (ms : List Waiting) (q : Outbound) (id : ℕ)
-    → outstanding_of_message id (tail_dropped_from ms q id).0.in_flight ≡ outstanding_of_message id q.in_flight
-message_from [] q id = refl
-message_from (m ∷ ms) q id =
-    let none = marker_of_message id m.message in
-    let push = sum_by_push (outstanding_bytes_of id) q.in_flight (marker_of m.message) in
-    ⊎_elim (λ (b : (m.message.message_id == id) ≡ true). rw b (omega (arith, none, push))) (
-    λ (b : (m.message.message_id == id) ≡ false). rw b
-    ) (cases_Bool (m.message.message_id == id))
-
 -- the calls
 
 abandoned_from_bytes : (o : Option InFlight) (q : Outbound) → IsReleased q (abandoned_from o q)
@@ -122,7 +106,7 @@ abandoned_from_bytes None q = omega arith
 abandoned_from_bytes (Some p) q =
     let id = p.message.message_id in
     let tail = tail_bytes q p.message.message_id in
-    let ours = message_from q.pending q p.message.message_id in
+    let ours = tail_of_message q p.message.message_id in
     let flags = flagged_sum p.message.message_id (tail_dropped q p.message.message_id).0.in_flight in
     omega (arith, tail, ours, flags)
 

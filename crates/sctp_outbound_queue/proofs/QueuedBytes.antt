@@ -9,6 +9,7 @@ use Rattle.std.specs.Option.{option_map}
 use Rattle.std.proofs.lemmas.List.Sums.{sum_by-cons, sum_by_push}
 use Rattle.std.proofs.lemmas.Bool.{cases_Bool}
 use Rattle.std.proofs.lemmas.Bool.Decides.{nat_tests}
+use Rattle.sctp_outbound_queue.specs.declared.message.Attributes.{Attributes}
 use Rattle.sctp_outbound_queue.specs.declared.message.InFlight.{InFlight}
 use Rattle.sctp_outbound_queue.specs.Waiting.{Waiting}
 use Rattle.sctp_outbound_queue.specs.Message.{accepted, acked, is_timed, message_bytes, is_expired_unsent}
@@ -147,17 +148,25 @@ flagged_sum id (p ∷ ps) =
     let c = sum_by-cons outstanding_bytes p ps in
     omega (arith, one, more, a, b, c)
 
--- no piece gets a mark
-pub fewer_marked : (id : ℕ) (ps : List InFlight) → marked_of (map (flagged id) ps) ≤ marked_of ps
-fewer_marked id [] = omega arith
-fewer_marked id (p ∷ ps) =
-    let more = fewer_marked id ps in
-    let a = sum_by-cons (λ (q : InFlight). cond q.retransmit 1 0) (flagged id p) (map (flagged id) ps) in
-    let b = sum_by-cons (λ (q : InFlight). cond q.retransmit 1 0) p ps in
-    let one : cond (flagged id p).retransmit 1 0 ≤ cond p.retransmit 1 0 =
-    ⊎_elim (λ (t : is_of id p ≡ true). rw t (omega arith)) (λ (f : is_of id p ≡ false). rw f (omega arith))
-    (cases_Bool (is_of id p)) in
-    omega (arith, a, b, more, one)
+left_of_own : (id : ℕ) (p : InFlight) → is_of id p ≡ true → outstanding_bytes_of id (flagged id p) ≡ 0
+left_of_own id p ours =
+    ⊎_elim (λ (a : p.acked ≡ true). rw (ours, ours, a)) (λ (a : p.acked ≡ false). rw (ours, ours, a))
+    (cases_Bool p.acked)
+
+pub left_of_one : (id : ℕ) (p : InFlight) → outstanding_bytes_of id (flagged id p) ≡ 0
+left_of_one id p = ⊎_elim (left_of_own id p) (λ (a : is_of id p ≡ false). rw (a, a)) (cases_Bool (is_of id p))
+
+-- once a walk went over all none of its bytes are outstanding
+pub left_of_message : (id i : ℕ) (ps : List InFlight) → length ps ≤ i
+    → outstanding_of_message id (map (flagged id) (take i ps) ++ drop i ps) ≡ 0
+left_of_message id zero [] all = refl
+left_of_message id zero (p ∷ ps) all = absurd (omega (arith, all))
+left_of_message id (suc i) [] all = refl
+left_of_message id (suc i) (p ∷ ps) all =
+    let one = left_of_one id p in
+    let more = left_of_message id i ps (omega (arith, all)) in
+    let a = sum_by-cons (outstanding_bytes_of id) (flagged id p) (map (flagged id) (take i ps) ++ drop i ps) in
+    omega (arith, one, more, a)
 
 -- the unsent pieces of the first message
 
@@ -169,13 +178,34 @@ tail_from (m ∷ ms) q id =
     λ (a : (m.message.message_id == id) ≡ false). rw a (omega arith)
     ) (cases_Bool (m.message.message_id == id))
 
+marker_of_message : (id : ℕ) (a : Attributes) → outstanding_bytes_of id (marker_of a) ≡ 0
+marker_of_message id a =
+    ⊎_elim (λ (b : is_of id (marker_of a) ≡ true). rw b) (λ (b : is_of id (marker_of a) ≡ false). rw b)
+    (cases_Bool (is_of id (marker_of a)))
+
+message_from : (ms : List Waiting) (q : Outbound) (id : ℕ)
+    → outstanding_of_message id (tail_dropped_from ms q id).0.in_flight ≡ outstanding_of_message id q.in_flight
+message_from [] q id = refl
+message_from (m ∷ ms) q id =
+    let none = marker_of_message id m.message in
+    let push = sum_by_push (outstanding_bytes_of id) q.in_flight (marker_of m.message) in
+    ⊎_elim (λ (b : (m.message.message_id == id) ≡ true). rw b (omega (arith, none, push))) (
+    λ (b : (m.message.message_id == id) ≡ false). rw b
+    ) (cases_Bool (m.message.message_id == id))
+
+-- the marker has no bytes
+pub tail_of_message : (q : Outbound) (id : ℕ)
+    → outstanding_of_message id (tail_dropped q id).0.in_flight ≡ outstanding_of_message id q.in_flight
+tail_of_message q id = message_from q.pending q id
+
 pub released_bound : (c : Clocks) (q : Outbound) (id waiting outstanding marked settled : ℕ)
     → AreKept q.pending q.in_flight waiting outstanding marked settled c
-    → outstanding_of_message id q.in_flight + (tail_dropped q id).1 < 2 ^ 64
+    → outstanding_of_message id (tail_dropped q id).0.in_flight + (tail_dropped q id).1 < 2 ^ 64
 released_bound c q id waiting outstanding marked settled kept =
     let tail = tail_from q.pending q id in
+    let same = tail_of_message q id in
     let sent = flagged_sum id q.in_flight in
-    omega (arith, tail, sent, kept.0, kept.1, kept.2)
+    omega (arith, tail, same, sent, kept.0, kept.1, kept.2)
 
 -- the kept sums after a change
 
@@ -245,7 +275,7 @@ kept_marker clocks m (x ∷ ms) ps kept first left more bytes =
     )
 
 -- a sum once one piece changed
-set_sum : (f : InFlight → ℕ) (ps : List InFlight) (i : ℕ) (x y : InFlight) → slice_get ps i ≡ Some x
+pub set_sum : (f : InFlight → ℕ) (ps : List InFlight) (i : ℕ) (x y : InFlight) → slice_get ps i ≡ Some x
     → sum_by f (slice_set ps i y) + f x ≡ sum_by f ps + f y
 set_sum f [] i x y e = absurd (cc)
 set_sum f (p ∷ ps) zero x y e =
@@ -358,11 +388,11 @@ kept_started covered next next_sent ss clocks now ms ps kept waiting sent all is
           (λ ns len. covers ns (len ∙ sym all)),
     )
 
-pub kept_flagged : {ps2 : List InFlight} {w o k b left s : ℕ} (clocks : Clocks) (id : ℕ)
+pub kept_flagged : {ps2 : List InFlight} {w o k b s : ℕ} (clocks : Clocks) (id m : ℕ)
     (ms : List Waiting) (ps : List InFlight)
     → AreKept ms ps w o k s clocks → b ≡ min (outstanding_of_message id ps) (2 ^ 64 - 1)
-    → ps2 ≡ map (flagged id) ps → left ≡ marked_of ps2 → AreKept ms ps2 w (o - b) left s clocks
-kept_flagged clocks id ms ps kept bytes flags counted =
+    → ps2 ≡ map (flagged id) ps → m + marked_of ps2 ≡ marked_of ps → AreKept ms ps2 w (o - b) (k - m) s clocks
+kept_flagged clocks id m ms ps kept bytes flags marks =
     let a = flagged_sum id ps in
     let c = kept.0 in
     let d = kept.1 in
@@ -371,7 +401,7 @@ kept_flagged clocks id ms ps kept bytes flags counted =
       c,
       rw flags (omega (arith, a, bytes, d, e)),
       omega (arith, e),
-      counted,
+      omega (arith, marks, kept.3),
       rw flags (omega (arith, first, kept.4)),
       rw flags (timely_changed _ (flagged id) (flagged_keeps id _ _) ms ps kept.5),
     )
@@ -436,11 +466,11 @@ expiry_is clocks now q kept found left bytes =
     rw (left, same, ← found)
 
 pub abandoned_is : {q1 q2 : Outbound} {p : InFlight} {sent tail : ℕ} (q : Outbound) (index : ℕ)
-    → Some p ≡ slice_get q.in_flight index
-    → sent ≡ outstanding_of_message p.message.message_id q.in_flight → tail_dropped q p.message.message_id ≡ (q1, tail)
+    → Some p ≡ slice_get q.in_flight index → tail_dropped q p.message.message_id ≡ (q1, tail)
     → q2 ≡ all_flagged p.message.message_id q1
+    → sent ≡ outstanding_of_message p.message.message_id q1.in_flight
     → abandoned_at q index ≡ (q2, Some (released p.message (sent + tail)))
-abandoned_is {q1} {p} q index here bytes dropped flags =
+abandoned_is {q1} {p} q index here dropped flags bytes =
     let a : (tail_dropped q p.message.message_id).0 ≡ q1 = ap (λ (z : Outbound × ℕ). z.0) dropped in
     let b : (tail_dropped q p.message.message_id).1 ≡ _ = ap (λ (z : Outbound × ℕ). z.1) dropped in
-    rw (← here, flags, bytes, ← a, ← b)
+    rw (← here, flags, bytes, ← a, ← b, tail_of_message q p.message.message_id)

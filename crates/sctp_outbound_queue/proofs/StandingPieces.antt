@@ -9,7 +9,7 @@ use Rattle.sctp_candidates.proofs.Standing.{stand_kept, stand_mapped}
 use Rattle.sctp_outbound_queue.specs.declared.message.InFlight.{InFlight}
 use Rattle.sctp_outbound_queue.specs.declared.message.Retransmission.TheVariants as causes
 use Rattle.sctp_outbound_queue.specs.declared.piece_sets.PieceSets.{PieceSets}
-use Rattle.sctp_outbound_queue.specs.Message.{flagged, is_of, is_outstanding, is_third_report, marked_again, picks}
+use Rattle.sctp_outbound_queue.specs.Message.{is_outstanding, is_third_report, marked_again, picks}
 use Rattle.sctp_outbound_queue.specs.Message.{reported_missing, sent_once, sent_started, was_acknowledged}
 use Rattle.sctp_outbound_queue.specs.PieceSets.{AreStanding, HavePlace, IsPlain}
 use Rattle.sctp_outbound_queue.specs.Waiting.{Waiting}
@@ -102,10 +102,3 @@ reported_as_missing p not_third =
     (cases_Bool (is_outstanding p)))
     (λ (f : (is_outstanding p && nat_lt p.misses 3) ≡ false). rw f refl)
     (cases_Bool (is_outstanding p && nat_lt p.misses 3))
-
--- a piece of another message stays as it is
-pub flagged_other : (id : ℕ) (p : InFlight) → is_of id (flagged id p) ≡ false → flagged id p ≡ p
-flagged_other id p off =
-    ⊎_elim (λ (t : is_of id p ≡ true). let e : is_of id p ≡ false = rw t at off in absurd (cc))
-    (λ (f : is_of id p ≡ false). rw f refl)
-    (cases_Bool (is_of id p))

@@ -284,16 +284,6 @@ impl InFlight {
         self.message.stream_identifier == id
     }
 
-    pub(crate) fn outstanding_bytes_of(&self, message_id: u64) -> u64
-        ensures { result ≡ outstanding_bytes_of message_id self.now }
-    {
-        if self.is_of(message_id) {
-            self.outstanding_bytes()
-        } else {
-            0
-        }
-    }
-
     pub(crate) fn is_expired(&self, now: Instant) -> bool
         ensures { result ≡ is_expired_piece now self.now }
     {

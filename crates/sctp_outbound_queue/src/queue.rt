@@ -22,10 +22,9 @@ use crate::clocks::Clocks;
 use crate::message::soonest;
 use crate::piece_sets::PieceSets;
 use crate::walks::{
-    any_of_message, any_of_stream, any_waiting_of_stream, bytes_of_message, count_marked_left,
-    drop_expired, first_expired_piece, first_missing, first_not_abandoned, first_outstanding,
-    flag_all, mark_all, next_sent, pieces_of, report_missing, start_sent, start_waiting,
-    take_piece,
+    any_of_message, any_of_stream, any_waiting_of_stream, drop_expired, first_expired_piece,
+    first_missing, first_not_abandoned, first_outstanding, flag_all, mark_all, next_sent,
+    pieces_of, report_missing, start_sent, start_waiting, take_piece,
 };
 use crate::{Attributes, InFlight, PendingMessage, Retransmission};
 use sctp_looks::Looks;
@@ -418,7 +417,7 @@ impl OutboundQueue {
     /// Abandons the message of the piece in flight that is `index` TSNs past the first whole (RFC 3758 section 3.5).
     /// That is every piece of it in flight, an acknowledged one too, and its unsent pieces. For the unsent ones a
     /// marker takes the next TSN. Answers what is released; None where there is no such piece. Goes over what is in
-    /// flight.
+    /// flight once.
     pub fn abandon(&mut self, index: usize) -> Result<Option<Released>, AllocError>
         ensures ok { IfOk result (λ released. abandoned_at self.old index ≡ (self.new, released)) }
         ensures err { OnErr result (self.new ≡ self.old) }
@@ -429,20 +428,12 @@ impl OutboundQueue {
             return Ok(None);
         };
         let message = piece.message;
-        let sent = self.bytes_of_message(message.message_id);
         let tail = self.drop_tail(message.message_id)?;
-        self.flag(message.message_id);
+        let sent = self.flag(message.message_id);
         Ok(Some(Released {
             message,
             bytes: sent + tail,
         }))
-    }
-
-    // The outstanding bytes of a message.
-    fn bytes_of_message(&self, message_id: u64) -> u64
-        ensures { result ≡ outstanding_of_message message_id self.now.in_flight }
-    {
-        bytes_of_message(&self.in_flight, message_id)
     }
 
     // Drops the unsent pieces of a message, if it is the first one that waits; a marker takes the next TSN. Answers the
@@ -468,13 +459,15 @@ impl OutboundQueue {
         Ok(bytes)
     }
 
-    // Abandons every piece of a message that is in flight.
-    fn flag(&mut self, message_id: u64)
-        ensures { self.new ≡ all_flagged message_id self.old }
+    // Abandons every piece of a message that is in flight. Answers its bytes that are outstanding no more.
+    fn flag(&mut self, message_id: u64) -> u64
+        ensures flagged { self.new ≡ all_flagged message_id self.old }
+        ensures bytes { result ≡ outstanding_of_message message_id self.old.in_flight }
     {
-        self.outstanding_bytes -= bytes_of_message(&self.in_flight, message_id);
-        flag_all(&mut self.in_flight, &mut self.sets, message_id);
-        self.marked = count_marked_left(&self.in_flight, self.marked);
+        let lost = flag_all(&mut self.in_flight, &mut self.sets, message_id);
+        self.outstanding_bytes -= lost.bytes;
+        self.marked -= lost.marks;
+        lost.bytes
     }
 
     /// Lets the time of each message that has one run from `now` on, where it does not run yet. Goes over what was

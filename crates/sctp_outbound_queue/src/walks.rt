@@ -1,7 +1,7 @@
 // What goes over a list of the queue.
 ghost use Rattle.std.specs.Prelude.{◌≡◌, ◌+◌, ◌-◌, ◌^◌, ◌<◌, ◌≤◌, ◌++◌, not, length, map, min, fold, find, take, drop};
 ghost use Rattle.std.specs.Prelude.{ℕ, List, None, Some, slice_set};
-ghost use Rattle.std.specs.Prelude.{position, slice_get, true};
+ghost use Rattle.std.specs.Prelude.{position, slice_get, true, if◌then◌else◌};
 ghost use Rattle.std.specs.List.{list_any, position_or_len};
 ghost use Rattle.std.specs.Option.{option_copied, option_map};
 ghost use Rattle.sctp_outbound_queue.specs.Message.{piece_count, is_of, is_of_stream, is_waiting_of_stream};
@@ -27,6 +27,15 @@ use crate::{Attributes, InFlight, PendingMessage, Retransmission};
 use sctp_wire_types::{Instant, StreamId};
 use std::collections::VecDeque;
 
+/// What is lost as pieces are abandoned.
+#[derive(Clone, Copy)]
+pub(crate) struct Lost {
+    /// The bytes that are outstanding no more, at most the greatest u64.
+    pub(crate) bytes: u64,
+    /// How many pieces are marked no more.
+    pub(crate) marks: usize,
+}
+
 // Takes out the next piece of the first message, sent once at `now`.
 pub(crate) fn take_piece(pending: &mut VecDeque<PendingMessage>, now: Instant) -> Option<InFlight>
     ensures piece { result ≡ option_map (sent_once now) (slice_get pending.old.items 0) }
@@ -38,21 +47,6 @@ pub(crate) fn take_piece(pending: &mut VecDeque<PendingMessage>, now: Instant) -
         pending.pop_front();
     }
     Some(piece)
-}
-
-// The outstanding bytes of a message, at most the greatest u64.
-pub(crate) fn bytes_of_message(pieces: &VecDeque<InFlight>, message_id: u64) -> u64
-    ensures { result ≡ min (outstanding_of_message message_id pieces.now.items) (2 ^ 64 - 1) }
-{
-    add_bytes_of_message(pieces, message_id)
-}
-
-fn add_bytes_of_message(pieces: &VecDeque<InFlight>, message_id: u64) -> u64
-    ensures { result ≡ fold (λ sum p. min (sum + outstanding_bytes_of message_id p) (2 ^ 64 - 1)) 0 pieces.now.items }
-{
-    pieces.iter().fold(0u64, |sum, piece| {
-        sum.saturating_add(piece.outstanding_bytes_of(message_id))
-    })
 }
 
 // The number of pieces that wait, at most the greatest usize.
@@ -75,17 +69,6 @@ fn count_marked(pieces: &VecDeque<InFlight>) -> usize
     ensures { result ≡ marked_of pieces.now.items }
 {
     pieces.iter().filter(|piece| piece.retransmit).count()
-}
-
-// How many pieces are marked, of which there are no more than before. Where there were none nothing is gone over.
-pub(crate) fn count_marked_left(pieces: &VecDeque<InFlight>, before: usize) -> usize
-    requires { marked_of pieces.now.items ≤ before }
-    ensures { result ≡ marked_of pieces.now.items }
-{
-    if before == 0 {
-        return 0;
-    }
-    count_marked(pieces)
 }
 
 // The index of the first outstanding piece, or how many there are. No piece before `from` is outstanding.
@@ -350,37 +333,54 @@ fn move_down_from(messages: &mut VecDeque<PendingMessage>, index: usize, dropped
     move_down(&mut later[index..], &dropped.message);
 }
 
-// Abandons the pieces of a message.
-pub(crate) fn flag_all(pieces: &mut VecDeque<InFlight>, sets: &mut PieceSets, message_id: u64)
+// Abandons the pieces of a message. Answers what is lost by that.
+pub(crate) fn flag_all(
+    pieces: &mut VecDeque<InFlight>,
+    sets: &mut PieceSets,
+    message_id: u64,
+) -> Lost
     requires { AreStanding sets.old pieces.old.items }
     ensures flagged { pieces.new.items ≡ map (flagged message_id) pieces.old.items }
     ensures sets { AreStanding sets.new pieces.new.items }
+    ensures bytes { result.bytes ≡ min (outstanding_of_message message_id pieces.old.items) (2 ^ 64 - 1) }
+    ensures marks { result.marks + marked_of pieces.new.items ≡ marked_of pieces.old.items }
 {
-    flag_each(pieces.make_contiguous(), sets, message_id);
+    flag_each(pieces.make_contiguous(), sets, message_id)
 }
 
-fn flag_each(pieces: &mut [InFlight], sets: &mut PieceSets, message_id: u64)
+fn flag_each(pieces: &mut [InFlight], sets: &mut PieceSets, message_id: u64) -> Lost
     requires { AreStanding sets.old pieces.old }
     ensures flagged { pieces.new ≡ map (flagged message_id) pieces.old }
     ensures sets { AreStanding sets.new pieces.new }
+    ensures bytes { result.bytes ≡ min (outstanding_of_message message_id pieces.old) (2 ^ 64 - 1) }
+    ensures marks { result.marks + marked_of pieces.new ≡ marked_of pieces.old }
 {
+    let mut lost = Lost { bytes: 0, marks: 0 };
     let mut index = 0;
     for piece in pieces.iter_mut() {
-        flag(piece, sets, index, message_id);
+        flag(piece, sets, index, message_id, &mut lost);
         index += 1;
     }
+    lost
 }
 
-// Abandons a piece at an index, if it is one of this message.
+// Abandons a piece at an index, if it is one of this message, and adds to what is lost.
 #[inline(always)]
-fn flag(piece: &mut InFlight, sets: &mut PieceSets, index: usize, message_id: u64)
-    requires { HavePlace index sets.old }
+fn flag(piece: &mut InFlight, sets: &mut PieceSets, index: usize, message_id: u64, lost: &mut Lost)
+    requires place { HavePlace index sets.old }
+    requires room { lost.old.marks < 2 ^ 64 - 1 }
     ensures flagged { piece.new ≡ flagged message_id piece.old }
     ensures sets { (ps : List Piece) → slice_get ps index ≡ Some piece.old → AreStanding sets.old ps
         → AreStanding sets.new (slice_set ps index piece.new) }
+    ensures bytes { lost.new.bytes ≡
+        min (lost.old.bytes + outstanding_bytes_of message_id piece.old) (2 ^ 64 - 1) }
+    ensures marks { lost.new.marks + (if piece.new.retransmit then 1 else 0) ≡
+        lost.old.marks + (if piece.old.retransmit then 1 else 0) }
 {
-    piece.abandon(message_id);
     if piece.is_of(message_id) {
+        lost.bytes = lost.bytes.saturating_add(piece.outstanding_bytes());
+        lost.marks += usize::from(piece.retransmit);
+        piece.abandon(message_id);
         sets.settle(index, piece);
     }
 }
