@@ -3,6 +3,8 @@ pub mod Deferred
 pub mod Skips
 pub mod Spans
 pub mod Whole
+pub mod Walks
 pub mod Kept
+pub mod Sieves
 pub mod Refusals
 pub mod Generations

@@ -6,7 +6,6 @@ use Rattle.sctp_wire_types.specs.declared.chunk.ChunkPayloadData.{ChunkPayloadDa
 use Rattle.sctp_wire_types.specs.declared.error.Error.{Error}
 use Rattle.sctp_receive_queues.specs.Reassembly.{Reassembly, empty_reassembly, pushed, refusal}
 use Rattle.sctp_generations.specs.declared.span.Span.{Span}
-use Rattle.sctp_generations.specs.declared.kept.Kept.{Kept}
 use Rattle.sctp_generations.specs.declared.kept.Kept.TheVariants as kept
 use Rattle.sctp_generations.specs.Deferred.{deferred_with}
 use Rattle.sctp_generations.specs.Kept.{kept_of}

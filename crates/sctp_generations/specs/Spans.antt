@@ -1,5 +1,5 @@
 -- The generations of a stream, by the boundaries between which their TSNs lie (RFC 6525 section 5.2.2).
-use Rattle.std.specs.Prelude.{ℕ, Bool, true, ◌&&◌, if◌then◌else◌, List, [], fold, Option, Some, None, is_some}
+use Rattle.std.specs.Prelude.{ℕ, Bool, true, ◌&&◌, if◌then◌else◌, List, fold, Option, Some, None, is_some}
 use Rattle.sctp_serial.specs.Serial.{tsn_lt, tsn_lte}
 use Rattle.sctp_wire_types.specs.declared.chunk.ChunkPayloadData.{ChunkPayloadData}
 use Rattle.sctp_generations.specs.declared.span.Span.{Span}

@@ -1,13 +1,16 @@
 // Copies of some of the DATA that waits.
 ghost use Rattle.std.specs.Prelude.{◌≡◌, filter, IfOk};
+ghost use Rattle.std.specs.List.{list_any};
+ghost use Rattle.sctp_generations.specs.declared.kept.Kept.TheVariants as kept;
 ghost use Rattle.sctp_generations.specs.Kept.{is_kept, is_skipped, is_skipped_unordered};
+ghost use Rattle.sctp_generations.specs.Sieves.{keeps, IsSieve};
 
 use crate::span::Span;
-use crate::whole::{is_whole, is_whole_unordered};
+use crate::whole::{Walk, is_whole_unordered, walk_at, walks_of};
 use sctp_serial::sna32lte;
 use sctp_wire_types::{ChunkPayloadData, StreamId, sna16lte};
 use std::alloc::{AllocError, Global};
-use std::collections::VecDeque;
+use std::collections::{BTreeMap, VecDeque};
 
 /// Which DATA is kept.
 #[derive(Clone, Copy, Debug)]
@@ -20,6 +23,68 @@ pub(crate) enum Kept {
     UnskippedUnordered(u32),
 }
 
+/// What tells of each piece whether it is kept, once all DATA was gone over.
+#[derive(Drop)]
+enum Sieve {
+    All,
+    Of(StreamId, Span),
+    /// With the walks over the messages of the stream and the span, by their SSNs.
+    Unskipped(StreamId, Span, u16, u32, BTreeMap<u16, Walk>),
+    UnskippedUnordered(u32),
+}
+
+impl Sieve {
+    fn new(
+        alloc: Global,
+        chunks: &VecDeque<ChunkPayloadData>,
+        kept: Kept,
+    ) -> Result<Sieve, AllocError>
+        ensures { IfOk result (λ sieve. IsSieve kept chunks.now.items sieve) }
+    {
+        match kept {
+            Kept::Of(id, span) => Ok(Sieve::Of(id, span)),
+            Kept::Unskipped(id, span, ssn, tsn) => {
+                Sieve::unskipped(alloc, chunks, id, span, ssn, tsn)
+            }
+            Kept::UnskippedUnordered(tsn) => Ok(Sieve::UnskippedUnordered(tsn)),
+        }
+    }
+
+    // Where nothing is skipped it takes no memory.
+    fn unskipped(
+        alloc: Global,
+        chunks: &VecDeque<ChunkPayloadData>,
+        id: StreamId,
+        span: Span,
+        ssn: u16,
+        tsn: u32,
+    ) -> Result<Sieve, AllocError>
+        ensures { IfOk result (λ sieve. IsSieve (kept.Unskipped id span ssn tsn) chunks.now.items sieve) }
+    {
+        if !any_skipped(chunks, id, span, ssn, tsn) {
+            return Ok(Sieve::All);
+        }
+        let walks = walks_of(alloc, chunks, id, span)?;
+        Ok(Sieve::Unskipped(id, span, ssn, tsn, walks))
+    }
+
+    fn keeps(&self, chunks: &VecDeque<ChunkPayloadData>, chunk: &ChunkPayloadData) -> bool
+        ensures { result ≡ keeps self.now chunks.now.items chunk.now }
+    {
+        match self {
+            Sieve::All => true,
+            Sieve::Of(id, span) => span.has(*id, chunk),
+            Sieve::Unskipped(id, span, ssn, tsn, walks) => {
+                !is_skipped(*id, *span, *ssn, *tsn, chunk)
+                    || walk_at(walks, chunk.stream_sequence_number).came_to_end()
+            }
+            Sieve::UnskippedUnordered(tsn) => {
+                !is_skipped_unordered(*tsn, chunk) || is_whole_unordered(chunks, chunk)
+            }
+        }
+    }
+}
+
 // The DATA that is kept, in the same order. Takes a clone of the bytes of each piece of it.
 pub(crate) fn copies_of(
     alloc: Global,
@@ -28,9 +93,20 @@ pub(crate) fn copies_of(
 ) -> Result<VecDeque<ChunkPayloadData>, AllocError>
     ensures { IfOk result (λ copies. copies.items ≡ filter (is_kept kept chunks.now.items) chunks.now.items) }
 {
+    let sieve = Sieve::new(alloc, chunks, kept)?;
+    copies_by(alloc, chunks, &sieve)
+}
+
+fn copies_by(
+    alloc: Global,
+    chunks: &VecDeque<ChunkPayloadData>,
+    sieve: &Sieve,
+) -> Result<VecDeque<ChunkPayloadData>, AllocError>
+    ensures { IfOk result (λ copies. copies.items ≡ filter (keeps sieve.now chunks.now.items) chunks.now.items) }
+{
     let mut copies = VecDeque::new(alloc);
     for chunk in chunks {
-        if is_kept(kept, chunks, chunk) {
+        if sieve.keeps(chunks, chunk) {
             copies.push_back(copy_of(chunk)?)?;
         }
     }
@@ -53,18 +129,18 @@ pub(crate) fn copy_of(piece: &ChunkPayloadData) -> Result<ChunkPayloadData, Allo
     })
 }
 
-fn is_kept(kept: Kept, chunks: &VecDeque<ChunkPayloadData>, chunk: &ChunkPayloadData) -> bool
-    ensures { result ≡ is_kept kept chunks.now.items chunk.now }
+fn any_skipped(
+    chunks: &VecDeque<ChunkPayloadData>,
+    id: StreamId,
+    span: Span,
+    ssn: u16,
+    tsn: u32,
+) -> bool
+    ensures { result ≡ list_any (is_skipped id span ssn tsn) chunks.now.items }
 {
-    match kept {
-        Kept::Of(id, span) => span.has(id, chunk),
-        Kept::Unskipped(id, span, ssn, tsn) => {
-            !(is_skipped(id, span, ssn, tsn, chunk) && !is_whole(chunks, chunk, span))
-        }
-        Kept::UnskippedUnordered(tsn) => {
-            !(is_skipped_unordered(tsn, chunk) && !is_whole_unordered(chunks, chunk))
-        }
-    }
+    chunks
+        .iter()
+        .any(|chunk| is_skipped(id, span, ssn, tsn, chunk))
 }
 
 fn is_skipped(id: StreamId, span: Span, ssn: u16, tsn: u32, chunk: &ChunkPayloadData) -> bool

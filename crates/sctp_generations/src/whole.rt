@@ -1,12 +1,14 @@
 // Whether all pieces of a message are there.
-ghost use Rattle.std.specs.Prelude.{◌≡◌, fold};
-ghost use Rattle.sctp_generations.specs.Whole.{is_with, begun, goes_on, gone_over, gone_over_with, walked, is_whole};
+ghost use Rattle.std.specs.Prelude.{◌≡◌, fold, IfOk, OnOk};
+ghost use Rattle.sctp_generations.specs.Walks.{walk_at, AreWalks, GoOver};
+ghost use Rattle.sctp_generations.specs.Whole.{begun, goes_on, gone_over, came_to_end};
 ghost use Rattle.sctp_generations.specs.Whole.{is_beside, run_with, run_goes_on, run_over, run_over_beside, run_walked};
 ghost use Rattle.sctp_generations.specs.Whole.{is_whole_unordered};
 
 use crate::span::Span;
-use sctp_wire_types::ChunkPayloadData;
-use std::collections::VecDeque;
+use sctp_wire_types::{ChunkPayloadData, StreamId};
+use std::alloc::{AllocError, Global};
+use std::collections::{BTreeMap, VecDeque};
 
 /// How far a walk over the pieces of an ordered message came.
 #[derive(Clone, Copy, Debug)]
@@ -45,47 +47,52 @@ impl Walk {
         }
     }
 
-    fn over_with(self, piece: &ChunkPayloadData, span: Span, of: &ChunkPayloadData) -> Walk
-        ensures { result ≡ gone_over_with span of.now self piece.now }
+    // Whether all pieces of the message were gone over, to the one that ends it.
+    pub(crate) fn came_to_end(self) -> bool
+        ensures { result ≡ came_to_end self }
     {
-        if is_with(piece, span, of) {
-            self.over(piece)
-        } else {
-            self
-        }
+        matches!(self, Walk::Whole)
     }
 }
 
-// Whether DATA of a span is of the ordered message that a piece is of.
-fn is_with(piece: &ChunkPayloadData, span: Span, of: &ChunkPayloadData) -> bool
-    ensures { result ≡ is_with span of.now piece.now }
-{
-    span.has(of.stream_identifier, piece)
-        && !piece.unordered
-        && piece.stream_sequence_number == of.stream_sequence_number
-}
-
-// Whether all pieces of the ordered message of a piece are there. Walks over all DATA.
-pub(crate) fn is_whole(
+// How far the walks over the ordered messages of a stream and a span come, by their SSNs. Goes over each piece once.
+pub(crate) fn walks_of(
+    alloc: Global,
     chunks: &VecDeque<ChunkPayloadData>,
-    piece: &ChunkPayloadData,
+    id: StreamId,
     span: Span,
-) -> bool
-    ensures { result ≡ is_whole span chunks.now.items piece.now }
+) -> Result<BTreeMap<u16, Walk>, AllocError>
+    ensures { IfOk result (λ walks. AreWalks id span chunks.now.items walks.entries) }
 {
-    match walked(chunks, piece, span) {
-        Walk::Whole => true,
-        _ => false,
+    let mut walks = BTreeMap::new(alloc);
+    for chunk in chunks {
+        go_over(&mut walks, chunk, id, span)?;
     }
+    Ok(walks)
 }
 
-fn walked(chunks: &VecDeque<ChunkPayloadData>, piece: &ChunkPayloadData, span: Span) -> Walk
-    ensures { result ≡ walked span chunks.now.items piece.now }
+fn go_over(
+    walks: &mut BTreeMap<u16, Walk>,
+    piece: &ChunkPayloadData,
+    id: StreamId,
+    span: Span,
+) -> Result<(), AllocError>
+    ensures { OnOk result (GoOver id span piece.now walks.old.entries walks.new.entries) }
 {
-    chunks.iter().fold(
-        Walk::Begins,
-        |walk, chunk| walk.over_with(chunk, span, piece),
-    )
+    if !piece.unordered && span.has(id, piece) {
+        let walk = walk_at(walks, piece.stream_sequence_number);
+        walks.insert(piece.stream_sequence_number, walk.over(piece))?;
+    }
+    Ok(())
+}
+
+pub(crate) fn walk_at(walks: &BTreeMap<u16, Walk>, ssn: u16) -> Walk
+    ensures { result ≡ walk_at walks.now.entries ssn }
+{
+    match walks.get(&ssn) {
+        Some(walk) => *walk,
+        None => Walk::Begins,
+    }
 }
 
 /// How far a walk over the pieces of a stream's unordered messages came.
