@@ -4,6 +4,7 @@ pub mod Skips
 pub mod Spans
 pub mod Whole
 pub mod Walks
+pub mod Runs
 pub mod Kept
 pub mod Sieves
 pub mod Refusals

@@ -164,8 +164,8 @@ impl Generations {
 
     /// A FORWARD TSN passed over the ordered messages of the newest generation of a stream up to an SSN: the pieces at
     /// or below its TSN of those that are not whole are dropped, and it is kept for when that generation is read.
-    /// `in_progress` is as for `is_hidden`. Where memory is refused nothing changes. Goes over all DATA that waits, and
-    /// once more for each piece that may be dropped; takes a copy of each piece that stays, which shares its bytes.
+    /// `in_progress` is as for `is_hidden`. Where memory is refused nothing changes. Goes over all DATA that waits, with
+    /// look-ups for each piece where one may be dropped; takes a copy of each that stays, which shares its bytes.
     pub fn skip(
         &mut self,
         id: StreamId,
@@ -195,8 +195,8 @@ impl Generations {
     }
 
     /// It passed over all up to a TSN: pieces at or below that, of unordered messages that are not whole, are dropped
-    /// (RFC 3758 section 3.6). Where memory is refused nothing changes. Goes over all DATA that waits, and once more
-    /// for each piece that may be dropped; takes a copy of each piece that stays, which shares its bytes.
+    /// (RFC 3758 section 3.6). Where memory is refused nothing changes. Goes over all DATA that waits, with look-ups
+    /// for each piece where one may be dropped; takes a copy of each piece that stays, which shares its bytes.
     pub fn skip_unordered(&mut self, tsn: u32) -> Result<(), AllocError>
         ensures ok { OnOk result (self.new ≡ unordered_skipped self.old tsn) }
         ensures err { OnErr result (self.new ≡ self.old) }

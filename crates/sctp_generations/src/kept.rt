@@ -5,8 +5,9 @@ ghost use Rattle.sctp_generations.specs.declared.kept.Kept.TheVariants as kept;
 ghost use Rattle.sctp_generations.specs.Kept.{is_kept, is_skipped, is_skipped_unordered};
 ghost use Rattle.sctp_generations.specs.Sieves.{keeps, IsSieve};
 
+use crate::runs::{StreamRuns, is_whole, runs_of};
 use crate::span::Span;
-use crate::whole::{Walk, is_whole_unordered, walk_at, walks_of};
+use crate::whole::{Walk, walk_at, walks_of};
 use sctp_serial::sna32lte;
 use sctp_wire_types::{ChunkPayloadData, StreamId, sna16lte};
 use std::alloc::{AllocError, Global};
@@ -26,11 +27,14 @@ pub(crate) enum Kept {
 /// What tells of each piece whether it is kept, once all DATA was gone over.
 #[derive(Drop)]
 enum Sieve {
+    /// Nothing is dropped.
     All,
+    /// As `Kept` has it.
     Of(StreamId, Span),
     /// With the walks over the messages of the stream and the span, by their SSNs.
     Unskipped(StreamId, Span, u16, u32, BTreeMap<u16, Walk>),
-    UnskippedUnordered(u32),
+    /// With how far the walks over the unordered messages of each stream came.
+    UnskippedUnordered(u32, BTreeMap<StreamId, StreamRuns>),
 }
 
 impl Sieve {
@@ -46,7 +50,7 @@ impl Sieve {
             Kept::Unskipped(id, span, ssn, tsn) => {
                 Sieve::unskipped(alloc, chunks, id, span, ssn, tsn)
             }
-            Kept::UnskippedUnordered(tsn) => Ok(Sieve::UnskippedUnordered(tsn)),
+            Kept::UnskippedUnordered(tsn) => Sieve::unskipped_unordered(alloc, chunks, tsn),
         }
     }
 
@@ -68,8 +72,22 @@ impl Sieve {
         Ok(Sieve::Unskipped(id, span, ssn, tsn, walks))
     }
 
-    fn keeps(&self, chunks: &VecDeque<ChunkPayloadData>, chunk: &ChunkPayloadData) -> bool
-        ensures { result ≡ keeps self.now chunks.now.items chunk.now }
+    // Where nothing is skipped it takes no memory.
+    fn unskipped_unordered(
+        alloc: Global,
+        chunks: &VecDeque<ChunkPayloadData>,
+        tsn: u32,
+    ) -> Result<Sieve, AllocError>
+        ensures { IfOk result (λ sieve. IsSieve (kept.UnskippedUnordered tsn) chunks.now.items sieve) }
+    {
+        if !any_skipped_unordered(chunks, tsn) {
+            return Ok(Sieve::All);
+        }
+        Ok(Sieve::UnskippedUnordered(tsn, runs_of(alloc, chunks)?))
+    }
+
+    fn keeps(&self, chunk: &ChunkPayloadData) -> bool
+        ensures { result ≡ keeps self.now chunk.now }
     {
         match self {
             Sieve::All => true,
@@ -78,8 +96,8 @@ impl Sieve {
                 !is_skipped(*id, *span, *ssn, *tsn, chunk)
                     || walk_at(walks, chunk.stream_sequence_number).came_to_end()
             }
-            Sieve::UnskippedUnordered(tsn) => {
-                !is_skipped_unordered(*tsn, chunk) || is_whole_unordered(chunks, chunk)
+            Sieve::UnskippedUnordered(tsn, runs) => {
+                !is_skipped_unordered(*tsn, chunk) || is_whole(runs, chunk)
             }
         }
     }
@@ -102,11 +120,11 @@ fn copies_by(
     chunks: &VecDeque<ChunkPayloadData>,
     sieve: &Sieve,
 ) -> Result<VecDeque<ChunkPayloadData>, AllocError>
-    ensures { IfOk result (λ copies. copies.items ≡ filter (keeps sieve.now chunks.now.items) chunks.now.items) }
+    ensures { IfOk result (λ copies. copies.items ≡ filter (keeps sieve.now) chunks.now.items) }
 {
     let mut copies = VecDeque::new(alloc);
     for chunk in chunks {
-        if sieve.keeps(chunks, chunk) {
+        if sieve.keeps(chunk) {
             copies.push_back(copy_of(chunk)?)?;
         }
     }
@@ -150,6 +168,12 @@ fn is_skipped(id: StreamId, span: Span, ssn: u16, tsn: u32, chunk: &ChunkPayload
         && !chunk.unordered
         && sna16lte(chunk.stream_sequence_number, ssn)
         && sna32lte(chunk.tsn, tsn)
+}
+
+fn any_skipped_unordered(chunks: &VecDeque<ChunkPayloadData>, tsn: u32) -> bool
+    ensures { result ≡ list_any (is_skipped_unordered tsn) chunks.now.items }
+{
+    chunks.iter().any(|chunk| is_skipped_unordered(tsn, chunk))
 }
 
 fn is_skipped_unordered(tsn: u32, chunk: &ChunkPayloadData) -> bool

@@ -9,6 +9,7 @@ mod kept;
 mod refusal;
 mod retirement;
 mod retiring;
+mod runs;
 mod skips;
 mod span;
 mod whole;

@@ -1,9 +1,7 @@
-// Whether all pieces of a message are there.
-ghost use Rattle.std.specs.Prelude.{◌≡◌, fold, IfOk, OnOk};
+// Whether all pieces of an ordered message are there.
+ghost use Rattle.std.specs.Prelude.{◌≡◌, IfOk, OnOk};
 ghost use Rattle.sctp_generations.specs.Walks.{walk_at, AreWalks, GoOver};
-ghost use Rattle.sctp_generations.specs.Whole.{begun, goes_on, gone_over, came_to_end};
-ghost use Rattle.sctp_generations.specs.Whole.{is_beside, run_with, run_goes_on, run_over, run_over_beside, run_walked};
-ghost use Rattle.sctp_generations.specs.Whole.{is_whole_unordered};
+ghost use Rattle.sctp_generations.specs.Whole.{goes_on, gone_over, came_to_end};
 
 use crate::span::Span;
 use sctp_wire_types::{ChunkPayloadData, StreamId};
@@ -71,6 +69,7 @@ pub(crate) fn walks_of(
     Ok(walks)
 }
 
+// With one more piece.
 fn go_over(
     walks: &mut BTreeMap<u16, Walk>,
     piece: &ChunkPayloadData,
@@ -95,7 +94,8 @@ pub(crate) fn walk_at(walks: &BTreeMap<u16, Walk>, ssn: u16) -> Walk
     }
 }
 
-/// How far a walk over the pieces of a stream's unordered messages came.
+/// How far a walk over the pieces of a stream's unordered messages came. Contracts alone speak of it: `StreamRuns`
+/// tells how far all of these walks came.
 #[derive(Clone, Copy, Debug)]
 pub(crate) enum Run {
     /// At no piece of a message that began.
@@ -104,84 +104,4 @@ pub(crate) enum Run {
     Next(u32, bool),
     /// All pieces of the message of the piece that is looked for were gone over.
     Whole,
-}
-
-impl Run {
-    fn over(self, piece: &ChunkPayloadData, tsn: u32) -> Run
-        ensures { result ≡ run_over tsn self piece.now }
-    {
-        match self {
-            Run::Outside => Run::begun(piece, tsn),
-            Run::Next(next, holds) => Run::on(piece, tsn, next, holds),
-            Run::Whole => Run::Whole,
-        }
-    }
-
-    fn begun(piece: &ChunkPayloadData, tsn: u32) -> Run
-        ensures { result ≡ begun tsn piece.now }
-    {
-        if piece.beginning_fragment {
-            Run::with(piece, piece.tsn == tsn)
-        } else {
-            Run::Outside
-        }
-    }
-
-    fn on(piece: &ChunkPayloadData, tsn: u32, next: u32, holds: bool) -> Run
-        ensures { result ≡ run_goes_on tsn next holds piece.now }
-    {
-        if !piece.beginning_fragment && piece.tsn == next {
-            Run::with(piece, holds || piece.tsn == tsn)
-        } else {
-            Run::begun(piece, tsn)
-        }
-    }
-
-    fn with(piece: &ChunkPayloadData, holds: bool) -> Run
-        ensures { result ≡ run_with holds piece.now }
-    {
-        if piece.ending_fragment && holds {
-            Run::Whole
-        } else {
-            Run::Next(piece.tsn.wrapping_add(1), holds)
-        }
-    }
-
-    fn over_beside(self, piece: &ChunkPayloadData, of: &ChunkPayloadData) -> Run
-        ensures { result ≡ run_over_beside of.now self piece.now }
-    {
-        if is_beside(piece, of) {
-            self.over(piece, of.tsn)
-        } else {
-            self
-        }
-    }
-}
-
-// Whether DATA is unordered and of the stream that a piece is of.
-fn is_beside(piece: &ChunkPayloadData, of: &ChunkPayloadData) -> bool
-    ensures { result ≡ is_beside of.now piece.now }
-{
-    piece.stream_identifier == of.stream_identifier && piece.unordered
-}
-
-// Whether all pieces of the unordered message of a piece are there. Walks over all DATA.
-pub(crate) fn is_whole_unordered(
-    chunks: &VecDeque<ChunkPayloadData>,
-    piece: &ChunkPayloadData,
-) -> bool
-    ensures { result ≡ is_whole_unordered chunks.now.items piece.now }
-{
-    match run_walked(chunks, piece) {
-        Run::Whole => true,
-        _ => false,
-    }
-}
-
-fn run_walked(chunks: &VecDeque<ChunkPayloadData>, piece: &ChunkPayloadData) -> Run
-    ensures { result ≡ run_walked chunks.now.items piece.now }
-{
-    chunks
-        .iter()
-        .fold(Run::Outside, |run, chunk| run.over_beside(chunk, piece))
 }
