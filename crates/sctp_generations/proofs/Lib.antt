@@ -1,3 +1,4 @@
 pub mod Walks
 pub mod Sieves
 pub mod TsnSets
+pub mod NewestEnded

@@ -5,6 +5,7 @@ pub mod Spans
 pub mod Whole
 pub mod Walks
 pub mod Runs
+pub mod Later
 pub mod Kept
 pub mod Sieves
 pub mod Refusals

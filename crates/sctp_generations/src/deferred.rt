@@ -5,17 +5,19 @@ ghost use Rattle.sctp_generations.specs.Deferred.{is_up_to, is_of, is_before, pl
 ghost use Rattle.sctp_generations.specs.Deferred.{has_between, is_due, released, still_deferred, without_stream};
 ghost use Rattle.std.specs.Prelude.{◌==◌, OnOk, OnErr, IfOk, IfSome, position, not, filter};
 ghost use Rattle.sctp_generations.specs.Kept.{kept_of};
+ghost use Rattle.sctp_generations.specs.Later.{AreWithLater};
 ghost use Rattle.sctp_generations.specs.Refusals.{refusal_in};
 ghost use Rattle.sctp_serial.specs.Serial.{tsn_lt};
 
 use crate::kept::{Kept, copies_of, copy_of};
+use crate::later::with_later;
 use crate::refusal::first_refusal;
 use crate::retiring::Retiring;
 use crate::span::Span;
 use sctp_serial::{sna32lt, sna32lte};
 use sctp_wire_types::{ChunkPayloadData, Error, StreamId};
 use std::alloc::{AllocError, Global};
-use std::collections::VecDeque;
+use std::collections::{BTreeSet, VecDeque};
 use std::marker::Model;
 
 /// Which DATA is given to the generation that is read now.
@@ -81,6 +83,18 @@ impl Deferred {
         ensures { result ≡ has_between id after upto self.now }
     {
         any_between(&self.chunks, id, after, upto)
+    }
+
+    // The streams of which DATA waits that is past their newest boundary and at or below a TSN.
+    pub(crate) fn with_later(
+        &self,
+        alloc: Global,
+        retiring: &Retiring,
+        upto: u32,
+    ) -> Result<BTreeSet<StreamId>, AllocError>
+        ensures { IfOk result (λ ids. AreWithLater retiring.now upto self.now ids) }
+    {
+        with_later(alloc, &self.chunks, retiring, upto)
     }
 
     // Takes out the DATA that is due, in the order of the TSNs. Where memory is refused nothing changes.
@@ -191,7 +205,12 @@ fn any_between(
         .any(|chunk| is_between(chunk, id, after, upto))
 }
 
-fn is_between(chunk: &ChunkPayloadData, id: StreamId, after: Option<u32>, upto: u32) -> bool
+pub(crate) fn is_between(
+    chunk: &ChunkPayloadData,
+    id: StreamId,
+    after: Option<u32>,
+    upto: u32,
+) -> bool
     ensures { result ≡ is_between id after upto chunk.now }
 {
     chunk.stream_identifier == id && !is_up_to(after, chunk.tsn) && sna32lte(chunk.tsn, upto)

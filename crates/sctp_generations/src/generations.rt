@@ -1,5 +1,5 @@
 // What is kept of the generations of streams beside the live ones.
-ghost use Rattle.std.specs.Prelude.{◌≡◌, OnOk, OnErr, IfOk, length, nat_lt, true};
+ghost use Rattle.std.specs.Prelude.{◌≡◌, OnOk, OnErr, IfOk, length, nat_lt, true, if◌then◌else◌};
 ghost use Rattle.sctp_receive_queues.specs.Pieces.{bytes_of};
 ghost use Rattle.sctp_generations.specs.Generations.{no_generations, retires, is_hidden, with_deferred, with_skip};
 ghost use Rattle.sctp_generations.specs.Generations.{retirement_of, retired, without_newest, drained, readable_end};
@@ -7,6 +7,8 @@ ghost use Rattle.sctp_generations.specs.Generations.{given_to, after_given_to, g
 ghost use Rattle.sctp_generations.specs.Generations.{skips_given_to, after_skips_given_to, discarded, with_boundary};
 ghost use Rattle.sctp_generations.specs.Generations.{with_kept_skip, has_skips, has_retiring, without_newest_of};
 ghost use Rattle.sctp_generations.specs.Retiring.{count_at};
+ghost use Rattle.sctp_generations.specs.Later.{AreWithLater, has_later};
+ghost use Rattle.sctp_generations.specs.declared.retirement.Retirement.TheVariants.{Ended, Retires, Unchanged};
 ghost use Rattle.sctp_generations.specs.Skips.{skip_ids};
 ghost use Rattle.sctp_generations.specs.Spans.{span_of};
 ghost use Rattle.sctp_generations.specs.Generations.{refusal_of, newest_span, skipped, unordered_skipped};
@@ -222,7 +224,52 @@ impl Generations {
         ensures ok { OnOk result (self.new ≡ retired self.old id boundary is_drained) }
         ensures err { OnErr result (self.new ≡ self.old) }
     {
-        let retirement = self.retirement(id, boundary, is_drained);
+        let is_followed = self.has_later(id, boundary);
+        self.retire_by(id, boundary, is_drained, is_followed)
+    }
+
+    /// The streams of which DATA waits that is past their newest boundary and at or below this one. Goes once over all
+    /// DATA that waits.
+    pub fn with_later(&self, boundary: u32) -> Result<BTreeSet<StreamId>, AllocError>
+        ensures { IfOk result (λ ids. AreWithLater self.now.retiring boundary self.now.deferred ids) }
+    {
+        self.deferred
+            .with_later(self.alloc, &self.retiring, boundary)
+    }
+
+    /// `retire` where the streams that `with_later` answers are known, so that it goes over no DATA. The set is made
+    /// right for the next stream, where memory is not refused.
+    pub fn retire_known(
+        &mut self,
+        id: StreamId,
+        boundary: u32,
+        is_drained: bool,
+        later: &mut BTreeSet<StreamId>,
+    ) -> Result<Retirement, AllocError>
+        requires { AreWithLater self.old.retiring boundary self.old.deferred later.old }
+        ensures answer { IfOk result (λ r. r ≡ retirement_of self.old id boundary is_drained) }
+        ensures ok { OnOk result (self.new ≡ retired self.old id boundary is_drained) }
+        ensures err { OnErr result (self.new ≡ self.old) }
+        ensures later { OnOk result (AreWithLater self.new.retiring boundary self.new.deferred later.new) }
+    {
+        let is_followed = later.remove(&id);
+        self.retire_by(id, boundary, is_drained, is_followed)
+    }
+
+    // `is_followed` says that DATA waits that is past the newest boundary and at or below this one.
+    fn retire_by(
+        &mut self,
+        id: StreamId,
+        boundary: u32,
+        is_drained: bool,
+        is_followed: bool,
+    ) -> Result<Retirement, AllocError>
+        requires { is_followed ≡ has_later self.old.retiring boundary self.old.deferred id }
+        ensures answer { IfOk result (λ r. r ≡ retirement_of self.old id boundary is_drained) }
+        ensures ok { OnOk result (self.new ≡ retired self.old id boundary is_drained) }
+        ensures err { OnErr result (self.new ≡ self.old) }
+    {
+        let retirement = self.retirement(id, is_drained, is_followed);
         match retirement {
             Retirement::Retires => self.add_boundary(id, boundary)?,
             Retirement::Ended => self.end_newest(id),
@@ -231,21 +278,32 @@ impl Generations {
         Ok(retirement)
     }
 
-    fn retirement(&self, id: StreamId, boundary: u32, is_drained: bool) -> Retirement
-        ensures { result ≡ retirement_of self.now id boundary is_drained }
+    fn retirement(&self, id: StreamId, is_drained: bool, is_followed: bool) -> Retirement
+        ensures { result ≡ (
+            if retires self.now id then (if is_followed then Retires else Unchanged)
+            else if is_drained then Ended else Retires) }
     {
-        if !self.retiring.contains(id) {
-            return if is_drained {
-                Retirement::Ended
-            } else {
+        if self.retiring.contains(id) {
+            if is_followed {
                 Retirement::Retires
-            };
-        }
-        let newest = self.retiring.newest_boundary(id);
-        if self.deferred.has_between(id, newest, boundary) {
-            Retirement::Retires
+            } else {
+                Retirement::Unchanged
+            }
+        } else if is_drained {
+            Retirement::Ended
         } else {
-            Retirement::Unchanged
+            Retirement::Retires
+        }
+    }
+
+    // Whether DATA of a stream waits that is past its newest boundary and at or below this one.
+    #[tactic(auto, using(crate::proofs::NewestEnded::none_without_boundary))]
+    fn has_later(&self, id: StreamId, boundary: u32) -> bool
+        ensures { result ≡ has_later self.now.retiring boundary self.now.deferred id }
+    {
+        match self.retiring.newest_boundary(id) {
+            Some(newest) => self.deferred.has_between(id, Some(newest), boundary),
+            None => false,
         }
     }
 

@@ -6,6 +6,7 @@ mod boundaries;
 mod deferred;
 mod generations;
 mod kept;
+mod later;
 mod refusal;
 mod retirement;
 mod retiring;
