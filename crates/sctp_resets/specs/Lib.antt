@@ -8,3 +8,4 @@ pub mod Marks
 pub mod Resets
 pub mod Concerned
 pub mod Within
+pub mod Later

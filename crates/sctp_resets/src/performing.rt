@@ -1,5 +1,7 @@
 // What a performed request of the peer does to the streams that it names (RFC 6525 section 5.2.2).
-ghost use Rattle.std.specs.Prelude.{◌≡◌, IfOk, is_some, filter};
+ghost use Rattle.std.specs.Prelude.{◌≡◌, IfOk, OnOk, is_some, filter};
+ghost use Rattle.sctp_generations.specs.Generations.{retired, retirement_of};
+ghost use Rattle.sctp_resets.specs.Later.{AreRight};
 ghost use Rattle.sctp_streams.specs.Streams.{stream_at};
 ghost use Rattle.sctp_resets.specs.Channels.{channels};
 ghost use Rattle.sctp_resets.specs.Performing.{performing, is_drained, retired_one, named_live, retired_each};
@@ -42,23 +44,60 @@ fn is_drained(streams: &Streams, id: StreamId) -> bool
     }
 }
 
+// The streams of which DATA waits that is past their newest boundary and at or below this last TSN, where a request
+// names several: one walk over the DATA serves them all. Of one stream alone `Generations::retire` finds out.
+fn with_later(
+    generations: &Generations,
+    ids: &[StreamId],
+    last_tsn: u32,
+) -> Result<Option<BTreeSet<StreamId>>, AllocError>
+    ensures { IfOk result (λ later. AreRight generations.now last_tsn later) }
+{
+    if ids.len() < 2 {
+        return Ok(None);
+    }
+    Ok(Some(generations.with_later(last_tsn)?))
+}
+
+// Ends the newest generation of a live stream by a request with this last TSN.
+fn retirement(
+    generations: &mut Generations,
+    later: &mut Option<BTreeSet<StreamId>>,
+    id: StreamId,
+    last_tsn: u32,
+    is_drained: bool,
+) -> Result<Retirement, AllocError>
+    requires { AreRight generations.old last_tsn later.old }
+    ensures answer { IfOk result (λ r. r ≡ retirement_of generations.old id last_tsn is_drained) }
+    ensures ok { OnOk result (generations.new ≡ retired generations.old id last_tsn is_drained) }
+    ensures later { OnOk result (AreRight generations.new last_tsn later.new) }
+{
+    match later {
+        Some(ids) => generations.retire_known(id, last_tsn, is_drained, ids),
+        None => generations.retire(id, last_tsn, is_drained),
+    }
+}
+
 // Ends the newest generation of a live stream by a request with this last TSN, and answers whether one ended: then
 // Finished is told, and the end of the reset is owed.
 #[tactic(auto, unfolding(crate::specs::Performing::retired_one))]
 fn retire(
     generations: &mut Generations,
+    later: &mut Option<BTreeSet<StreamId>>,
     debts: &mut Debts,
     streams: &mut Streams,
     events: &mut Events,
     id: StreamId,
     last_tsn: u32,
 ) -> Result<bool, AllocError>
-    ensures { IfOk result (λ retired.
+    requires { AreRight generations.old last_tsn later.old }
+    ensures retired { IfOk result (λ retired.
         retired_one last_tsn (performing generations.old debts.old streams.old events.old) id
         ≡ (performing generations.new debts.new streams.new events.new, retired)) }
+    ensures later { OnOk result (AreRight generations.new last_tsn later.new) }
 {
     let is_drained = is_drained(streams, id);
-    match generations.retire(id, last_tsn, is_drained)? {
+    match retirement(generations, later, id, last_tsn, is_drained)? {
         Retirement::Unchanged => return Ok(false),
         Retirement::Ended => end_stream(streams, events, id)?,
         Retirement::Retires => {}
@@ -112,8 +151,18 @@ pub(crate) fn retire_each(
 {
     let mut retired = Vec::new(alloc);
     let last_tsn = request.last_tsn();
-    for id in named_live(alloc, streams, request)? {
-        if retire(generations, debts, streams, events, id, last_tsn)? {
+    let ids = named_live(alloc, streams, request)?;
+    let mut later = with_later(generations, ids.as_slice(), last_tsn)?;
+    for id in ids {
+        if retire(
+            generations,
+            &mut later,
+            debts,
+            streams,
+            events,
+            id,
+            last_tsn,
+        )? {
             retired.push(id)?;
         }
     }
