@@ -166,8 +166,8 @@ impl Generations {
 
     /// A FORWARD TSN passed over the ordered messages of the newest generation of a stream up to an SSN: the pieces at
     /// or below its TSN of those that are not whole are dropped, and it is kept for when that generation is read.
-    /// `in_progress` is as for `is_hidden`. Where memory is refused nothing changes. Goes over all DATA that waits, with
-    /// look-ups for each piece where one may be dropped; takes a copy of each that stays, which shares its bytes.
+    /// `in_progress` is as for `is_hidden`. Where memory is refused nothing changes. Goes over all DATA that waits,
+    /// with look-ups for each piece where one may be dropped; takes a copy of each that stays, which shares its bytes.
     pub fn skip(
         &mut self,
         id: StreamId,
