@@ -13,8 +13,8 @@ use sctp_wire_types::Instant;
 
 impl Sender {
     /// Where FORWARD TSN is in use, drops each expired message of which nothing was sent: its bytes are released at its
-    /// stream, and the SSN of an ordered one goes to the next ordered message there. Takes no memory. Goes over what
-    /// waits only where a deadline is past.
+    /// stream, and the SSN of an ordered one goes to the next ordered message there. It can do without the memory that
+    /// it takes. Goes over what waits only where a deadline is past.
     #[tactic(auto, using(sctp_streams::proofs::LowMarks::none_gathered))]
     pub fn drop_expired(
         &mut self,

@@ -560,7 +560,7 @@ pass_on now least next from passed ms m lt here some le known =
     each_on now least next passed (drop from ms) m (omega (arith, left, lt))
     (here ∙ sym (get_or-drop from ms passed m)) some le known
 
-first_position : (now n : ℕ) (ms : List Waiting) → n ≤ length ms
+pub first_position : (now n : ℕ) (ms : List Waiting) → n ≤ length ms
     → position_or_len (is_expired_unsent now) (take n ms) ≡ min n (position_or_len (is_expired_unsent now) ms)
 first_position now zero ms le = omega arith
 first_position now (suc n) [] le = absurd (omega arith)

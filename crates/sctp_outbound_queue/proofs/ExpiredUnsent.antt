@@ -3,7 +3,6 @@ use Rattle.std.proofs.Common.{◌≡◌, ℕ, zero, suc, ◌+◌, ◌<◌, ◌�
 use Rattle.std.proofs.Common.{Some, None, length, map, take, drop, slice_index_or, refl, ap, sym, ◌∙◌, ⊎_elim, arith}
 use Rattle.std.specs.Prelude.{find, get_or, position, remove}
 use Rattle.std.specs.List.{position_or_len}
-use Rattle.std.proofs.lemmas.List.{take-append-drop}
 use Rattle.std.proofs.lemmas.List.Sums.{sum_by-cons, prefix_len-le-length}
 use Rattle.std.proofs.lemmas.Bool.{cases_Bool}
 use Rattle.std.proofs.lemmas.Bool.Decides.{nat_tests}
@@ -163,10 +162,6 @@ unordered_stays d [] e = refl
 unordered_stays d (m ∷ ms) e =
     let none : share_ssns d m.message ≡ false = rw e refl in
     rw none (ap (λ z. m ∷ z) (unordered_stays d ms e))
-
-pub unordered_parts : (d : Attributes) (n : ℕ) (ms : List Waiting) → d.unordered ≡ true
-    → ms ≡ take n ms ++ map (moved_down d) (drop n ms)
-unordered_parts d n ms e = rw (unordered_stays d (drop n ms) e) (sym (take-append-drop n ms))
 
 pub none_behind : (now : ℕ) (ms : List Waiting) → length ms ≤ position_or_len (is_expired_unsent now) ms
     → find (is_expired_unsent now) ms ≡ None

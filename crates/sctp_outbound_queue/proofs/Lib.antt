@@ -2,10 +2,16 @@ pub mod QueuedBytes
 pub mod BytesLeft
 pub mod Covered
 pub mod Deadlines
+pub mod EmptyPlaces
 pub mod ExpiredUnsent
 pub mod FirstOutstanding
+pub mod Fronts
+pub mod InOrder
+pub mod Positions
+pub mod OwedSsns
 pub mod PiecesCut
 pub mod ReportedMissing
 pub mod StandingPieces
 pub mod StretchLists
 pub mod Timely
+pub mod TrueSsns

@@ -168,6 +168,14 @@ left_of_message id (suc i) (p ∷ ps) all =
     let a = sum_by-cons (outstanding_bytes_of id) (flagged id p) (map (flagged id) (take i ps) ++ drop i ps) in
     omega (arith, one, more, a)
 
+pub none_of_message : (id : ℕ) (ps : List InFlight) → outstanding_of_message id (map (flagged id) ps) ≡ 0
+none_of_message id [] = refl
+none_of_message id (p ∷ ps) =
+    let one = left_of_one id p in
+    let more = none_of_message id ps in
+    let a = sum_by-cons (outstanding_bytes_of id) (flagged id p) (map (flagged id) ps) in
+    omega (arith, one, more, a)
+
 -- the unsent pieces of the first message
 
 tail_from : (ms : List Waiting) (q : Outbound) (id : ℕ) → (tail_dropped_from ms q id).1 ≤ waiting_of ms

@@ -139,7 +139,7 @@ none_in_flight now run next ps a due = rw (all_wait now run next ps a due, not_l
 
 -- What a look passes
 
-expired_later : (now at : ℕ) (policy : Policy) (deadline : Option ℕ) → now ≤ at → is_past policy deadline now ≡ true
+pub expired_later : (now at : ℕ) (policy : Policy) (deadline : Option ℕ) → now ≤ at → is_past policy deadline now ≡ true
     → is_past policy deadline at ≡ true
 expired_later now at Reliable deadline le e = e
 expired_later now at (Rexmit n) deadline le e = e

@@ -1,8 +1,10 @@
 pub mod Clocks
 pub mod Expiry
+pub mod Front
 pub mod Laws
 pub mod Message
 pub mod Outbound
+pub mod Owed
 pub mod PieceSets
 pub mod Stretches
 pub mod Waiting

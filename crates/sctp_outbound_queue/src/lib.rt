@@ -3,10 +3,15 @@
 #![tactic(auto)]
 
 mod clocks;
+mod front;
 mod laws;
 mod message;
+mod messages;
+mod over_waiting;
+mod owed;
 mod piece_sets;
 mod queue;
+mod settling;
 mod stretches;
 mod walks;
 

@@ -1,15 +1,16 @@
 // Messages, cut into pieces, and pieces in flight.
-ghost use Rattle.std.specs.Prelude.{◌≡◌, ◌==◌, ◌+◌, ◌-◌, ◌^◌, ◌<◌, ◌≤◌, [], length, min, fold, IfOk, IsOk};
+ghost use Rattle.std.specs.Prelude.{◌≡◌, ◌==◌, ◌+◌, ◌-◌, ◌^◌, ◌<◌, ◌≤◌, length, min, fold, IfOk, IsOk};
 ghost use Rattle.std.specs.List.{concat};
 ghost use Rattle.sctp_outbound_queue.specs.Cut.{MayFollow, first_piece, other_pieces};
 ghost use Rattle.sctp_outbound_queue.specs.Message.{message_bytes, piece_count, accepted, sent_once, without_piece};
 ghost use Rattle.sctp_outbound_queue.specs.Message.{marker_of, is_of, is_of_stream, is_waiting_of_stream};
-ghost use Rattle.sctp_outbound_queue.specs.Message.{is_outstanding, outstanding_bytes, outstanding_bytes_of, acked};
+ghost use Rattle.sctp_outbound_queue.specs.Message.{is_outstanding, outstanding_bytes, acked};
 ghost use Rattle.sctp_outbound_queue.specs.Message.{marked_again, counted_again, data_length, flagged, is_third_report};
 ghost use Rattle.sctp_outbound_queue.specs.Message.{picks, room_taken, reported_missing};
-ghost use Rattle.sctp_outbound_queue.specs.Message.{deadline_under, started, waiting_started, sent_started, is_expired};
-ghost use Rattle.sctp_outbound_queue.specs.Message.{is_expired_piece, is_timed, looked_at, share_ssns};
-ghost use Rattle.sctp_outbound_queue.specs.Message.{moved_down, was_acknowledged};
+ghost use Rattle.sctp_outbound_queue.specs.Message.{deadline_under, waiting_started, sent_started, is_expired};
+ghost use Rattle.sctp_outbound_queue.specs.Message.{is_expired_piece, is_timed, looked_at};
+ghost use Rattle.sctp_outbound_queue.specs.Message.{was_acknowledged};
+ghost use Rattle.sctp_outbound_queue.specs.Owed.{has_ssn_of, lowered_by, lowered_in};
 ghost use Rattle.sctp_outbound_queue.specs.Message.{soonest, sooner, sooner_of, sooner_piece};
 
 use bytes::Bytes;
@@ -131,14 +132,11 @@ impl Attributes {
         }
     }
 
-    // Whether both are ordered messages of one generation of a stream.
-    fn shares_ssns(&self, other: &Attributes) -> bool
-        ensures { result ≡ share_ssns self.now other.now }
+    // It is of an ordered message of this generation of a stream.
+    pub(crate) fn has_ssn_of(&self, stream: StreamId, generation: u64) -> bool
+        ensures { result ≡ has_ssn_of stream generation self.now }
     {
-        !self.unordered
-            && !other.unordered
-            && self.stream_identifier == other.stream_identifier
-            && self.generation == other.generation
+        !self.unordered && self.stream_identifier == stream && self.generation == generation
     }
 }
 
@@ -226,12 +224,20 @@ impl PendingMessage {
         }
     }
 
-    pub(crate) fn move_down(&mut self, dropped: &Attributes)
-        ensures { self.new ≡ moved_down dropped.now self.old }
+    pub(crate) fn lower_by(&mut self, count: u16)
+        ensures { self.new ≡ lowered_by count self.old }
     {
-        if dropped.shares_ssns(&self.message) {
-            let ssn = self.message.stream_sequence_number;
-            self.message.stream_sequence_number = ssn.wrapping_sub(1);
+        let ssn = self.message.stream_sequence_number;
+        self.message.stream_sequence_number = ssn.wrapping_sub(count);
+    }
+
+    // Lowers its SSN where it is an ordered one of this generation of a stream.
+    #[inline(always)]
+    pub(crate) fn lower_in(&mut self, stream: StreamId, generation: u64, count: u16)
+        ensures { self.new ≡ lowered_in stream generation count self.old }
+    {
+        if self.message.has_ssn_of(stream, generation) {
+            self.lower_by(count);
         }
     }
 }

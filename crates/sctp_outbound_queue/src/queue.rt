@@ -1,30 +1,34 @@
 // Messages that wait to be sent, and pieces in flight.
-ghost use Rattle.std.specs.Prelude.{◌≡◌, ◌==◌, ◌&&◌, ◌+◌, ◌-◌, ◌^◌, find, length, map, min, nat_lt, position};
+ghost use Rattle.std.specs.Prelude.{◌≡◌, ◌==◌, ◌&&◌, ◌+◌, ◌-◌, ◌^◌, find, length, min, nat_lt, position};
 ghost use Rattle.std.specs.Prelude.{drop, slice_get, take};
 ghost use Rattle.std.specs.Prelude.{IfOk, OnOk, OnErr, is_some, true};
 ghost use Rattle.std.specs.Option.{option_copied, option_map};
 ghost use Rattle.sctp_looks.specs.Looks.{ticked_by};
 ghost use Rattle.sctp_serial.specs.Serial.{tsn_past};
-ghost use Rattle.sctp_outbound_queue.specs.Message.{is_outstanding, is_expired_piece, is_expired_unsent, counted_again};
-ghost use Rattle.sctp_outbound_queue.specs.Message.{is_third_report, marked_again, picks, flagged, waiting_started};
-ghost use Rattle.sctp_outbound_queue.specs.Message.{is_due, sent_started, moved_down, sent_once};
+ghost use Rattle.sctp_outbound_queue.specs.Message.{is_outstanding, is_expired_piece, counted_again};
+ghost use Rattle.sctp_outbound_queue.specs.Message.{is_third_report, picks, flagged};
+ghost use Rattle.sctp_outbound_queue.specs.Message.{is_due};
 ghost use Rattle.sctp_outbound_queue.specs.Outbound.{empty_outbound, tsn_at, next_tsn_of, waiting_of, outstanding_of};
 ghost use Rattle.sctp_outbound_queue.specs.Outbound.{outstanding_of_message, pieces_waiting, with_message, sent_next};
-ghost use Rattle.sctp_outbound_queue.specs.Outbound.{after_piece, without_first, changed_at, acked_at, piece_at};
+ghost use Rattle.sctp_outbound_queue.specs.Outbound.{without_first, changed_at, acked_at, piece_at};
 ghost use Rattle.sctp_outbound_queue.specs.Outbound.{all_marked, has_stream, abandoned_in_front_of, tail_dropped};
 ghost use Rattle.sctp_outbound_queue.specs.Outbound.{all_flagged, abandoned_at, is_abandoned_piece, with_missing};
 ghost use Rattle.sctp_outbound_queue.specs.Outbound.{marked_of, past_acknowledged};
 ghost use Rattle.std.specs.List.{list_any};
-ghost use Rattle.sctp_outbound_queue.specs.Expiry.{all_started, first_tsn_that, without_expired, after_expiry};
+ghost use Rattle.sctp_outbound_queue.specs.Front.{holds_at};
+ghost use Rattle.sctp_outbound_queue.specs.Message.{is_of};
+ghost use Rattle.sctp_outbound_queue.specs.Expiry.{all_started, first_tsn_that, after_expiry};
 ghost use Rattle.sctp_outbound_queue.specs.Expiry.{after_tail_expiry, is_expired_tail};
 
 use crate::clocks::Clocks;
+use crate::front::Front;
 use crate::message::soonest;
+use crate::messages::Messages;
+use crate::over_waiting::drop_expired;
 use crate::piece_sets::PieceSets;
 use crate::walks::{
-    any_of_message, any_of_stream, any_waiting_of_stream, drop_expired, first_expired_piece,
-    first_missing, first_not_abandoned, first_outstanding, flag_all, mark_all, next_sent,
-    pieces_of, report_missing, start_sent, start_waiting, take_piece,
+    any_of_message, any_of_stream, first_missing, first_outstanding, flag_all, mark_all, next_sent,
+    report_missing, start_sent,
 };
 use crate::{Attributes, InFlight, PendingMessage, Retransmission};
 use sctp_looks::Looks;
@@ -45,7 +49,7 @@ pub struct Released {
 /// (RFC 4960 section 6.1). Only what is acknowledged cumulatively leaves it there.
 #[derive(Drop)]
 pub struct OutboundQueue {
-    pending: VecDeque<PendingMessage>,
+    pending: Messages,
     in_flight: VecDeque<InFlight>,
     // Which pieces in flight are to be sent again, and which were acknowledged.
     sets: PieceSets,
@@ -61,6 +65,8 @@ pub struct OutboundQueue {
     settled: usize,
     // What is known of the times of messages.
     clocks: Clocks,
+    // What is known of the first pieces in flight.
+    front: Front,
 }
 
 // Of the clocks stands what they say of the whole queue: whether the time of each message that has one runs, and a
@@ -87,18 +93,20 @@ impl fmt::Debug for OutboundQueue {
 impl Model for OutboundQueue {
     ghost use Rattle.sctp_outbound_queue.specs.Outbound.{Outbound, AreKept};
     ghost use Rattle.sctp_outbound_queue.specs.PieceSets.{AreStanding};
+    ghost use Rattle.sctp_outbound_queue.specs.Front.{AreInOrder, IsFront};
 
     ghost Value = { Outbound };
 
     ghost view = { λ q. record {
-      pending = q.pending.items;
+      pending = q.pending;
       in_flight = q.in_flight.items;
       first_tsn = q.first_tsn;
       next_message_id = q.next_message_id;
     } };
 
-    ghost invariant = { λ q. AreKept q.pending.items q.in_flight.items q.pending_bytes q.outstanding_bytes
-        q.marked q.settled q.clocks × AreStanding q.sets q.in_flight.items };
+    ghost invariant = { λ q. AreKept q.pending q.in_flight.items q.pending_bytes q.outstanding_bytes
+        q.marked q.settled q.clocks × AreStanding q.sets q.in_flight.items × IsFront q.front q.in_flight.items
+        × AreInOrder q.in_flight.items q.pending q.next_message_id };
 }
 
 impl OutboundQueue {
@@ -107,7 +115,7 @@ impl OutboundQueue {
         ensures { result ≡ empty_outbound first_tsn }
     {
         OutboundQueue {
-            pending: VecDeque::new(alloc),
+            pending: Messages::new(alloc),
             in_flight: VecDeque::new(alloc),
             sets: PieceSets::new(alloc),
             first_tsn,
@@ -117,6 +125,7 @@ impl OutboundQueue {
             marked: 0,
             settled: 0,
             clocks: Clocks::new(),
+            front: Front::new(),
         }
     }
 
@@ -178,7 +187,7 @@ impl OutboundQueue {
     pub fn pending_len(&self) -> usize
         ensures { result ≡ min (pieces_waiting self.now.pending) (2 ^ 64 - 1) }
     {
-        pieces_of(&self.pending)
+        self.pending.pieces()
     }
 
     /// Bytes that wait.
@@ -254,7 +263,7 @@ impl OutboundQueue {
     {
         self.sets.reserve()?;
         self.in_flight.reserve(1)?;
-        if let Some(piece) = take_piece(&mut self.pending, now) {
+        if let Some(piece) = self.pending.take_piece(now) {
             let bytes = piece.outstanding_bytes();
             self.clocks.send(&piece.message, piece.ending_fragment);
             self.in_flight.push_back_reserved(piece);
@@ -294,6 +303,7 @@ impl OutboundQueue {
         self.outstanding_bytes -= piece.outstanding_bytes();
         self.marked -= usize::from(piece.retransmit);
         self.settled = self.settled.saturating_sub(1);
+        self.front.pop();
         Some(piece)
     }
 
@@ -390,18 +400,16 @@ impl OutboundQueue {
     pub fn contains_stream(&self, id: StreamId) -> bool
         ensures { result ≡ has_stream self.now id }
     {
-        any_waiting_of_stream(&self.pending, id) || any_of_stream(&self.in_flight, id)
+        self.pending.any_of_stream(id) || any_of_stream(&self.in_flight, id)
     }
 
     /// How many of the first pieces in flight are abandoned, one after another: so far past the TSN before the first
-    /// one lies the advanced peer ack point (RFC 3758 section 3.5).
+    /// one lies the advanced peer ack point (RFC 3758 section 3.5). It is kept as of the last call of `abandon`; what was
+    /// abandoned then behind a piece that left since is gone over.
     pub fn abandoned_in_front(&self) -> usize
         ensures { result ≡ abandoned_in_front_of self.now.in_flight }
     {
-        match first_not_abandoned(&self.in_flight) {
-            Some(index) => index,
-            None => self.inflight_len(),
-        }
+        self.front.abandoned(&self.in_flight)
     }
 
     /// Whether a TSN is in flight and abandoned.
@@ -416,8 +424,8 @@ impl OutboundQueue {
 
     /// Abandons the message of the piece in flight that is `index` TSNs past the first whole (RFC 3758 section 3.5).
     /// That is every piece of it in flight, an acknowledged one too, and its unsent pieces. For the unsent ones a
-    /// marker takes the next TSN. Answers what is released; None where there is no such piece. Goes over what is in
-    /// flight once.
+    /// marker takes the next TSN. Answers what is released; None where there is no such piece. Goes over the pieces of
+    /// the message, which are neighbours, and over those that are abandoned in front since, each once.
     pub fn abandon(&mut self, index: usize) -> Result<Option<Released>, AllocError>
         ensures ok { IfOk result (λ released. abandoned_at self.old index ≡ (self.new, released)) }
         ensures err { OnErr result (self.new ≡ self.old) }
@@ -429,7 +437,7 @@ impl OutboundQueue {
         };
         let message = piece.message;
         let tail = self.drop_tail(message.message_id)?;
-        let sent = self.flag(message.message_id);
+        let sent = self.flag(index, message.message_id);
         Ok(Some(Released {
             message,
             bytes: sent + tail,
@@ -459,14 +467,17 @@ impl OutboundQueue {
         Ok(bytes)
     }
 
-    // Abandons every piece of a message that is in flight. Answers its bytes that are outstanding no more.
-    fn flag(&mut self, message_id: u64) -> u64
+    // Abandons every piece in flight of the message of the one at an index. Answers its bytes that are outstanding no
+    // more.
+    fn flag(&mut self, index: usize, message_id: u64) -> u64
+        requires { holds_at (is_of message_id) (slice_get self.old.in_flight index) ≡ true }
         ensures flagged { self.new ≡ all_flagged message_id self.old }
         ensures bytes { result ≡ outstanding_of_message message_id self.old.in_flight }
     {
-        let lost = flag_all(&mut self.in_flight, &mut self.sets, message_id);
+        let lost = flag_all(&mut self.in_flight, &mut self.sets, index, message_id);
         self.outstanding_bytes -= lost.bytes;
         self.marked -= lost.marks;
+        self.front.abandon(&self.in_flight);
         lost.bytes
     }
 
@@ -481,13 +492,16 @@ impl OutboundQueue {
             return;
         }
         let covered = self.clocks.stretches.total();
-        let next = start_waiting(&mut self.pending, &self.clocks, now);
+        let next = self.pending.start(&self.clocks, now);
         let next_sent = start_sent(&mut self.in_flight, &self.clocks, now);
+        self.front.start(self.clocks.sent_run);
         self.clocks.start(waiting, covered, next, next_sent);
     }
 
     /// How many TSNs past the first one in flight the first piece of an expired message that is not abandoned yet is.
-    /// Goes over what is in flight only where a deadline of it is over since an earlier call went over it.
+    /// Goes over what is in flight only where a deadline of it is over since an earlier call went over it. It begins
+    /// where the last call that went over it ended, if that was at `now` or at a later moment and no time began to run
+    /// since, so calls at one moment go over each piece once, and where none is left once more for the next deadline.
     pub fn expired_inflight(&mut self, now: Instant) -> Option<usize>
         ensures same { self.new ≡ self.old }
         ensures index { result ≡ position (is_expired_piece now) self.old.in_flight }
@@ -495,25 +509,28 @@ impl OutboundQueue {
         if !is_over(self.clocks.next_sent, now) {
             return None;
         }
-        match first_expired_piece(&self.in_flight, now) {
-            Some(index) => Some(index),
-            None => {
-                self.clocks.next_sent = next_sent(&self.in_flight);
-                None
-            }
+        let index = self.front.first_expired(&self.in_flight, now);
+        if index < self.in_flight.len() {
+            return Some(index);
         }
+        self.clocks.next_sent = next_sent(&self.in_flight);
+        None
     }
 
     /// Drops the first expired message of which nothing was sent. Later ordered messages of its stream and generation
     /// that wait move down by one SSN, if it is an ordered one. Goes over what waits only where a deadline of it may be
-    /// over, and then over no stretch of it (there are 16 at most) of which each deadline is known to lie past `now`,
+    /// over, and then over no stretch of it (there are 14 at most) of which each deadline is known to lie past `now`,
     /// nor over what was pushed since `start_timed_messages` last had a time to start; at the greatest moment over
-    /// every stretch. Calls at one moment go over each message once for all that they drop, but for those that move,
-    /// as long as nothing is sent or started in between and no message of which a part was sent is over.
+    /// every stretch. Calls at one moment, up to the first that answers None, go over each message once to look for
+    /// what they drop, once more for all SSNs that they move down, and a few times at most to close the places of these
+    /// up, as long as nothing is sent or started in between and no message of which a part was sent is over. Where
+    /// memory is refused that would keep how many were dropped, and at every 65,536th one of a generation of a stream,
+    /// a call goes over all behind the one that it drops.
     pub fn expire_pending(&mut self, now: Instant) -> Option<Released>
         ensures { after_expiry now self.old ≡ (self.new, result) }
     {
         if !is_over(self.clocks.next_waiting, now) {
+            self.pending.settle();
             return None;
         }
         let mut look = self.clocks.passed_by(now);

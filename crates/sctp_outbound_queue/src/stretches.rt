@@ -1,4 +1,4 @@
-// Up to 16 stretches of the messages that wait, which lie in the value itself. A look for what is over needs not go
+// Up to 14 stretches of the messages that wait, which lie in the value itself. A look for what is over needs not go
 // over a stretch of which no deadline is.
 ghost use Rattle.std.specs.Prelude.{List, ◌≡◌, ◌+◌, ◌-◌, ◌^◌, ◌<◌, ◌≤◌, ◌++◌, ◌∷◌, [], length, min, take, drop};
 ghost use Rattle.std.specs.Prelude.{slice_index_or, slice_set, remove, Some};
@@ -10,7 +10,7 @@ ghost use Rattle.sctp_outbound_queue.specs.Clocks.{AllFrom, Cover};
 use sctp_wire_types::Instant;
 use std::marker::Model;
 
-const ROOM: usize = 16;
+const ROOM: usize = 14;
 
 // A stretch of so many messages takes in no more behind it while there is room for another one.
 const ENOUGH: usize = 64;
@@ -64,7 +64,7 @@ impl Model for Stretches {
 
     ghost view = { λ s. take s.len s.places };
 
-    ghost invariant = { λ s. (s.len ≤ 16) × (length s.places ≡ 16) };
+    ghost invariant = { λ s. (s.len ≤ 14) × (length s.places ≡ 14) };
 }
 
 impl Stretches {
@@ -85,7 +85,7 @@ impl Stretches {
     /// How many stretches these are.
     pub(crate) fn len(&self) -> usize
         ensures len { result ≡ length self.now }
-        ensures fits { result ≤ 16 }
+        ensures fits { result ≤ 14 }
     {
         self.len
     }
@@ -108,7 +108,7 @@ impl Stretches {
 
     // One stretch more, at the end.
     fn push(&mut self, stretch: Stretch)
-        requires { length self.old < 16 }
+        requires { length self.old < 14 }
         ensures { self.new ≡ self.old ++ stretch ∷ [] }
     {
         self.places[self.len] = stretch;
@@ -195,7 +195,7 @@ impl Stretches {
     // Two neighbours with the least messages together become one where all places are taken.
     fn make_room(&mut self)
         requires { total self.old < 2 ^ 64 }
-        ensures room { length self.new < 16 }
+        ensures room { length self.new < 14 }
         ensures total { total self.new ≡ total self.old }
         ensures cover { (ms : List Waiting) → Cover self.old ms → Cover self.new ms }
     {

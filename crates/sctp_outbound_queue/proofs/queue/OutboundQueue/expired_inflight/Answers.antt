@@ -8,7 +8,7 @@ returns-then-not-is_over-clause-index c =
     rw (← c.self.view_is)
     (none_over c.args.now q.clocks
     (record {
-      pending = q.pending.items;
+      pending = q.pending;
       in_flight = q.in_flight.items;
       first_tsn = q.first_tsn;
       next_message_id = q.next_message_id;
@@ -17,7 +17,11 @@ returns-then-not-is_over-clause-index c =
     (sym c.is_over.ensures ∙ c.if-not-is_over.true))
 
 pub invariant_of-self : goal.invariant_of-self
-invariant_of-self c = (
+invariant_of-self c =
+    (c.self.invariant.0, c.self.invariant.1, c.first_expired-index.ensures.front, c.self.invariant.3)
+
+pub invariant_of-self-2 : goal.invariant_of-self-2
+invariant_of-self-2 c = (
   (
     c.self.invariant.0.0,
     c.self.invariant.0.1,
@@ -25,8 +29,10 @@ invariant_of-self c = (
     c.self.invariant.0.3,
     c.self.invariant.0.4,
     rw c.next_sent-self-inside.ensures
-        (timely_sent_anew c.self.inside.clocks c.self.inside.pending.items c.self.inside.in_flight.items
+        (timely_sent_anew c.self.inside.clocks c.self.inside.pending c.self.inside.in_flight.items
         c.self.invariant.0.5),
   ),
   c.self.invariant.1,
+  c.first_expired-index.ensures.front,
+  c.self.invariant.3,
 )

@@ -4,6 +4,7 @@ use Rattle.sctp_outbound_queue.specs.Message.{reported_missing}
 use Rattle.sctp_outbound_queue.proofs.FirstOutstanding.{after_reports, reported}
 use Rattle.sctp_outbound_queue.proofs.ReportedMissing.{as_many_marked, as_many_outstanding}
 use Rattle.sctp_outbound_queue.proofs.Timely.{reported_keeps, timely_first}
+use Rattle.sctp_outbound_queue.proofs.Fronts.{alike_first, front_alike, order_alike, outline_reported}
 use Rattle.sctp_outbound_queue.proofs.queue.OutboundQueue.report_missing.Goals as goal
 
 pub invariant_of-self : goal.invariant_of-self
@@ -28,4 +29,9 @@ invariant_of-self c = (
         (reported_keeps _ _) c.args.count _ c.self.inside.in_flight.items c.self.invariant.0.5),
   ),
   c.report_missing.ensures.sets,
+  rw c.report_missing.ensures.counted
+      (front_alike c.self.inside.front c.self.inside.in_flight.items _ (alike_first reported_missing outline_reported c.args.count c.self.inside.in_flight.items) c.self.invariant.2),
+  rw c.report_missing.ensures.counted
+      (order_alike c.self.inside.in_flight.items _ c.self.inside.pending c.self.inside.next_message_id (alike_first reported_missing outline_reported c.args.count c.self.inside.in_flight.items)
+      c.self.invariant.3),
 )

@@ -1,14 +1,17 @@
-use Rattle.std.proofs.Common.{◌≡◌, true, false, ⊎_elim, refl, arith}
+use Rattle.std.proofs.Common.{◌≡◌, true, false, ⊎_elim, refl, arith, ap, ◌∙◌}
 use Rattle.std.proofs.Math.Bool.{cond}
 use Rattle.std.proofs.lemmas.Bool.{cases_Bool}
 use Rattle.sctp_outbound_queue.proofs.FirstOutstanding.{item_there, none_past}
 use Rattle.sctp_outbound_queue.proofs.QueuedBytes.{kept_resent}
+use Rattle.sctp_outbound_queue.proofs.Fronts.{alike_at, front_alike, order_alike, outline, outline_resent}
 use Rattle.sctp_outbound_queue.proofs.queue.OutboundQueue.resend.Goals as goal
 
 pub invariant_of-self : goal.invariant_of-self
 invariant_of-self c =
     let item = c.in-Some.ensures.item in
     let there = item_there c.self.inside.in_flight.items c.args.index c.in-Some.piece.now item.3.0 item.1 in
+    let alike = alike_at c.self.inside.in_flight.items c.args.index c.in-Some.piece.now c.resend.new.self there
+    (ap outline c.resend.ensures ∙ outline_resent c.args.by c.in-Some.piece.now) in
     let before : c.from.result ≡ cond c.in-Some.piece.now.retransmit 1 0 =
     ⊎_elim (λ (t : c.in-Some.piece.now.retransmit ≡ true). let e = rw t at c.from.ensures in rw t e)
     (λ (f : c.in-Some.piece.now.retransmit ≡ false). let e = rw f at c.from.ensures in rw f e)
@@ -17,9 +20,11 @@ invariant_of-self c =
     ⊎_elim (λ (t : c.resend.new.self.retransmit ≡ true). let e = rw t at c.from-in-Some.ensures in rw t e)
     (λ (f : c.resend.new.self.retransmit ≡ false). let e = rw f at c.from-in-Some.ensures in rw f e)
     (cases_Bool c.resend.new.self.retransmit) in (
-      kept_resent c.args.by c.self.inside.clocks c.self.inside.pending.items c.self.inside.in_flight.items c.args.index
+      kept_resent c.args.by c.self.inside.clocks c.self.inside.pending c.self.inside.in_flight.items c.args.index
           c.self.invariant.0 there c.resend.ensures before after,
       c.settle.ensures c.self.inside.in_flight.items c.self.invariant.1,
+      front_alike c.self.inside.front c.self.inside.in_flight.items _ alike c.self.invariant.2,
+      order_alike c.self.inside.in_flight.items _ c.self.inside.pending c.self.inside.next_message_id alike c.self.invariant.3,
     )
 
 pub returns-in-Some : goal.returns-in-Some
