@@ -173,8 +173,7 @@ impl Sender {
         if taken > room {
             return Ok(Attempt::Full);
         }
-        let chunk = sent_chunk(piece, self.queue.tsn_at(index))?;
-        out.add(&chunk)?;
+        out.add_borrowed(&sent_chunk(piece, self.queue.tsn_at(index)))?;
         self.queue.resend(index, by);
         Ok(Attempt::Sent { room: room - taken })
     }

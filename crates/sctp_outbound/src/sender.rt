@@ -24,8 +24,8 @@ use sctp_outbound_queue::{Attributes, InFlight, OutboundQueue, PendingMessage};
 use sctp_parts::estimate::RtoManager;
 use sctp_parts::timer::{Timer, TimerTable};
 use sctp_streams::{Fallen, Streams};
-use sctp_wire::DataPackets;
-use sctp_wire_types::{ChunkPayloadData, GapAckBlock, Instant, List, sna32gt, sna32gte};
+use sctp_wire::{DataPackets, DataRef};
+use sctp_wire_types::{GapAckBlock, Instant, List, sna32gt, sna32gte};
 use std::alloc::{AllocError, Global};
 
 /// Bytes that a packet may have beside the payload of one DATA chunk, without padding: common header and DATA header.
@@ -243,7 +243,9 @@ impl Sender {
         any_new
     }
 
-    // The first piece in flight came: measure the round trip if it was sent once, and release its bytes.
+    // The first piece in flight came: measure the round trip if it was sent once, and release its bytes. Each piece
+    // comes here, so this function is put into its caller.
+    #[inline(always)]
     #[tactic(auto, using(sctp_streams::proofs::LowMarks::gathers_nothing), unfolding(crate::specs::Sender::after_first))]
     fn acknowledge_first(
         &mut self,
@@ -349,8 +351,7 @@ impl Sender {
         let Some(message) = self.queue.peek_pending() else {
             return Ok(false);
         };
-        let chunk = waiting_chunk(message, self.queue.next_tsn())?;
-        out.add(&chunk)?;
+        out.add_borrowed(&waiting_chunk(message, self.queue.next_tsn()))?;
         self.queue.send_next(now)?;
         Ok(true)
     }
@@ -389,8 +390,8 @@ pub(crate) fn release(streams: &mut Streams, fallen: &mut Fallen, piece: &InFlig
 }
 
 // A piece in flight, as DATA.
-pub(crate) fn sent_chunk(piece: &InFlight, tsn: u32) -> Result<ChunkPayloadData, AllocError>
-    ensures { IfOk result (λ chunk. chunk ≡ chunk_of piece.now tsn) }
+pub(crate) fn sent_chunk(piece: &InFlight, tsn: u32) -> DataRef<'_>
+    ensures { result ≡ chunk_of piece.now tsn }
 {
     data_chunk(
         &piece.message,
@@ -402,8 +403,8 @@ pub(crate) fn sent_chunk(piece: &InFlight, tsn: u32) -> Result<ChunkPayloadData,
 }
 
 // The next piece of a message that waits, as DATA.
-fn waiting_chunk(message: &PendingMessage, tsn: u32) -> Result<ChunkPayloadData, AllocError>
-    ensures { IfOk result (λ chunk. chunk ≡ next_chunk_of message.now tsn) }
+fn waiting_chunk(message: &PendingMessage, tsn: u32) -> DataRef<'_>
+    ensures { result ≡ next_chunk_of message.now tsn }
 {
     data_chunk(
         &message.message,
@@ -414,16 +415,16 @@ fn waiting_chunk(message: &PendingMessage, tsn: u32) -> Result<ChunkPayloadData,
     )
 }
 
-fn data_chunk(
+fn data_chunk<'a>(
     message: &Attributes,
     beginning_fragment: bool,
     ending_fragment: bool,
-    bytes: &Bytes,
+    user_data: &'a Bytes,
     tsn: u32,
-) -> Result<ChunkPayloadData, AllocError>
-    ensures { IfOk result (λ chunk. chunk ≡ data_of message.now beginning_fragment ending_fragment bytes.now tsn) }
+) -> DataRef<'a>
+    ensures { result ≡ data_of message.now beginning_fragment ending_fragment user_data.now tsn }
 {
-    Ok(ChunkPayloadData {
+    DataRef {
         unordered: message.unordered,
         beginning_fragment,
         ending_fragment,
@@ -432,6 +433,6 @@ fn data_chunk(
         stream_identifier: message.stream_identifier,
         stream_sequence_number: message.stream_sequence_number,
         payload_type: message.payload_type,
-        user_data: bytes.clone()?,
-    })
+        user_data,
+    }
 }

@@ -21,6 +21,7 @@ use bytes::Bytes;
 use forward_tsn::{put_forward_tsn, put_i_forward_tsn, read_forward_tsn, read_i_forward_tsn};
 use init::{put_init, read_init};
 use other::{head_of, put_causes, put_cumulative_tsn_ack, put_params, read_cumulative_tsn_ack};
+pub use payload_data::DataRef;
 pub(crate) use payload_data::put_payload_data;
 use payload_data::read_payload_data;
 use reconfig::{put_reconfig, read_reconfig};
@@ -88,7 +89,7 @@ fn put_chunk(alloc: Global, out: &mut Vec<u8>, chunk: &Chunk) -> Result<(), Wire
     ensures range { OnOk result (IsChunk chunk.now) }
 {
     match chunk {
-        Chunk::Data(piece) => put_payload_data(out, piece),
+        Chunk::Data(piece) => put_payload_data(out, &DataRef::of(piece)),
         Chunk::Init(init) => put_init(alloc, out, 256, init),
         Chunk::InitAck(init) => put_init(alloc, out, 512, init),
         Chunk::SelectiveAck(sack) => put_selective_ack(out, sack),

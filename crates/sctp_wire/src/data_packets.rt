@@ -8,7 +8,7 @@ ghost use Rattle.sctp_wire.specs.DataPackets.{IsReadBack, datagrams_of, summed, 
 ghost use Rattle.std.specs.List.{AllByRecursion};
 ghost use Rattle.sctp_wire_types.specs.declared.chunk.Chunk.TheVariants as chunks;
 
-use crate::chunk::put_payload_data;
+use crate::chunk::{DataRef, put_payload_data};
 use crate::frame::MAX_VALUE;
 use crate::number::{put_u16, put_u32};
 use crate::written::set_sum;
@@ -74,7 +74,14 @@ impl DataPackets {
     pub fn add(&mut self, piece: &ChunkPayloadData) -> Result<(), AllocError>
         ensures { OnOk result (self.new ≡ with_data self.old piece.now) }
     {
-        if piece.user_data.len() + 12 > MAX_VALUE {
+        self.add_borrowed(&DataRef::of(piece))
+    }
+
+    /// Adds DATA that borrows its payload, as `add` does.
+    pub fn add_borrowed(&mut self, piece: &DataRef) -> Result<(), AllocError>
+        ensures { OnOk result (self.new ≡ with_data self.old piece.now) }
+    {
+        if piece.payload_len() + 12 > MAX_VALUE {
             return Ok(());
         }
         if !self.has_room(piece) {
@@ -84,11 +91,11 @@ impl DataPackets {
     }
 
     // Whether the packet that is being written has room for this DATA.
-    fn has_room(&self, piece: &ChunkPayloadData) -> bool
+    fn has_room(&self, piece: &DataRef) -> bool
         requires { length piece.now.user_data ≤ 65519 }
         ensures { result ≡ has_room self.now piece.now }
     {
-        let length = (piece.user_data.len() + 19) / 4 * 4;
+        let length = (piece.payload_len() + 19) / 4 * 4;
         self.current.len().max(COMMON_HEADER) + length <= self.mtu as usize
     }
 
@@ -109,7 +116,7 @@ impl DataPackets {
     }
 
     // Writes DATA into the packet that is being written.
-    fn put(&mut self, piece: &ChunkPayloadData) -> Result<(), AllocError>
+    fn put(&mut self, piece: &DataRef) -> Result<(), AllocError>
         requires { data_fits piece.now ≡ true }
         ensures { OnOk result (self.new ≡ joined_by self.old piece.now) }
     {
@@ -167,7 +174,7 @@ fn started(alloc: Global, header: &CommonHeader, room: usize) -> Result<Vec<u8>,
     Ok(out)
 }
 
-fn put_data(out: &mut Vec<u8>, piece: &ChunkPayloadData) -> Result<(), AllocError>
+fn put_data(out: &mut Vec<u8>, piece: &DataRef) -> Result<(), AllocError>
     requires { data_fits piece.now ≡ true }
     ensures bytes { OnOk result (out.new.items ≡ out.old.items ++ chunk_bytes (chunks.Data piece.now)) }
     ensures range { OnOk result (IsPayloadData piece.now) }

@@ -17,6 +17,7 @@ mod refuse;
 mod transmit;
 mod written;
 
+pub use chunk::DataRef;
 pub use chunk_list::{ChunkList, PacketChunks};
 pub use data_packets::DataPackets;
 pub use packet::Packet;

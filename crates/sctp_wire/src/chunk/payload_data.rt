@@ -1,5 +1,5 @@
 // DATA (RFC 4960 section 3.3.1).
-ghost use Rattle.std.specs.Prelude.{◌≡◌, ◌<◌, ◌≤◌, OnOk};
+ghost use Rattle.std.specs.Prelude.{◌≡◌, ◌<◌, ◌≤◌, ◌^◌, OnOk, length};
 ghost use Rattle.sctp_wire.specs.Results.{Yields, Appends};
 ghost use Rattle.std.specs.Int.{w16, w32, to_be_bytes};
 ghost use Rattle.sctp_wire.specs.Numbers.{bit, IsU16, IsU32};
@@ -12,6 +12,73 @@ use crate::frame::{MAX_VALUE, put_padding};
 use crate::number::{read_u16, read_u32};
 use bytes::Bytes;
 use sctp_wire_types::{ChunkPayloadData, Fault, PayloadProtocolIdentifier};
+use std::marker::Model;
+
+/// A DATA chunk that borrows its payload (RFC 4960 section 3.3.1), so that writing it adds no owner of those bytes.
+#[derive(Drop)]
+pub struct DataRef<'a> {
+    pub unordered: bool,
+    pub beginning_fragment: bool,
+    pub ending_fragment: bool,
+    /// The receiver is asked to acknowledge at once (RFC 7053).
+    pub immediate_sack: bool,
+    pub tsn: u32,
+    pub stream_identifier: u16,
+    pub stream_sequence_number: u16,
+    pub payload_type: PayloadProtocolIdentifier,
+    pub user_data: &'a Bytes,
+}
+
+impl<'a> Model for DataRef<'a> {
+    ghost use Rattle.sctp_wire_types.specs.declared.chunk.ChunkPayloadData.{ChunkPayloadData};
+
+    ghost Value = { ChunkPayloadData };
+
+    ghost view = { λ d. record {
+      unordered = d.unordered;
+      beginning_fragment = d.beginning_fragment;
+      ending_fragment = d.ending_fragment;
+      immediate_sack = d.immediate_sack;
+      tsn = d.tsn;
+      stream_identifier = d.stream_identifier;
+      stream_sequence_number = d.stream_sequence_number;
+      payload_type = d.payload_type;
+      user_data = d.user_data.now;
+    } };
+}
+
+impl<'a> DataRef<'a> {
+    /// A chunk that owns its payload, as one that borrows it.
+    #[inline(always)]
+    pub(crate) fn of(piece: &'a ChunkPayloadData) -> DataRef<'a>
+        ensures { result ≡ piece.now }
+    {
+        DataRef {
+            unordered: piece.unordered,
+            beginning_fragment: piece.beginning_fragment,
+            ending_fragment: piece.ending_fragment,
+            immediate_sack: piece.immediate_sack,
+            tsn: piece.tsn,
+            stream_identifier: piece.stream_identifier,
+            stream_sequence_number: piece.stream_sequence_number,
+            payload_type: piece.payload_type,
+            user_data: &piece.user_data,
+        }
+    }
+
+    pub(crate) fn payload_len(&self) -> usize
+        ensures value { result ≡ length self.now.user_data }
+        ensures bound { result < 2 ^ 63 }
+    {
+        self.user_data.len()
+    }
+
+    fn payload(&self) -> &[u8]
+        ensures { result.now ≡ self.now.user_data }
+    {
+        self.user_data.as_slice()
+    }
+}
 
 #[tactic(auto, unfolding(crate::specs::PayloadData::payload_data_of))]
 pub(crate) fn read_payload_data(flags: u16, value: Bytes) -> Result<ChunkPayloadData, WireError>
@@ -47,7 +114,7 @@ fn bit_of(set: bool, weight: u16) -> u16
     if set { weight } else { 0 }
 }
 
-fn flags_of(piece: &ChunkPayloadData) -> u16
+fn flags_of(piece: &DataRef) -> u16
     ensures { result ≡ payload_data_flags piece.now }
 {
     bit_of(piece.ending_fragment, 1)
@@ -71,7 +138,7 @@ fn bytes_of_u32(number: u32) -> [u8; 4]
 }
 
 // All that stands before the payload, of a chunk whose value has `len` bytes: one array, so that it is written at once.
-fn header_of(piece: &ChunkPayloadData, len: usize) -> [u8; 16]
+fn header_of(piece: &DataRef, len: usize) -> [u8; 16]
     requires { len < 65532 }
     ensures bytes { result ≡ data_header piece.now len }
     ensures range { IsPayloadData piece.now }
@@ -90,17 +157,17 @@ fn header_of(piece: &ChunkPayloadData, len: usize) -> [u8; 16]
 
 // The payload goes straight into the output. Each DATA chunk is written here, so this function is put into its callers.
 #[inline(always)]
-pub(crate) fn put_payload_data(out: &mut Vec<u8>, piece: &ChunkPayloadData) -> Result<(), WireError>
+pub(crate) fn put_payload_data(out: &mut Vec<u8>, piece: &DataRef) -> Result<(), WireError>
     ensures bytes { Appends result (frame_fits (framed (payload_data_flags piece.now) (payload_data_value piece.now)))
         out.old.items out.new.items (padded (framed (payload_data_flags piece.now) (payload_data_value piece.now))) }
     ensures range { OnOk result (IsPayloadData piece.now) }
 {
-    let len = 12 + piece.user_data.len();
+    let len = 12 + piece.payload_len();
     if len > MAX_VALUE {
         return Err(WireError::Malformed(Fault::Long));
     }
     out.extend_from_slice(&header_of(piece, len))?;
-    out.extend_from_slice(piece.user_data.as_slice())?;
+    out.extend_from_slice(piece.payload())?;
     put_padding(out, len)?;
     Ok(())
 }
