@@ -50,6 +50,52 @@ put_first from dead ms ns is =
     (is ∙ ap (λ z. z ++ take from (take (from + dead) ms)) empty ∙ ap (λ z. take dead (drop from ms) ++ z) before)
     ∙ append_assoc (take dead (drop from ms)) (take from ms) (drop (from + dead) ms)
 
+-- the empty places are put behind some of the others
+
+behind_all : (bs ts : List Waiting) (j : ℕ) → j ≡ length bs → drop j (bs ++ ts) ≡ ts
+behind_all [] ts zero is = refl
+behind_all [] ts (suc j) is = absurd (omega (arith, is))
+behind_all (b ∷ bs) ts zero is = absurd (omega (arith, is))
+behind_all (b ∷ bs) ts (suc j) is = behind_all bs ts j (omega (arith, is))
+
+between : (xs bs ts : List Waiting) (i j : ℕ) → i ≡ length xs → j ≡ length xs + length bs
+    → take i (xs ++ bs ++ ts) ++ drop j (xs ++ bs ++ ts) ≡ xs ++ ts
+between [] bs ts zero j first is = behind_all bs ts j (omega (arith, is))
+between [] bs ts (suc i) j first is = absurd (omega (arith, first))
+between (x ∷ xs) bs ts zero j first is = absurd (omega (arith, first))
+between (x ∷ xs) bs ts (suc i) zero first is = absurd (omega (arith, is))
+between (x ∷ xs) bs ts (suc i) (suc j) first is =
+    ap (λ z. x ∷ z) (between xs bs ts i j (omega (arith, first)) (omega (arith, is)))
+
+left_of : (j n : ℕ) (ms : List Waiting) → j ≤ n → drop j (take n ms) ++ drop n ms ≡ drop j ms
+left_of zero n ms le = take-append-drop n ms
+left_of (suc j) zero ms le = absurd (omega arith)
+left_of (suc j) (suc n) [] le = refl
+left_of (suc j) (suc n) (m ∷ ms) le = left_of j n ms (omega arith)
+
+joined : (i j n : ℕ) (ms : List Waiting) → i ≤ j → j ≤ n
+    → take i (take n ms) ++ drop j (take n ms) ++ drop n ms ≡ take i ms ++ drop j ms
+joined zero j n ms le within = left_of j n ms within
+joined (suc i) zero n ms le within = absurd (omega arith)
+joined (suc i) (suc j) zero ms le within = absurd (omega arith)
+joined (suc i) (suc j) (suc n) [] le within = refl
+joined (suc i) (suc j) (suc n) (m ∷ ms) le within =
+    ap (λ z. m ∷ z) (joined i j n ms (omega arith) (omega arith))
+
+pub put_over : (from to dead : ℕ) (ms ns : List Waiting) → from ≤ to → to + dead ≤ length ms
+    → ns ≡ standing from dead (take (to + dead) ms) ++ take dead (drop from (take (to + dead) ms))
+    → standing to dead (ns ++ drop (to + dead) ms) ≡ standing from dead ms
+put_over from to dead ms ns le within is =
+    let part = take (to + dead) ms in
+    let many = length-take (to + dead) ms in
+    let kept = many_standing from dead part (omega (arith, le, within, many)) in
+    let rest = length-drop from part in
+    let empty = length-take dead (drop from part) in
+    ap (λ z. standing to dead (z ++ drop (to + dead) ms)) is
+    ∙ between (standing from dead part) (take dead (drop from part)) (drop (to + dead) ms) to (to + dead)
+    (omega (arith, kept, many, within)) (omega (arith, kept, many, within, rest, empty, le))
+    ∙ joined from (from + dead) (to + dead) ms (omega arith) (omega (arith, le))
+
 -- parts of what is left
 
 take_left : (n s j : ℕ) (ms : List Waiting) → n ≤ s → s ≤ j → take n (take s ms ++ drop j ms) ≡ take n ms

@@ -36,8 +36,12 @@ impl Front {
     pub(crate) fn pop(&mut self)
         ensures { (p : Piece) → (ps : List Piece) → IsFront self.old (p ∷ ps) → IsFront self.new ps }
     {
-        self.passed = self.passed.saturating_sub(1);
-        self.abandoned = self.abandoned.saturating_sub(1);
+        if self.passed > 0 {
+            self.passed -= 1;
+        }
+        if self.abandoned > 0 {
+            self.abandoned -= 1;
+        }
     }
 
     /// How many of the first pieces are abandoned. Goes over those that are and were not counted yet.

@@ -70,9 +70,18 @@ pub(crate) fn any_waiting_of_stream(
     requires { dead ≤ length messages.now.items - settled }
     ensures { result ≡ list_any (is_waiting_of_stream id) (standing settled dead messages.now.items) }
 {
+    if dead == 0 {
+        return any_of_all(messages, id);
+    }
     let all = messages.len();
     let end = settled.min(all);
     any_of_stream(messages, 0, end, id) || any_of_stream(messages, end + dead, all, id)
+}
+
+fn any_of_all(messages: &VecDeque<PendingMessage>, id: StreamId) -> bool
+    ensures { result ≡ list_any (is_waiting_of_stream id) messages.now.items }
+{
+    messages.iter().any(|message| message.is_of_stream(id))
 }
 
 fn any_of_stream(messages: &VecDeque<PendingMessage>, from: usize, to: usize, id: StreamId) -> bool

@@ -292,6 +292,8 @@ impl OutboundQueue {
     }
 
     /// Takes out the first piece in flight: it is acknowledged cumulatively. Goes over no other piece.
+    // It is put into its callers, so that the piece is not handed on once more.
+    #[inline(always)]
     #[tactic(auto, using(crate::proofs::FirstOutstanding::popped_there, crate::proofs::Timely::timely_behind))]
     pub fn pop(&mut self) -> Option<InFlight>
         ensures piece { result ≡ slice_get self.old.in_flight 0 }

@@ -134,9 +134,24 @@ fn move_over(items: &mut VecDeque<PendingMessage>, from: usize, to: usize, dead:
     ensures same { standing to dead items.new.items ≡ standing from dead items.old.items }
     ensures len { length items.new.items ≡ length items.old.items }
 {
-    if dead > 0 {
-        move_each_over(items, from, to, dead);
+    if dead == 0 {
+        return;
     }
+    if to - from <= dead {
+        move_each_over(items, from, to, dead);
+    } else {
+        move_all_over(items.make_contiguous(), from, to, dead);
+    }
+}
+
+// So it does where the empty places are fewer than those that move.
+fn move_all_over(messages: &mut [PendingMessage], from: usize, to: usize, dead: usize)
+    requires from { from ≤ to }
+    requires to { to + dead ≤ length messages.old }
+    ensures over { standing to dead messages.new ≡ standing from dead messages.old }
+    ensures len { length messages.new ≡ length messages.old }
+{
+    put_behind(&mut messages[..to + dead], from, dead);
 }
 
 fn move_each_over(items: &mut VecDeque<PendingMessage>, from: usize, to: usize, dead: usize)
