@@ -421,8 +421,8 @@ pub fn data_length(length: u64) -> u64
 /// Cuts the bytes of a message into pieces of `size` bytes, the last one of what is left (RFC 4960 section 6.9): the
 /// first piece, and those behind it. For size 0 the whole is one piece. All are cuts of the one buffer, and a message
 /// that fits one piece takes no memory.
-// It is put into its callers, so that a message of one piece is not handed on.
 #[inline(always)]
+// It is put into its callers, so that a message of one piece is not handed on once more.
 pub fn cut(alloc: Global, bytes: Bytes, size: usize) -> Result<(Bytes, VecDeque<Bytes>), AllocError>
     ensures first { IfOk result (λ p. p.0 ≡ first_piece size bytes) }
     ensures rest { IfOk result (λ p. p.1.items ≡ other_pieces size bytes) }
