@@ -12,10 +12,10 @@ pub use sctp_streams::{
 pub use sctp_wire::{
     Chunk, ChunkAbort, ChunkError, ChunkForwardTsn, ChunkHeartbeat, ChunkIForwardTsn, ChunkInit,
     ChunkList, ChunkPayloadData, ChunkReconfig, ChunkSelectiveAck, CommonHeader, DataPackets,
-    EcnCodepoint, Error, ErrorCause, Fault, GapAckBlock, IForwardTsnEntry, Instant, List, Packet,
-    PacketChunks, Param, ParamOutgoingResetRequest, ParamReconfigResponse, PartialDecode, Payload,
-    PayloadProtocolIdentifier, Policy, ReconfigResult, ReliabilityType, ServerConfig, Side,
-    SkippedStream, StreamEvent, StreamId, StreamResetError, Transmit, TransportConfig,
+    DataRef, EcnCodepoint, Error, ErrorCause, Fault, GapAckBlock, IForwardTsnEntry, Instant, List,
+    Packet, PacketChunks, Param, ParamOutgoingResetRequest, ParamReconfigResponse, PartialDecode,
+    Payload, PayloadProtocolIdentifier, Policy, ReconfigResult, ReliabilityType, ServerConfig,
+    Side, SkippedStream, StreamEvent, StreamId, StreamResetError, Transmit, TransportConfig,
     check_packet, crc32c, marshal, sna16gt, sna16gte, sna16lt, sna16lte, sna32gt, sna32gte,
     sna32lt, sna32lte,
 };

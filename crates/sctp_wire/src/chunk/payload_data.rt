@@ -15,7 +15,7 @@ use sctp_wire_types::{ChunkPayloadData, Fault, PayloadProtocolIdentifier};
 use std::marker::Model;
 
 /// A DATA chunk that borrows its payload (RFC 4960 section 3.3.1), so that writing it adds no owner of those bytes.
-#[derive(Drop)]
+#[derive(Debug, Drop)]
 pub struct DataRef<'a> {
     pub unordered: bool,
     pub beginning_fragment: bool,
