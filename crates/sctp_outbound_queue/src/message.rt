@@ -1,5 +1,5 @@
 // Messages, cut into pieces, and pieces in flight.
-ghost use Rattle.std.specs.Prelude.{◌≡◌, ◌==◌, ◌+◌, ◌-◌, ◌^◌, ◌<◌, ◌≤◌, length, min, fold, IfOk, IsOk};
+ghost use Rattle.std.specs.Prelude.{◌≡◌, ◌==◌, ◌+◌, ◌-◌, ◌^◌, ◌<◌, ◌≤◌, false, length, min, fold, IfOk, IsOk};
 ghost use Rattle.std.specs.List.{concat};
 ghost use Rattle.sctp_outbound_queue.specs.Cut.{MayFollow, first_piece, other_pieces};
 ghost use Rattle.sctp_outbound_queue.specs.Message.{message_bytes, piece_count, accepted, sent_once, without_piece};
@@ -182,18 +182,29 @@ impl PendingMessage {
         };
         let beginning_fragment = !self.begun;
         self.begun = true;
-        InFlight {
-            message: self.message,
+        let user_data = mem::replace(&mut self.user_data, next);
+        InFlight::sent(
+            self.message,
             beginning_fragment,
             ending_fragment,
-            user_data: mem::replace(&mut self.user_data, next),
-            sent_count: 1,
-            since: now,
-            retransmit: false,
-            acked: false,
-            abandoned: false,
-            misses: 0,
-        }
+            user_data,
+            now,
+        )
+    }
+
+    // Its last piece, sent once at `now`.
+    #[inline(always)]
+    pub(crate) fn into_last_piece(self, now: Instant) -> InFlight
+        requires { length self.rest ≡ 0 }
+        ensures { result ≡ sent_once now self }
+    {
+        let PendingMessage {
+            message,
+            begun,
+            user_data,
+            rest: _,
+        } = self;
+        InFlight::sent(message, !begun, true, user_data, now)
     }
 
     pub(crate) fn start(&mut self, now: Instant)
@@ -243,6 +254,42 @@ impl PendingMessage {
 }
 
 impl InFlight {
+    // A piece that is sent for the first time.
+    #[inline(always)]
+    fn sent(
+        message: Attributes,
+        beginning_fragment: bool,
+        ending_fragment: bool,
+        user_data: Bytes,
+        now: Instant,
+    ) -> Self
+        ensures { result ≡ record {
+          message = message;
+          beginning_fragment = beginning_fragment;
+          ending_fragment = ending_fragment;
+          user_data = user_data;
+          sent_count = 1;
+          since = now;
+          retransmit = false;
+          acked = false;
+          abandoned = false;
+          misses = 0;
+        } }
+    {
+        InFlight {
+            message,
+            beginning_fragment,
+            ending_fragment,
+            user_data,
+            sent_count: 1,
+            since: now,
+            retransmit: false,
+            acked: false,
+            abandoned: false,
+            misses: 0,
+        }
+    }
+
     pub(crate) fn marker(message: Attributes) -> Self
         ensures { result ≡ marker_of message }
     {
@@ -461,6 +508,9 @@ fn cut_behind(alloc: Global, bytes: Bytes, size: usize) -> Result<VecDeque<Bytes
 fn add_bytes(pieces: &VecDeque<Bytes>, others: u64) -> u64
     ensures { result ≡ fold (λ sum piece. min (sum + length piece) (2 ^ 64 - 1)) others pieces.now.items }
 {
+    if pieces.is_empty() {
+        return others;
+    }
     pieces.iter().fold(others, |sum, piece| {
         sum.saturating_add(piece.len() as u64)
     })

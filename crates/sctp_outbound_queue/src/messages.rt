@@ -1,6 +1,6 @@
 // The messages that wait, of which one is dropped without going over those behind it, and without moving them.
 ghost use Rattle.std.specs.Prelude.{◌≡◌, ◌==◌, ◌+◌, ◌-◌, ◌^◌, ◌<◌, ◌≤◌, ◌++◌, ◌∷◌, [], false, length, map, min};
-ghost use Rattle.std.specs.Prelude.{drop, remove, slice_get, take, slice_index_or, IfSome, IsSome, OnErr, OnOk};
+ghost use Rattle.std.specs.Prelude.{drop, remove, slice_get, take, slice_index_or, IfSome, IsSome, OnErr, OnOk, Some};
 ghost use Rattle.std.specs.List.{list_any, position_or_len};
 ghost use Rattle.std.specs.Option.{option_copied, option_map};
 ghost use Rattle.sctp_outbound_queue.specs.Clocks.{AllFrom, AllRun, AreWaitingTimely};
@@ -12,7 +12,7 @@ ghost use Rattle.sctp_outbound_queue.specs.Stretches.{total};
 
 use crate::clocks::Clocks;
 use crate::over_waiting::{
-    any_waiting_of_stream, is_split, pass_beside, pass_first, pieces_of, start_waiting,
+    any_waiting_of_stream, is_split, next_piece, pass_beside, pieces_of, start_waiting,
 };
 use crate::owed::Owed;
 use crate::settling::{owe, reach, settle, settle_behind_first, settle_first, take_out};
@@ -189,8 +189,9 @@ impl Messages {
 
     /// Takes out the next piece of the first message, sent once at `now`.
     #[inline(always)]
-    pub(crate) fn take_piece(&mut self, now: Instant) -> Option<InFlight>
-        ensures piece { result ≡ option_map (sent_once now) (slice_get self.old 0) }
+    pub(crate) fn take_piece(&mut self, now: Instant) -> InFlight
+        requires { 0 < length self.old }
+        ensures piece { Some result ≡ option_map (sent_once now) (slice_get self.old 0) }
         ensures left { self.new ≡ after_piece self.old }
     {
         settle(
@@ -199,10 +200,7 @@ impl Messages {
             &mut self.dead,
             &mut self.owed,
         );
-        let message = self.items.front_mut()?;
-        let piece = message.take_piece(now);
-        pass_first(&mut self.items, piece.ending_fragment);
-        Some(piece)
+        next_piece(&mut self.items, now)
     }
 
     /// Lets the time of each message run from `now` on where it does not run yet, and answers the least deadline of
@@ -294,7 +292,8 @@ impl Messages {
     }
 
     // Closes up the empty places at once where the ring is in two parts and nothing is owed: later it would be made one
-    // part for that, which costs more than an unordered message does that is dropped alone.
+    // part for that, which costs more than an unordered message does that is dropped alone. So where places are empty
+    // and nothing is owed the ring is in one part, and `move_over` does not go over it to make it one.
     fn close_if_dear(&mut self)
         ensures { self.new ≡ self.old }
     {

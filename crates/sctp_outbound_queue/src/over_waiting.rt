@@ -3,30 +3,49 @@ ghost use Rattle.std.specs.Prelude.{◌≡◌, ◌+◌, ◌-◌, ◌^◌, ◌<�
 ghost use Rattle.std.specs.Prelude.{ℕ, None, Some, if◌then◌else◌};
 ghost use Rattle.std.specs.Prelude.{slice_get, slice_range};
 ghost use Rattle.std.specs.List.{list_any, position_or_len};
+ghost use Rattle.std.specs.Option.{option_map};
 ghost use Rattle.sctp_outbound_queue.specs.Message.{piece_count, is_waiting_of_stream};
-ghost use Rattle.sctp_outbound_queue.specs.Message.{is_expired_unsent, waiting_started};
+ghost use Rattle.sctp_outbound_queue.specs.Message.{is_expired_unsent, sent_once, waiting_started};
 ghost use Rattle.sctp_outbound_queue.specs.Message.{with_start};
-ghost use Rattle.sctp_outbound_queue.specs.Outbound.{pieces_waiting};
+ghost use Rattle.sctp_outbound_queue.specs.Outbound.{after_piece, pieces_waiting};
 ghost use Rattle.sctp_outbound_queue.specs.Clocks.{AllFrom, AllRun, AreWaitingTimely, Cover};
 ghost use Rattle.sctp_outbound_queue.specs.Owed.{standing};
 ghost use Rattle.sctp_outbound_queue.specs.Stretches.{total};
 ghost use Rattle.sctp_outbound_queue.specs.Expiry.{without_expired};
+ghost use Rattle.sctp_outbound_queue.specs.Waiting.{Waiting};
 
-use crate::PendingMessage;
 use crate::clocks::{Clocks, Look};
 use crate::message::soonest;
 use crate::messages::Messages;
 use crate::stretches::{Stretch, Stretches};
+use crate::{InFlight, PendingMessage};
 use sctp_wire_types::{Instant, StreamId};
 use std::collections::VecDeque;
 
-// Takes out the first message where its last piece was sent.
+// Takes out the next piece of the first message, sent once at `now`, and with its last piece the message. What goes in
+// flight is not handed on as an Option, whose room would be cleared first.
 #[inline(always)]
-pub(crate) fn pass_first(messages: &mut VecDeque<PendingMessage>, is_sent: bool)
-    ensures { messages.new.items ≡ (if is_sent then drop 1 messages.old.items else messages.old.items) }
+pub(crate) fn next_piece(messages: &mut VecDeque<PendingMessage>, now: Instant) -> InFlight
+    requires { 0 < length messages.old.items }
+    ensures piece { Some result ≡ option_map (sent_once now) (slice_get messages.old.items 0) }
+    ensures left { messages.new.items ≡ after_piece messages.old.items }
 {
-    if is_sent {
-        messages.pop_front();
+    if messages[0].is_last_piece() {
+        return last_piece(messages, now);
+    }
+    messages[0].take_piece(now)
+}
+
+#[inline(always)]
+fn last_piece(messages: &mut VecDeque<PendingMessage>, now: Instant) -> InFlight
+    requires some { 0 < length messages.old.items }
+    requires last { (m : Waiting) → slice_get messages.old.items 0 ≡ Some m → length m.rest ≡ 0 }
+    ensures piece { Some result ≡ option_map (sent_once now) (slice_get messages.old.items 0) }
+    ensures left { messages.new.items ≡ drop 1 messages.old.items }
+{
+    match messages.pop_front() {
+        Some(message) => message.into_last_piece(now),
+        None => unreachable!(),
     }
 }
 
@@ -78,6 +97,7 @@ pub(crate) fn any_waiting_of_stream(
     any_of_stream(messages, 0, end, id) || any_of_stream(messages, end + dead, all, id)
 }
 
+// No place is empty.
 fn any_of_all(messages: &VecDeque<PendingMessage>, id: StreamId) -> bool
     ensures { result ≡ list_any (is_waiting_of_stream id) messages.now.items }
 {

@@ -263,14 +263,16 @@ impl OutboundQueue {
     {
         self.sets.reserve()?;
         self.in_flight.reserve(1)?;
-        if let Some(piece) = self.pending.take_piece(now) {
-            let bytes = piece.outstanding_bytes();
-            self.clocks.send(&piece.message, piece.ending_fragment);
-            self.in_flight.push_back_reserved(piece);
-            self.sets.grow();
-            self.pending_bytes -= bytes;
-            self.outstanding_bytes += bytes;
+        if self.pending.is_empty() {
+            return Ok(());
         }
+        let piece = self.pending.take_piece(now);
+        let bytes = piece.outstanding_bytes();
+        self.clocks.send(&piece.message, piece.ending_fragment);
+        self.in_flight.push_back_reserved(piece);
+        self.sets.grow();
+        self.pending_bytes -= bytes;
+        self.outstanding_bytes += bytes;
         Ok(())
     }
 

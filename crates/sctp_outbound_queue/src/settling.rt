@@ -144,7 +144,7 @@ fn move_over(items: &mut VecDeque<PendingMessage>, from: usize, to: usize, dead:
     }
 }
 
-// So it does where the empty places are fewer than those that move.
+// Where the empty places are fewer than those that move, by one rotation.
 fn move_all_over(messages: &mut [PendingMessage], from: usize, to: usize, dead: usize)
     requires from { from ≤ to }
     requires to { to + dead ≤ length messages.old }
@@ -154,6 +154,7 @@ fn move_all_over(messages: &mut [PendingMessage], from: usize, to: usize, dead: 
     put_behind(&mut messages[..to + dead], from, dead);
 }
 
+// Else one by one.
 fn move_each_over(items: &mut VecDeque<PendingMessage>, from: usize, to: usize, dead: usize)
     requires some { 0 < dead }
     requires from { from ≤ to }

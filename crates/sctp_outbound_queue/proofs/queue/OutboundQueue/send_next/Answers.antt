@@ -5,26 +5,26 @@ use Rattle.sctp_outbound_queue.proofs.Fronts.{front_more}
 use Rattle.sctp_outbound_queue.proofs.InOrder.{order_sent}
 use Rattle.sctp_outbound_queue.proofs.queue.OutboundQueue.send_next.Goals as goal
 
-pub invariant_of-self-in-Some : goal.invariant_of-self-in-Some
-invariant_of-self-in-Some c = (
+pub invariant_of-self-2 : goal.invariant_of-self-2
+invariant_of-self-2 c = (
   rw c.send.ensures
       (kept_sent _ c.args.now c.self.inside.pending c.self.inside.in_flight.items c.self.invariant.0
-      c.in-Some.ensures.piece c.in-Some.ensures.left c.reserve-2.ensures.items c.push_back_reserved.ensures.items
+      c.take_piece-piece.ensures.piece c.take_piece-piece.ensures.left c.reserve-2.ensures.items c.push_back_reserved.ensures.items
       c.outstanding_bytes-bytes.ensures),
   rw (c.push_back_reserved.ensures.items, c.reserve-2.ensures.items)
-      (c.grow.ensures c.self.inside.in_flight.items c.in-Some.piece
-      (sent_plain c.args.now c.self.inside.pending c.in-Some.piece (sym c.in-Some.ensures.piece))
+      (c.grow.ensures c.self.inside.in_flight.items c.take_piece-piece.result
+      (sent_plain c.args.now c.self.inside.pending c.take_piece-piece.result (sym c.take_piece-piece.ensures.piece))
       (c.reserve.ensures.same c.self.inside.in_flight.items c.self.invariant.1)),
   rw (c.push_back_reserved.ensures.items, c.reserve-2.ensures.items)
-      (front_more c.self.inside.front c.self.inside.in_flight.items c.in-Some.piece c.self.invariant.2),
-  rw (c.push_back_reserved.ensures.items, c.reserve-2.ensures.items, c.in-Some.ensures.left)
-      (order_sent c.args.now c.self.inside.in_flight.items c.self.inside.pending c.in-Some.piece c.self.inside.next_message_id
-      (sym c.in-Some.ensures.piece) c.self.invariant.3),
+      (front_more c.self.inside.front c.self.inside.in_flight.items c.take_piece-piece.result c.self.invariant.2),
+  rw (c.push_back_reserved.ensures.items, c.reserve-2.ensures.items, c.take_piece-piece.ensures.left)
+      (order_sent c.args.now c.self.inside.in_flight.items c.self.inside.pending c.take_piece-piece.result c.self.inside.next_message_id
+      (sym c.take_piece-piece.ensures.piece) c.self.invariant.3),
 )
 
 pub overflow_sub-self : goal.overflow_sub-self
 overflow_sub-self c =
-    let all = after_piece_bytes c.args.now c.self.inside.pending c.in-Some.piece (sym c.in-Some.ensures.piece) in
+    let all = after_piece_bytes c.args.now c.self.inside.pending c.take_piece-piece.result (sym c.take_piece-piece.ensures.piece) in
     let bytes = c.outstanding_bytes-bytes.ensures in
     let kept = c.self.invariant.0.0 in
     omega (arith, all, bytes, kept)
