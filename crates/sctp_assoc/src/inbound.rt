@@ -270,7 +270,9 @@ impl Association {
     }
 
     // Takes in new DATA of the generation that is read, where credit is left or it fills a gap, and applies the skips
-    // that were kept for that generation; answers why its stream refuses it, if it does.
+    // that were kept for that generation; answers why its stream refuses it, if it does. Nearly all DATA comes here, so
+    // this function is put into its caller, as `take_in` is.
+    #[inline(always)]
     fn take_where_admitted(&mut self, piece: ChunkPayloadData) -> Result<Option<Error>, AllocError>
         requires { is_new_to self.old.receiver piece.tsn ≡ true }
         ensures exact { IfOk result (λ fault. taken_where_admitted self.old piece ≡ (self.new, fault)) }
@@ -351,6 +353,7 @@ impl Association {
     // Hands a new piece to its stream and then moves the last TSN in order; answers why the stream refuses it, if it
     // does: a message that is longer than the limit is a refusal. What the stream refuses isn't held, and lacks no
     // memory.
+    #[inline(always)]
     #[tactic(auto, using(crate::proofs::MemoryTaken::not_for_memory), unfolding(crate::specs::Chunks::taken_in))]
     fn take_in(&mut self, piece: ChunkPayloadData) -> Result<Option<Error>, AllocError>
         requires { is_new_to self.old.receiver piece.tsn ≡ true }

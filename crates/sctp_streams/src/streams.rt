@@ -136,6 +136,8 @@ impl Streams {
     /// Keeps a piece that came on a live stream, and answers whether it did; false where the stream is not live.
     /// Where it is refused nothing changes. Where more bytes would wait than a u64 can say, that counts as want of
     /// memory.
+    // It is put into its caller, so that the piece is not handed on once more.
+    #[inline(always)]
     #[tactic(auto, using(std::proofs::lemmas::Map::Steps::set_value_same))]
     pub fn push(&mut self, id: StreamId, piece: ChunkPayloadData, limit: u32) -> Result<bool, Error>
         ensures pushed { IfOk result (λ kept. pushed_in self.old id piece ≡ (self.new, kept)) }
