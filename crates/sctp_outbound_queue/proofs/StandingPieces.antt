@@ -1,6 +1,6 @@
 -- The sets of pieces in flight still have those that they are to have, as pieces come, leave and change.
 use Rattle.std.proofs.Common.{◌≡◌, ℕ, zero, suc, ◌+◌, ◌<◌, Bool, true, false, ◌&&◌, leb, eqb, List, [], ◌∷◌, length}
-use Rattle.std.proofs.Common.{drop, map, slice_get, slice_set, Some, refl, ap, sym, ◌∙◌, arith, ⊎_elim, nat_lt}
+use Rattle.std.proofs.Common.{◌==◌, drop, map, slice_get, slice_set, Some, refl, ap, sym, ◌∙◌, arith, ⊎_elim, nat_lt}
 use Rattle.std.specs.Option.{option_map}
 use Rattle.std.proofs.lemmas.Bool.{cases_Bool}
 use Rattle.std.proofs.lemmas.Bool.Decides.{nat_tests}
@@ -47,6 +47,11 @@ standing_started s now ps stand = (
   stand_mapped (picks causes.Fast) (sent_started now) s.missing ps (λ p. refl) stand.1,
   stand_mapped was_acknowledged (sent_started now) s.acked ps (λ p. refl) stand.2,
 )
+
+-- where messages wait there is a first one
+pub first_waits : (ms : List Waiting) → (length ms == 0) ≡ false → (m : Waiting) × (slice_get ms 0 ≡ Some m)
+first_waits [] some = absurd (cc)
+first_waits (m ∷ ms) some = (m, refl)
 
 -- a piece goes out for the first time
 pub sent_plain : (now : ℕ) (ms : List Waiting) (p : InFlight) → option_map (sent_once now) (slice_get ms 0) ≡ Some p

@@ -2,17 +2,19 @@
 ghost use Rattle.std.specs.Prelude.{◌≡◌, ◌==◌, ◌+◌, ◌-◌, ◌^◌, ◌<◌, ◌≤◌, ◌++◌, ◌∷◌, [], false, length, map, min};
 ghost use Rattle.std.specs.Prelude.{drop, remove, slice_get, take, slice_index_or, IfSome, IsSome, OnErr, OnOk, Some};
 ghost use Rattle.std.specs.List.{list_any, position_or_len};
-ghost use Rattle.std.specs.Option.{option_copied, option_map};
-ghost use Rattle.sctp_outbound_queue.specs.Clocks.{AllFrom, AllRun, AreWaitingTimely};
+ghost use Rattle.std.specs.Option.{option_copied};
+ghost use Rattle.std.specs.VecDeque.{deque_len, deque_capacity};
+ghost use Rattle.sctp_outbound_queue.specs.Clocks.{AllFrom, AllRun, AreWaitingTimely, sent_by};
 ghost use Rattle.sctp_outbound_queue.specs.Message.{is_waiting_of_stream, moved_down, sent_once, waiting_started};
-ghost use Rattle.sctp_outbound_queue.specs.Message.{is_expired_unsent};
+ghost use Rattle.sctp_outbound_queue.specs.Message.{is_expired_unsent, outstanding_bytes};
 ghost use Rattle.sctp_outbound_queue.specs.Outbound.{after_piece, pieces_waiting};
 ghost use Rattle.sctp_outbound_queue.specs.Owed.{as_they_are, lowered, standing};
 ghost use Rattle.sctp_outbound_queue.specs.Stretches.{total};
+ghost use Rattle.sctp_outbound_queue.specs.Waiting.{Waiting};
 
 use crate::clocks::Clocks;
 use crate::over_waiting::{
-    any_waiting_of_stream, is_split, next_piece, pass_beside, pieces_of, start_waiting,
+    any_waiting_of_stream, is_split, pass_beside, pieces_of, send_piece, start_waiting,
 };
 use crate::owed::Owed;
 use crate::settling::{owe, reach, settle, settle_behind_first, settle_first, take_out};
@@ -187,12 +189,23 @@ impl Messages {
         self.items.pop_front();
     }
 
-    /// Takes out the next piece of the first message, sent once at `now`.
+    /// Puts the next piece of the first message in flight, sent once at `now`, and answers its bytes.
     #[inline(always)]
-    pub(crate) fn take_piece(&mut self, now: Instant) -> InFlight
-        requires { 0 < length self.old }
-        ensures piece { Some result ≡ option_map (sent_once now) (slice_get self.old 0) }
+    pub(crate) fn send_piece(
+        &mut self,
+        in_flight: &mut VecDeque<InFlight>,
+        clocks: &mut Clocks,
+        now: Instant,
+    ) -> u64
+        requires some { 0 < length self.old }
+        requires room { deque_len in_flight.old < deque_capacity in_flight.old }
         ensures left { self.new ≡ after_piece self.old }
+        ensures sent { (m : Waiting) → slice_get self.old 0 ≡ Some m
+            → in_flight.new.items ≡ in_flight.old.items ++ sent_once now m ∷ [] }
+        ensures clocks { (m : Waiting) → slice_get self.old 0 ≡ Some m
+            → clocks.new ≡ sent_by m.message (length m.rest == 0) clocks.old }
+        ensures bytes { (m : Waiting) → slice_get self.old 0 ≡ Some m
+            → result ≡ outstanding_bytes (sent_once now m) }
     {
         settle(
             &mut self.items,
@@ -200,7 +213,7 @@ impl Messages {
             &mut self.dead,
             &mut self.owed,
         );
-        next_piece(&mut self.items, now)
+        send_piece(&mut self.items, in_flight, clocks, now)
     }
 
     /// Lets the time of each message run from `now` on where it does not run yet, and answers the least deadline of

@@ -1,14 +1,14 @@
 // What goes over the messages that wait.
 ghost use Rattle.std.specs.Prelude.{◌≡◌, ◌+◌, ◌-◌, ◌^◌, ◌<◌, ◌≤◌, length, map, min, fold, find, take, drop};
-ghost use Rattle.std.specs.Prelude.{ℕ, None, Some, if◌then◌else◌};
+ghost use Rattle.std.specs.Prelude.{ℕ, None, Some, if◌then◌else◌, ◌==◌, ◌++◌, ◌∷◌, []};
 ghost use Rattle.std.specs.Prelude.{slice_get, slice_range};
+ghost use Rattle.std.specs.VecDeque.{deque_len, deque_capacity};
 ghost use Rattle.std.specs.List.{list_any, position_or_len};
-ghost use Rattle.std.specs.Option.{option_map};
 ghost use Rattle.sctp_outbound_queue.specs.Message.{piece_count, is_waiting_of_stream};
 ghost use Rattle.sctp_outbound_queue.specs.Message.{is_expired_unsent, sent_once, waiting_started};
-ghost use Rattle.sctp_outbound_queue.specs.Message.{with_start};
+ghost use Rattle.sctp_outbound_queue.specs.Message.{outstanding_bytes, with_start};
 ghost use Rattle.sctp_outbound_queue.specs.Outbound.{after_piece, pieces_waiting};
-ghost use Rattle.sctp_outbound_queue.specs.Clocks.{AllFrom, AllRun, AreWaitingTimely, Cover};
+ghost use Rattle.sctp_outbound_queue.specs.Clocks.{AllFrom, AllRun, AreWaitingTimely, Cover, sent_by};
 ghost use Rattle.sctp_outbound_queue.specs.Owed.{standing};
 ghost use Rattle.sctp_outbound_queue.specs.Stretches.{total};
 ghost use Rattle.sctp_outbound_queue.specs.Expiry.{without_expired};
@@ -22,31 +22,67 @@ use crate::{InFlight, PendingMessage};
 use sctp_wire_types::{Instant, StreamId};
 use std::collections::VecDeque;
 
-// Takes out the next piece of the first message, sent once at `now`, and with its last piece the message. What goes in
-// flight is not handed on as an Option, whose room would be cleared first.
+// Puts the next piece of the first message in flight, sent once at `now`, and takes the message out with its last one.
+// Answers the bytes of the piece. Each of the two ways puts it there itself, since where they meet it would be copied.
 #[inline(always)]
-pub(crate) fn next_piece(messages: &mut VecDeque<PendingMessage>, now: Instant) -> InFlight
-    requires { 0 < length messages.old.items }
-    ensures piece { Some result ≡ option_map (sent_once now) (slice_get messages.old.items 0) }
+pub(crate) fn send_piece(
+    messages: &mut VecDeque<PendingMessage>,
+    in_flight: &mut VecDeque<InFlight>,
+    clocks: &mut Clocks,
+    now: Instant,
+) -> u64
+    requires some { 0 < length messages.old.items }
+    requires room { deque_len in_flight.old < deque_capacity in_flight.old }
     ensures left { messages.new.items ≡ after_piece messages.old.items }
+    ensures sent { (m : Waiting) → slice_get messages.old.items 0 ≡ Some m
+        → in_flight.new.items ≡ in_flight.old.items ++ sent_once now m ∷ [] }
+    ensures clocks { (m : Waiting) → slice_get messages.old.items 0 ≡ Some m
+        → clocks.new ≡ sent_by m.message (length m.rest == 0) clocks.old }
+    ensures bytes { (m : Waiting) → slice_get messages.old.items 0 ≡ Some m
+        → result ≡ outstanding_bytes (sent_once now m) }
 {
     if messages[0].is_last_piece() {
-        return last_piece(messages, now);
+        return send_last_piece(messages, in_flight, clocks, now);
     }
-    messages[0].take_piece(now)
+    put_in_flight(messages[0].take_piece(now), in_flight, clocks)
 }
 
 #[inline(always)]
-fn last_piece(messages: &mut VecDeque<PendingMessage>, now: Instant) -> InFlight
+fn send_last_piece(
+    messages: &mut VecDeque<PendingMessage>,
+    in_flight: &mut VecDeque<InFlight>,
+    clocks: &mut Clocks,
+    now: Instant,
+) -> u64
     requires some { 0 < length messages.old.items }
     requires last { (m : Waiting) → slice_get messages.old.items 0 ≡ Some m → length m.rest ≡ 0 }
-    ensures piece { Some result ≡ option_map (sent_once now) (slice_get messages.old.items 0) }
+    requires room { deque_len in_flight.old < deque_capacity in_flight.old }
     ensures left { messages.new.items ≡ drop 1 messages.old.items }
+    ensures sent { (m : Waiting) → slice_get messages.old.items 0 ≡ Some m
+        → in_flight.new.items ≡ in_flight.old.items ++ sent_once now m ∷ [] }
+    ensures clocks { (m : Waiting) → slice_get messages.old.items 0 ≡ Some m
+        → clocks.new ≡ sent_by m.message (length m.rest == 0) clocks.old }
+    ensures bytes { (m : Waiting) → slice_get messages.old.items 0 ≡ Some m
+        → result ≡ outstanding_bytes (sent_once now m) }
 {
     match messages.pop_front() {
-        Some(message) => message.into_last_piece(now),
+        Some(message) => put_in_flight(message.into_last_piece(now), in_flight, clocks),
         None => unreachable!(),
     }
+}
+
+// Puts a piece that is sent for the first time behind those in flight, and answers its bytes.
+#[inline(always)]
+fn put_in_flight(piece: InFlight, in_flight: &mut VecDeque<InFlight>, clocks: &mut Clocks) -> u64
+    requires { deque_len in_flight.old < deque_capacity in_flight.old }
+    ensures sent { in_flight.new.items ≡ in_flight.old.items ++ piece ∷ [] }
+    ensures clocks { clocks.new ≡ sent_by piece.message piece.ending_fragment clocks.old }
+    ensures bytes { result ≡ outstanding_bytes piece }
+{
+    let bytes = piece.outstanding_bytes();
+    clocks.send(&piece.message, piece.ending_fragment);
+    in_flight.push_back_reserved(piece);
+    bytes
 }
 
 // The ring in which messages wait is in two parts.

@@ -266,10 +266,9 @@ impl OutboundQueue {
         if self.pending.is_empty() {
             return Ok(());
         }
-        let piece = self.pending.take_piece(now);
-        let bytes = piece.outstanding_bytes();
-        self.clocks.send(&piece.message, piece.ending_fragment);
-        self.in_flight.push_back_reserved(piece);
+        let bytes = self
+            .pending
+            .send_piece(&mut self.in_flight, &mut self.clocks, now);
         self.sets.grow();
         self.pending_bytes -= bytes;
         self.outstanding_bytes += bytes;

@@ -1,30 +1,39 @@
-use Rattle.std.proofs.Common.{arith, sym}
+use Rattle.std.proofs.Common.{◌≡◌, ◌∙◌, Some, ap, arith, slice_get, sym}
+use Rattle.std.specs.Option.{option_map}
+use Rattle.sctp_outbound_queue.specs.Message.{sent_once}
 use Rattle.sctp_outbound_queue.proofs.QueuedBytes.{after_piece_bytes, kept_sent}
-use Rattle.sctp_outbound_queue.proofs.StandingPieces.{sent_plain}
+use Rattle.sctp_outbound_queue.proofs.StandingPieces.{first_waits, sent_plain}
 use Rattle.sctp_outbound_queue.proofs.Fronts.{front_more}
 use Rattle.sctp_outbound_queue.proofs.InOrder.{order_sent}
 use Rattle.sctp_outbound_queue.proofs.queue.OutboundQueue.send_next.Goals as goal
 
 pub invariant_of-self-2 : goal.invariant_of-self-2
-invariant_of-self-2 c = (
-  rw c.send.ensures
-      (kept_sent _ c.args.now c.self.inside.pending c.self.inside.in_flight.items c.self.invariant.0
-      c.take_piece-piece.ensures.piece c.take_piece-piece.ensures.left c.reserve-2.ensures.items c.push_back_reserved.ensures.items
-      c.outstanding_bytes-bytes.ensures),
-  rw (c.push_back_reserved.ensures.items, c.reserve-2.ensures.items)
-      (c.grow.ensures c.self.inside.in_flight.items c.take_piece-piece.result
-      (sent_plain c.args.now c.self.inside.pending c.take_piece-piece.result (sym c.take_piece-piece.ensures.piece))
-      (c.reserve.ensures.same c.self.inside.in_flight.items c.self.invariant.1)),
-  rw (c.push_back_reserved.ensures.items, c.reserve-2.ensures.items)
-      (front_more c.self.inside.front c.self.inside.in_flight.items c.take_piece-piece.result c.self.invariant.2),
-  rw (c.push_back_reserved.ensures.items, c.reserve-2.ensures.items, c.take_piece-piece.ensures.left)
-      (order_sent c.args.now c.self.inside.in_flight.items c.self.inside.pending c.take_piece-piece.result c.self.inside.next_message_id
-      (sym c.take_piece-piece.ensures.piece) c.self.invariant.3),
-)
+invariant_of-self-2 c =
+    let first = first_waits c.self.inside.pending (sym c.is_empty.ensures ∙ c.if-is_empty.false) in
+    let p = sent_once c.args.now first.0 in
+    let sent = c.send_piece-bytes.ensures.sent first.0 first.1 in
+    let is : option_map (sent_once c.args.now) (slice_get c.self.inside.pending 0) ≡ Some p =
+    ap (option_map (sent_once c.args.now)) first.1 in (
+      rw (c.send_piece-bytes.ensures.clocks first.0 first.1)
+          (kept_sent _ c.args.now c.self.inside.pending c.self.inside.in_flight.items c.self.invariant.0 (sym is)
+          c.send_piece-bytes.ensures.left c.reserve-2.ensures.items sent (c.send_piece-bytes.ensures.bytes first.0 first.1)),
+      rw (sent, c.reserve-2.ensures.items)
+          (c.grow.ensures c.self.inside.in_flight.items p (sent_plain c.args.now c.self.inside.pending p is)
+          (c.reserve.ensures.same c.self.inside.in_flight.items c.self.invariant.1)),
+      rw (sent, c.reserve-2.ensures.items)
+          (front_more c.self.inside.front c.self.inside.in_flight.items p c.self.invariant.2),
+      rw (sent, c.reserve-2.ensures.items, c.send_piece-bytes.ensures.left)
+          (order_sent c.args.now c.self.inside.in_flight.items c.self.inside.pending p c.self.inside.next_message_id is
+          c.self.invariant.3),
+    )
 
 pub overflow_sub-self : goal.overflow_sub-self
 overflow_sub-self c =
-    let all = after_piece_bytes c.args.now c.self.inside.pending c.take_piece-piece.result (sym c.take_piece-piece.ensures.piece) in
-    let bytes = c.outstanding_bytes-bytes.ensures in
+    let first = first_waits c.self.inside.pending (sym c.is_empty.ensures ∙ c.if-is_empty.false) in
+    let p = sent_once c.args.now first.0 in
+    let is : option_map (sent_once c.args.now) (slice_get c.self.inside.pending 0) ≡ Some p =
+    ap (option_map (sent_once c.args.now)) first.1 in
+    let all = after_piece_bytes c.args.now c.self.inside.pending p is in
+    let bytes = c.send_piece-bytes.ensures.bytes first.0 first.1 in
     let kept = c.self.invariant.0.0 in
     omega (arith, all, bytes, kept)
