@@ -76,8 +76,6 @@ impl ReassemblyQueue {
     /// Refused, with nothing changed, where the pieces held of its message contradict it (`ErrContradictoryPieces`),
     /// where with it they have more than `limit` bytes (`ErrInboundMessageTooLarge`). Where neither holds it is refused
     /// where memory is (`ErrNoMemory`); so too where more bytes would wait than a u64 can say.
-    // It is put into its caller, so that the piece is not handed on once more.
-    #[inline(always)]
     pub fn push(&mut self, piece: ChunkPayloadData, limit: u32) -> Result<bool, Error>
         ensures pushed { IfOk result (λ kept. pushed self.old piece ≡ (self.new, kept)) }
         ensures unchanged { OnErr result (self.new ≡ self.old) }

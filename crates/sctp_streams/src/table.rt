@@ -89,6 +89,8 @@ impl StreamTable {
         find(&self.pages, id)
     }
 
+    // It is put into its callers: a look-up is short, and each received DATA takes one.
+    #[inline(always)]
     pub(crate) fn get_mut(&mut self, id: StreamId) -> Option<&mut StreamState>
         ensures* writes_back { sem 𝓛 (LendsIfFound self.entry id result) }
         ensures value { option_copied_mut result ≡ lookup (is_at (nat_cmp id)) self.old }
