@@ -6,8 +6,9 @@ ghost use Rattle.dcep_channel.specs.Deeds.{Deed, fault_in};
 
 use crate::port::Port;
 use sctp_assoc::{
-    Association, Chunks, Error, PayloadProtocolIdentifier, ReliabilityType, Reply, StreamId, calls,
+    Association, Chunks, Error, PayloadProtocolIdentifier, ReliabilityType, Reply, StreamId,
 };
+use sctp_calls::calls;
 
 /// The port of one stream of an association, which it borrows. A fault is the number of what the association refuses.
 #[derive(Drop)]

@@ -12,9 +12,6 @@ mod SettlesPlainly
 mod SkipsTold
 mod FallsInPolls
 mod TakingSettles
-mod RefusalNumbers
-pub mod AbstractRuns
-pub mod AbstractSteps
 pub mod ActsKeepOffsets
 pub mod CallsLeadOn
 pub mod ClosesLeadOn

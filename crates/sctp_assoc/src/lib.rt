@@ -26,7 +26,7 @@
 //! | [`Association::poll_transmit`], [`Association::poll_timeout`] | the driver: what to send, and when to wake |
 //! | [`Association::poll_endpoint_event`] | the driver, to learn that `shutdown` was called here |
 //! | `state`, `is_closed`, `rtt`, `cwnd` and the other questions | anybody, at any time; they change nothing |
-//! | [`Association::run`], [`Association::carry_out`] | code that keeps calls as values, or reasons about them |
+//! | `sctp_calls::run`, `sctp_calls::carry_out` | code that keeps calls as values, or reasons about them |
 //!
 //! # The loop
 //!
@@ -88,7 +88,6 @@
 
 mod association;
 mod call;
-pub mod calls;
 mod control;
 mod effects;
 mod gather;
@@ -96,7 +95,6 @@ mod handshake;
 mod inbound;
 mod readers;
 mod resets;
-mod run;
 mod shared;
 mod shutdown;
 mod skipping;

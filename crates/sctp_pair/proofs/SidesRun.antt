@@ -16,8 +16,8 @@ use Rattle.sctp_assoc.specs.Abstract.{AbstractAssociation, IsRun, RunsOn, StepsO
 use Rattle.sctp_assoc.specs.Leads.{Binds}
 use Rattle.sctp_assoc.specs.Replies.{GivesOut, Replies, RepliesAlone}
 use Rattle.sctp_assoc.specs.Shown.{Shown}
-use Rattle.sctp_assoc.proofs.AbstractRuns.{no_run}
-use Rattle.sctp_assoc.proofs.AbstractSteps.{steps_on}
+use Rattle.sctp_calls.proofs.AbstractRuns.{no_run}
+use Rattle.sctp_calls.proofs.AbstractSteps.{steps_on}
 use Rattle.sctp_sides.specs.OneSide.{IsFresh}
 use Rattle.sctp_sides.proofs.Proved.{runs_keep_retries, runs_send_nothing_late}
 use Rattle.sctp_steps.specs.declared.step.Side2.{Side2}

@@ -3,7 +3,8 @@ ghost use Rattle.std.specs.Prelude.{slice_get};
 ghost use Rattle.sctp_steps.specs.Steps.{Delivers};
 
 use bytes::Bytes;
-use sctp_assoc::{Association, Instant, Reply, calls};
+use sctp_assoc::{Association, Instant, Reply};
+use sctp_calls::calls;
 use std::net::SocketAddr;
 
 // Hands a packet that the other side gave out to an association. A packet that finds no memory to be read is lost. A

@@ -19,9 +19,10 @@ use crate::delivery::deliver;
 use crate::{Reply, Side2, Step};
 use bytes::Bytes;
 use sctp_assoc::{
-    Association, AssociationId, ChunkInit, Error, Instant, ServerConfig, TransportConfig, calls,
+    Association, AssociationId, ChunkInit, Error, Instant, ServerConfig, TransportConfig,
 };
 use sctp_boundaries::boundaries_are_kept;
+use sctp_calls::calls;
 use std::alloc::Global;
 use std::marker::Model;
 use std::net::SocketAddr;

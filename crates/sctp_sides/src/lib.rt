@@ -329,7 +329,7 @@ pub fn at_most_one_loss()
     ensures told { LossesAreToldOnce }
 {}
 
-/// Runs: from a past on which the association stands, the calls of a run, by the contract of `Association::run`, are a
+/// Runs: from a past on which the association stands, the calls of a run, by the contract of `sctp_calls::run`, are a
 /// list of calls of one side, and the events that their replies tell are those that it tells. So a run of an association
 /// as a constructor leaves it tells of at most one loss, and where it was lost it is closed at the end and waits for no
 /// moment; and a run that begins with no stream tells last counters at most once. Where the association has not failed

@@ -20,6 +20,7 @@ use std::net::{IpAddr, SocketAddr};
 /// delivered: of all pieces of one message on that stream. Where it is as a constructor leaves it, no write is accepted
 /// once its loss was told.
 pub fn run_and_read(
+    alloc: Global,
     association: &mut Association,
     calls: &[Call],
     packets: &mut Vec<Bytes>,
@@ -31,7 +32,7 @@ pub fn run_and_read(
     ensures ended { IfOk result (λ replies. (h : History) → StandsOn association.old h → IsFresh association.old
         → NothingIsAcceptedBehindALoss replies.items) }
 {
-    association.run(calls, packets)
+    sctp_calls::run(alloc, association, calls, packets)
 }
 
 /// Makes a client or a server, and carries out calls on it.
@@ -65,7 +66,7 @@ pub fn run_new(
         now,
     )?;
     let mut packets = Vec::new(alloc);
-    run_and_read(&mut association, calls, &mut packets)
+    run_and_read(alloc, &mut association, calls, &mut packets)
 }
 
 /// Makes an association by tokens, and carries out calls on it.
@@ -93,5 +94,5 @@ pub fn run_joined(
         remote_init,
     )?;
     let mut packets = Vec::new(alloc);
-    run_and_read(&mut association, calls, &mut packets)
+    run_and_read(alloc, &mut association, calls, &mut packets)
 }

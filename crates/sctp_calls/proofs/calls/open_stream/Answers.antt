@@ -1,6 +1,6 @@
 use Rattle.sctp_assoc.specs.Calls.{open_refusal}
-use Rattle.sctp_assoc.proofs.RefusalNumbers.{number_reported}
-use Rattle.sctp_assoc.proofs.calls.open_stream.Goals as goal
+use Rattle.sctp_calls.proofs.RefusalNumbers.{number_reported}
+use Rattle.sctp_calls.proofs.calls.open_stream.Goals as goal
 
 pub returns-in-Err : goal.returns-in-Err
 returns-in-Err c = (

@@ -14,11 +14,11 @@ ghost use Rattle.sctp_assoc.specs.declared.call.Reply.TheVariants as replies;
 ghost use Rattle.sctp_streams.specs.declared.setting.Setting.TheVariants as settings;
 ghost use Rattle.sctp_streams.specs.Stream.{is_read_half_open, params_of};
 
-use crate::{
+use bytes::Bytes;
+use sctp_assoc::{
     Association, AssociationEvent, Error, Instant, PartialDecode, Payload,
     PayloadProtocolIdentifier, ReliabilityType, Reply, StreamId, Transmit,
 };
-use bytes::Bytes;
 use std::alloc::AllocError;
 use std::net::SocketAddr;
 

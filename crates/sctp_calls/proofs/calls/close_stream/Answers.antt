@@ -3,8 +3,9 @@ use Rattle.sctp_streams.specs.declared.setting.Setting.TheVariants as settings
 use Rattle.sctp_assoc.specs.Shown.{Shown}
 use Rattle.sctp_assoc.specs.Calls.{adjusted, stop_refusal, stopped, stream_refusal}
 use Rattle.sctp_assoc.specs.Replies.{refusal_to_stop}
-use Rattle.sctp_assoc.proofs.RefusalNumbers.{unfound_reported}
-use Rattle.sctp_assoc.proofs.calls.close_stream.Goals as goal
+use Rattle.sctp_assoc.specs.Stream.{id_of}
+use Rattle.sctp_calls.proofs.RefusalNumbers.{unfound_reported}
+use Rattle.sctp_calls.proofs.calls.close_stream.Goals as goal
 
 -- both halves closed
 abbrev pub closed : Shown → ℕ → Shown
@@ -15,7 +16,7 @@ returns-in-Ok-close c =
     let unrefused : refusal_to_stop c.args.association.now c.args.id ≡ None = search rules in
     let left : c.close.new.self.association.now ≡ closed c.args.association.now c.args.id =
     c.in-Ok-close.ensures.ok
-    ∙ ap (λ (a : Shown). closed a c.in-Ok.stream.id) c.in-Ok.ensures.ok
+    ∙ ap (λ (a : Shown). closed a (id_of c.in-Ok.stream)) c.in-Ok.ensures.ok
     ∙ ap (λ (id : ℕ). closed c.args.association.now id) c.in-Ok.ensures.id in
     (unrefused, search rules ∙ left)
 

@@ -1,7 +1,7 @@
 use Rattle.std.proofs.Common.{length}
 use Rattle.sctp_assoc.specs.Calls.{refusal_to_write}
-use Rattle.sctp_assoc.proofs.RefusalNumbers.{number_reported}
-use Rattle.sctp_assoc.proofs.calls.write_with_ppi.Goals as goal
+use Rattle.sctp_calls.proofs.RefusalNumbers.{number_reported}
+use Rattle.sctp_calls.proofs.calls.write_with_ppi.Goals as goal
 
 pub returns-in-Err : goal.returns-in-Err
 returns-in-Err c = (

@@ -1,0 +1,3 @@
+mod RefusalNumbers
+pub mod AbstractRuns
+pub mod AbstractSteps
