@@ -96,3 +96,22 @@ fn datagrams(story: &[Happening]) -> String {
     }
     out
 }
+
+#[cfg(test)]
+mod tests {
+    use super::*;
+
+    /// A session that is carried out twice replies the same, and gives out the same datagrams at the same moments.
+    #[test]
+    fn sessions_repeat_their_datagrams() {
+        let folder = Path::new(env!("CARGO_MANIFEST_DIR")).join("../../sessions");
+        let files = fs::read_dir(folder).unwrap().map(|file| file.unwrap().path());
+        let sessions: Vec<_> = files.filter(|path| path.extension().is_some_and(|end| end == "lab")).collect();
+        assert!(!sessions.is_empty());
+        for session in &sessions {
+            let session = session.to_str().unwrap();
+            let [first, second] = [0, 1].map(|_run| datagrams(&story_of(session).unwrap()));
+            assert_eq!(first, second, "{session}");
+        }
+    }
+}
