@@ -154,6 +154,8 @@ static void closed(void) {
     CHECK(event.counters.messages_received == 1 && event.counters.bytes_received == 100);
     CHECK(take_event(&ends[1], SCTP_ASSOC_EVENT_LOST) && event.reason == SCTP_ASSOC_REASON_CLOSED);
     CHECK(done(sctp_assoc_is_closed(&ends[1], &answer)) && answer);
+    CHECK(done(sctp_assoc_is_failed(&ends[1], &answer)) && !answer);
+    CHECK(sctp_assoc_write(&ends[1], 1, 53, bytes, 1) == SCTP_ASSOC_NO_STREAM);
     CHECK(done(sctp_assoc_close(&ends[1])));
     CHECK(!done(sctp_assoc_poll_event(&ends[1], &event)));
 }

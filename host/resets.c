@@ -1,11 +1,11 @@
 /* The reset of a stream (RFC 6525), which a stop or a close asks for: it ends the stream at both sides, which are told,
- * and it can be opened anew. Requests that the peer denies or does not answer, and want of memory. */
+ * and it can be opened and used anew. Requests that the peer denies or does not answer, and want of memory. */
 #include "support.h"
 
 #define STREAM 7
 
 static sctp_assoc ends[2];
-static uint8_t bytes[PAYLOAD_SIZE + 28];
+static uint8_t bytes[PAYLOAD_SIZE + 28], wanted[100];
 static size_t length;
 static uint32_t type;
 static sctp_assoc_event event;
@@ -39,7 +39,7 @@ static bool take_event(int end, uint32_t kind) {
     return false;
 }
 
-/* An end is told once that the stream is over, with its last counters, and has it no more. */
+/* An end is told once that the stream is over, with its last counters before all else, and has it no more. */
 static void is_over(int end, uint64_t messages_sent, uint64_t messages_received) {
     uint16_t ids[1];
     size_t count;
@@ -47,28 +47,62 @@ static void is_over(int end, uint64_t messages_sent, uint64_t messages_received)
     while (done(sctp_assoc_poll_event(&ends[end], &event))) {
         ended += event.kind == SCTP_ASSOC_EVENT_STREAM_ENDED && event.stream == STREAM &&
                  event.counters.messages_sent == messages_sent && event.counters.messages_received == messages_received;
-        finished += event.kind == SCTP_ASSOC_EVENT_FINISHED && event.stream == STREAM;
+        finished += event.kind == SCTP_ASSOC_EVENT_FINISHED && event.stream == STREAM && ended == 1;
         reset += event.kind == SCTP_ASSOC_EVENT_RESET_COMPLETE && event.stream == STREAM && finished == 1;
     }
     CHECK(ended == 1 && finished == 1 && reset == 1);
     CHECK(done(sctp_assoc_stream_ids(&ends[end], ids, 1, &count)) && count == 0);
 }
 
-/* The stream is used both ways, and ends with a message that waits for a longer buffer. */
-static void ended_by(sctp_assoc_code (*call)(sctp_assoc *, uint16_t), sctp_assoc_code refused) {
-    carry(0, 10);
-    CHECK(done(sctp_assoc_read(&ends[1], STREAM, bytes, sizeof bytes, &length, &type)) && length == 10);
+/* A message goes from this end to the other one, which is told and reads it. */
+static void exchange(int from, uint32_t size) {
+    size_t waiting;
+    fill(wanted, size, size);
+    carry(from, size);
+    CHECK(take_event(!from, SCTP_ASSOC_EVENT_READABLE));
+    memset(bytes, 0, size);
+    CHECK(done(sctp_assoc_read(&ends[!from], STREAM, bytes, sizeof bytes, &length, &type)));
+    CHECK(length == size && type == SCTP_ASSOC_PPID_BINARY && memcmp(bytes, wanted, size) == 0);
+    CHECK(!done(sctp_assoc_read(&ends[!from], STREAM, bytes, sizeof bytes, &length, &type)));
+    CHECK(done(sctp_assoc_buffered_amount(&ends[from], STREAM, &waiting)) && waiting == 0);
+}
+
+/* The stream, which the client opened, is used both ways. */
+static void used_both_ways(uint32_t size) {
+    uint16_t accepted;
+    exchange(0, size);
+    CHECK(done(sctp_assoc_accept_stream(&ends[1], &accepted)) && accepted == STREAM);
+    exchange(1, size);
+}
+
+/* A call that ends a stream, and by which code a write is refused after it. */
+static const struct way {
+    sctp_assoc_code (*call)(sctp_assoc *, uint16_t);
+    sctp_assoc_code refused;
+} by_stop = {sctp_assoc_stop, SCTP_ASSOC_RESET_PENDING}, by_close = {sctp_assoc_close_stream, SCTP_ASSOC_STREAM_CLOSED};
+
+/* The stream ends with a message that waits for a longer buffer, and is opened and used anew. */
+static void ended(struct way way) {
     carry(1, 20);
     CHECK(sctp_assoc_read(&ends[0], STREAM, bytes, 19, &length, &type) == SCTP_ASSOC_NO_ROOM && length == 20);
-    CHECK(done(call(&ends[0], STREAM)));
-    CHECK(done(call(&ends[0], STREAM)));
+    CHECK(done(way.call(&ends[0], STREAM)));
+    CHECK(done(way.call(&ends[0], STREAM)));
     CHECK(sctp_assoc_read(&ends[0], STREAM, bytes, sizeof bytes, &length, &type) == SCTP_ASSOC_STREAM_CLOSED);
-    CHECK(sctp_assoc_write(&ends[0], STREAM, SCTP_ASSOC_PPID_BINARY, bytes, 1) == refused);
+    CHECK(sctp_assoc_write(&ends[0], STREAM, SCTP_ASSOC_PPID_BINARY, bytes, 1) == way.refused);
     settle();
-    is_over(0, 1, 1);
-    is_over(1, 1, 1);
+    is_over(0, 1, 2);
+    is_over(1, 2, 1);
     CHECK(sctp_assoc_read(&ends[1], STREAM, bytes, sizeof bytes, &length, &type) == SCTP_ASSOC_NO_STREAM);
     CHECK(done(sctp_assoc_open_stream(&ends[0], STREAM, SCTP_ASSOC_PPID_BINARY)));
+    used_both_ways(20);
+}
+
+static void ended_twice(struct way first, struct way second) {
+    begin();
+    used_both_ways(10);
+    ended(first);
+    ended(second);
+    free_both(ends);
 }
 
 /* What the peer sent before the end can be read, and the end is told after it. */
@@ -139,14 +173,12 @@ static void out_of_memory(void) {
 }
 
 int main(void) {
-    begin();
-    ended_by(sctp_assoc_stop, SCTP_ASSOC_RESET_PENDING);
-    ended_by(sctp_assoc_close_stream, SCTP_ASSOC_STREAM_CLOSED);
-    free_both(ends);
-    read_to_the_end();
-    denied();
-    not_answered();
-    out_of_memory();
+    TRY(ended_twice(by_stop, by_close));
+    TRY(ended_twice(by_close, by_stop));
+    TRY(read_to_the_end());
+    TRY(denied());
+    TRY(not_answered());
+    TRY(out_of_memory());
     puts("resets: ok");
     return 0;
 }

@@ -1,5 +1,6 @@
 /* The graceful end of an association (RFC 4960 section 9.2), which either side asks for, or both at once: messages that
- * were written before it come, and then both are told the end. Datagrams of it that are lost, and want of memory. */
+ * were written before it come, and then both are told the end. Datagrams of it that cross, and that are lost, and want
+ * of memory. */
 #include "support.h"
 
 #define STREAM 7
@@ -72,10 +73,10 @@ static void is_over(int end) {
     CHECK(sctp_assoc_poll_transmit(&ends[end], 10000 * MS, bytes, sizeof bytes, &length) == SCTP_ASSOC_NOTHING);
 }
 
-/* Each end writes a message, and then these ends shut down. */
-static void ended_by(bool client, bool server) {
+/* Each end writes a message or none, and then these ends shut down. */
+static void ended_by(bool client, bool server, unsigned messages) {
     begin();
-    for (int end = 0; end < 2; end++)
+    for (int end = 0; end < 2 && messages; end++)
         CHECK(done(sctp_assoc_write(&ends[end], STREAM, SCTP_ASSOC_PPID_BINARY, message, LENGTH)));
     if (client)
         shut_down(0);
@@ -83,9 +84,30 @@ static void ended_by(bool client, bool server) {
         shut_down(1);
     settle();
     for (int end = 0; end < 2; end++) {
-        CHECK(read_count[end] == 1);
+        CHECK(read_count[end] == messages);
         is_over(end);
     }
+    free_both(ends);
+}
+
+/* Both ends shut down, and each gets the SHUTDOWN of the other one after its own went out. */
+static void crossed(void) {
+    uint8_t datagrams[2][PAYLOAD_SIZE + 28];
+    size_t lengths[2];
+    uint32_t fate;
+    begin();
+    for (int end = 0; end < 2; end++) {
+        shut_down(end);
+        CHECK(done(sctp_assoc_poll_transmit(&ends[end], 0, datagrams[end], sizeof datagrams[end], &lengths[end])));
+        CHECK(datagrams[end][12] == 7);
+    }
+    for (int end = 0; end < 2; end++) {
+        CHECK(done(sctp_assoc_handle_datagram(&ends[end], 0, datagrams[!end], lengths[!end], &fate)));
+        CHECK(fate == SCTP_ASSOC_TAKEN);
+    }
+    settle();
+    is_over(0);
+    is_over(1);
     free_both(ends);
 }
 
@@ -136,13 +158,16 @@ static void out_of_memory(void) {
 }
 
 int main(void) {
-    ended_by(true, false);
-    ended_by(false, true);
-    ended_by(true, true);
-    goes_again(false);
-    goes_again(true);
-    is_not_completed();
-    out_of_memory();
+    for (unsigned messages = 0; messages < 2; messages++) {
+        TRY(ended_by(true, false, messages));
+        TRY(ended_by(false, true, messages));
+        TRY(ended_by(true, true, messages));
+    }
+    TRY(crossed());
+    TRY(goes_again(false));
+    TRY(goes_again(true));
+    TRY(is_not_completed());
+    TRY(out_of_memory());
     puts("shutdown: ok");
     return 0;
 }

@@ -14,11 +14,17 @@
 #define PAYLOAD_SIZE 1172
 #define MS UINT64_C(1000000)
 
+/* The case that is tried, and empty if it has no name. */
+static const char *case_name = "";
+
+/* Carries a case out, whose name is told if it fails. */
+#define TRY(is_tried) (case_name = #is_tried, (is_tried), case_name = "")
+
 /* Ends the program if something that a test states is not so. */
 #define CHECK(is_so) ((is_so) ? (void)0 : failed(__FILE__, __LINE__, #is_so))
 
 static void failed(const char *file, int line, const char *stated) {
-    fprintf(stderr, "%s:%d: not so: %s\n", file, line, stated);
+    fprintf(stderr, "%s:%d: %s%snot so: %s\n", file, line, case_name, *case_name ? ": " : "", stated);
     exit(1);
 }
 

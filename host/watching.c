@@ -100,18 +100,24 @@ static void is_counted(void) {
     }
 }
 
-/* INIT, INIT ACK, COOKIE ECHO and COOKIE ACK; then a message of 100 bytes in a datagram of 128, and its SACK of 28. */
+/* INIT of 40 bytes and COOKIE ECHO of 48, against INIT ACK of 76, with a State Cookie of 32, and COOKIE ACK of 16; a
+ * message of 100 bytes in a datagram of 128, and its SACK of 28; and one of 3,000 bytes in three datagrams. */
 static void counts(void) {
     begin();
     is_counted();
     CHECK(watches[0].datagrams_sent == 2 && watches[1].datagrams_sent == 2);
-    uint64_t before[2] = {watches[0].bytes_sent, watches[1].bytes_sent};
+    CHECK(watches[0].bytes_sent == 40 + 48 && watches[1].bytes_sent == 76 + 16);
     write_bytes(100);
     carry();
     wait(300);
     is_counted();
-    CHECK(watches[0].datagrams_sent == 3 && watches[0].bytes_sent == before[0] + 128);
-    CHECK(watches[1].datagrams_sent == 3 && watches[1].bytes_sent == before[1] + 28);
+    CHECK(watches[0].datagrams_sent == 3 && watches[0].bytes_sent == 88 + 128);
+    CHECK(watches[1].datagrams_sent == 3 && watches[1].bytes_sent == 92 + 28);
+    write_bytes(3000);
+    carry();
+    wait(300);
+    is_counted();
+    CHECK(watches[0].datagrams_sent == 6 && watches[0].bytes_sent == 216 + 3 * 28 + 3000);
     free_both(ends);
 }
 
@@ -150,7 +156,8 @@ static void ended(int end, uint32_t kind) {
     CHECK(is_drained(end) && watches[end].end == kind);
     CHECK(done(sctp_assoc_watched_close(&ends[end], &watches[end])));
     CHECK(done(sctp_assoc_watched_abort(&ends[end], &watches[end], NULL, 0)));
-    CHECK(is_told(end, SCTP_ASSOC_EVENT_LOST) && watches[end].end == kind);
+    CHECK(is_told(end, SCTP_ASSOC_EVENT_LOST) && event.reason == SCTP_ASSOC_REASON_CLOSED);
+    CHECK(watches[end].end == kind);
     CHECK(kind == SCTP_ASSOC_END_ABORT_CAME || (watches[end].cause == 0 && watches[end].reason_length == 0));
 }
 
@@ -163,10 +170,12 @@ static void by_close(void) {
     free_both(ends);
 }
 
-static void by_shutdown(void) {
+/* One end shuts down, with a message under way or without. */
+static void by_shutdown(int end, size_t written) {
     begin();
-    write_bytes(100);
-    CHECK(done(sctp_assoc_shutdown(&ends[1])));
+    if (written)
+        write_bytes(written);
+    CHECK(done(sctp_assoc_shutdown(&ends[end])));
     carry();
     wait(1000);
     ended(0, SCTP_ASSOC_END_SHUT_DOWN);
@@ -190,42 +199,59 @@ static void by_abort(size_t reason_length) {
     free_both(ends);
 }
 
-/* The server gets a packet with these chunks behind a DATA chunk of the client, or in its place. */
-static void gets(const uint8_t *chunks, size_t size, bool behind_data) {
+/* Chunks that the server gets under this tag, behind a DATA chunk of the client or in its place, and the end that they
+ * bring, with the cause and the reason that are noted. */
+static const struct fault {
+    const char *name;
+    uint8_t tag;
+    bool behind_data;
+    uint8_t size, chunks[28];
+    uint32_t end;
+    uint16_t cause;
+    const char *reason;
+} faults[] = {
+    {"ABORT without a cause", 2, false, 4, {6, 0, 0, 4}, SCTP_ASSOC_END_ABORT_CAME, 0, ""},
+    {"ABORT under the peer's tag, with its T bit set", 1, false, 4, {6, 1, 0, 4}, SCTP_ASSOC_END_ABORT_CAME, 0, ""},
+    {"ABORT with two causes behind DATA", 2, true, 20,
+     {6, 0, 0, 20, 0, 13, 0, 8, 'l', 'a', 't', 'e', 0, 12, 0, 8, 'd', 'o', 'n', 'e'},
+     SCTP_ASSOC_END_ABORT_CAME, 13, "late"},
+    {"ABORT with two causes, the first one without a value", 2, false, 16,
+     {6, 0, 0, 14, 0, 6, 0, 4, 0, 12, 0, 6, 'n', 'o', 0, 0}, SCTP_ASSOC_END_ABORT_CAME, 6, ""},
+    {"two ABORTs behind COOKIE ACK", 2, false, 28,
+     {11, 0, 0, 4, 6, 0, 0, 10, 0, 12, 0, 6, 'n', 'o', 0, 0, 6, 0, 0, 10, 0, 12, 0, 6, 'h', 'o', 0, 0},
+     SCTP_ASSOC_END_ABORT_CAME, 12, "no"},
+    {"ERROR without a cause", 2, false, 4, {9, 0, 0, 4}, SCTP_ASSOC_END_FAULT, 0, ""},
+    {"ERROR with the cause Invalid Stream Identifier", 2, false, 12, {9, 0, 0, 12, 0, 1, 0, 8, 0, 1, 0, 0},
+     SCTP_ASSOC_END_FAULT, 0, ""},
+};
+
+static void by_fault(const struct fault *fault) {
     begin();
     write_bytes(4);
     CHECK(sends(0) && length == 32);
-    length = behind_data ? length : 12;
-    memcpy(bytes + length, chunks, size);
-    length += size;
+    length = fault->behind_data ? length : 12;
+    bytes[7] = fault->tag;
+    memcpy(bytes + length, fault->chunks, fault->size);
+    length += fault->size;
     seal(bytes, length);
     receives(1);
     CHECK(fate == SCTP_ASSOC_TAKEN);
-}
-
-/* ABORTs without a cause, behind another chunk, and with two causes, of which the first counts. */
-static void by_abort_of_peer(void) {
-    const uint8_t bare[] = {6, 0, 0, 4};
-    const uint8_t two_causes[] = {6, 0, 0, 20, 0, 13, 0, 8, 'l', 'a', 't', 'e', 0, 12, 0, 8, 'd', 'o', 'n', 'e'};
-    gets(bare, sizeof bare, false);
-    ended(1, SCTP_ASSOC_END_ABORT_CAME);
-    CHECK(watches[1].cause == 0 && watches[1].reason_length == 0);
-    free_both(ends);
-    gets(two_causes, sizeof two_causes, true);
-    ended(1, SCTP_ASSOC_END_ABORT_CAME);
-    CHECK(watches[1].cause == 13 && watches[1].reason_length == 4 && memcmp(watches[1].reason, "late", 4) == 0);
+    ended(1, fault->end);
+    CHECK(watches[1].cause == fault->cause && watches[1].reason_length == strlen(fault->reason));
+    CHECK(memcmp(watches[1].reason, fault->reason, watches[1].reason_length) == 0);
     free_both(ends);
 }
 
-/* An ERROR with the cause Invalid Stream Identifier. */
-static void by_fault(void) {
-    const uint8_t error[] = {9, 0, 0, 12, 0, 1, 0, 8, 0, 1, 0, 0};
-    gets(error, sizeof error, false);
-    ended(1, SCTP_ASSOC_END_FAULT);
-    free_both(ends);
+/* What the peer sends that ends the association: of ABORTs and their causes the first counts. */
+static void by_faults(void) {
+    for (size_t i = 0; i < sizeof faults / sizeof *faults; i++) {
+        case_name = faults[i].name;
+        by_fault(&faults[i]);
+    }
 }
 
-/* A message that doesn't fit into the receive buffer can never be read. The event tells it. */
+/* A message that doesn't fit into the receive buffer can never be read. The event tells it, and the peer gets an ABORT
+ * with the cause Out of Resource, which has no value (RFC 4960 section 3.3.10.4). */
 static void by_exhaustion(void) {
     config.max_receive_buffer_size = 1500;
     begin();
@@ -236,6 +262,9 @@ static void by_exhaustion(void) {
     }
     CHECK(is_told(1, SCTP_ASSOC_EVENT_LOST) && event.reason == SCTP_ASSOC_REASON_BUFFER_EXHAUSTED);
     CHECK(watches[1].end == SCTP_ASSOC_END_BUFFER_EXHAUSTED && watches[1].reason_length == 0);
+    carry();
+    ended(0, SCTP_ASSOC_END_ABORT_CAME);
+    CHECK(watches[0].cause == 4 && watches[0].reason_length == 0);
     free_both(ends);
     config = default_config();
 }
@@ -295,6 +324,7 @@ static void refused_abort(void) {
     sctp_assoc_identity client = identity(1);
     CHECK(done(sctp_assoc_client(&ends[0], &config, PAYLOAD_SIZE, &client, 0)));
     CHECK(done(sctp_assoc_abort(&ends[0], NULL, 0)) && is_drained(0) && !sends(0));
+    CHECK(done(sctp_assoc_abort(&ends[0], NULL, 0)) && !sends(0));
     CHECK(sctp_assoc_watched_handle_datagram(&ends[0], &watches[0], 0, NULL, 0, &fate) == SCTP_ASSOC_DONE);
     CHECK(fate == SCTP_ASSOC_NO_PACKET);
     CHECK(sctp_assoc_free(&ends[0]) == SCTP_ASSOC_DONE);
@@ -322,20 +352,21 @@ static void failed_end(void) {
 
 int main(void) {
     config = default_config();
-    counts();
-    counts_no_other();
-    by_close();
-    by_shutdown();
-    by_abort(3);
-    by_abort(0);
-    by_abort(300);
-    by_abort_of_peer();
-    by_fault();
-    by_exhaustion();
-    tells_path();
-    empty_slot();
-    refused_abort();
-    failed_end();
+    TRY(counts());
+    TRY(counts_no_other());
+    TRY(by_close());
+    TRY(by_shutdown(0, 0));
+    TRY(by_shutdown(1, 0));
+    TRY(by_shutdown(1, 100));
+    TRY(by_abort(3));
+    TRY(by_abort(0));
+    TRY(by_abort(300));
+    TRY(by_faults());
+    TRY(by_exhaustion());
+    TRY(tells_path());
+    TRY(empty_slot());
+    TRY(refused_abort());
+    TRY(failed_end());
     puts("watching: ok");
     return 0;
 }
