@@ -1,35 +1,6 @@
 /* The calls of data channels, each code and each event of theirs at least once, between two ends in memory: channels of
  * every type, text, binary and empty messages, labels, thresholds, and how channels end. */
-#include "support.h"
-
-#include "sctp_channels.h"
-
-static sctp_assoc ends[2];
-static sctp_channels sides[2];
-static uint64_t now;
-static uint8_t bytes[70000];
-static size_t length;
-static bool text;
-static uint16_t id;
-
-/* The events that each side told since a test looked, and how many. */
-static sctp_channels_event told[2][64];
-static size_t count[2];
-
-static bool was_told(int side, uint32_t kind, uint16_t channel) {
-    for (size_t k = 0; k < count[side]; k++)
-        if (told[side][k].kind == kind && told[side][k].id == channel)
-            return true;
-    return false;
-}
-
-static void poll_events(int side) {
-    sctp_channels_event event;
-    while (done(sctp_channels_poll_event(&sides[side], &ends[side], &event))) {
-        CHECK(count[side] < 64);
-        told[side][count[side]++] = event;
-    }
-}
+#include "sides.h"
 
 /* What both sides have to tell and to send, to and fro, with the time that delayed acknowledgements take. */
 static void exchange(void) {
@@ -43,44 +14,6 @@ static void exchange(void) {
         }
         now += 250 * MS;
     }
-}
-
-static void begin_sides(void) {
-    CHECK(done(sctp_channels_begin(&sides[0], SCTP_CHANNELS_CLIENT)));
-    CHECK(done(sctp_channels_begin(&sides[1], SCTP_CHANNELS_SERVER)));
-}
-
-static void free_sides(void) {
-    for (int side = 0; side < 2; side++)
-        CHECK(sctp_channels_free(&sides[side]) == SCTP_ASSOC_DONE);
-    free_both(ends);
-}
-
-/* Two ends that tokens join, with the channels of each. */
-static void join(void) {
-    sctp_assoc_config config = default_config();
-    sctp_assoc_token tokens[2];
-    now = 0;
-    for (int side = 0; side < 2; side++)
-        CHECK(done(sctp_assoc_make_token(&config, (uint32_t)side + 1, 100, &tokens[side])));
-    for (int side = 0; side < 2; side++)
-        CHECK(done(sctp_assoc_joined(&ends[side], &config, PAYLOAD_SIZE, &tokens[side], &tokens[!side])));
-    begin_sides();
-}
-
-static sctp_assoc_code open_as(int side, sctp_channels_options options, const char *label, const char *protocol) {
-    return sctp_channels_open(&sides[side], &ends[side], &options, (const uint8_t *)label, strlen(label),
-                              (const uint8_t *)protocol, strlen(protocol), &id);
-}
-
-static const sctp_channels_options reliable = SCTP_CHANNELS_ORDERED_RELIABLE;
-
-static sctp_assoc_code send_on(int side, uint16_t channel, bool is_text, const char *message) {
-    return sctp_channels_send(&sides[side], &ends[side], channel, is_text, (const uint8_t *)message, strlen(message));
-}
-
-static sctp_assoc_code receive_on(int side, uint16_t channel, size_t room) {
-    return sctp_channels_receive(&sides[side], &ends[side], channel, bytes, room, &length, &text);
 }
 
 /* One message goes from a side to the other, as it is. */
@@ -167,21 +100,6 @@ static void refused_open(void) {
     free_sides();
 }
 
-/* What a side is told of a channel. */
-static void check_info(int side, uint16_t channel, sctp_channels_options options, const char *label,
-                       const char *protocol) {
-    sctp_channels_info info;
-    CHECK(done(sctp_channels_get_info(&sides[side], channel, &info)));
-    CHECK(info.reliability == options.reliability && info.value == options.value);
-    CHECK(info.priority == options.priority && info.unordered == options.unordered);
-    CHECK(info.negotiated == options.negotiated && info.state == SCTP_CHANNELS_STATE_OPEN);
-    CHECK(info.label_length == strlen(label) && info.protocol_length == strlen(protocol));
-    CHECK(done(sctp_channels_label(&sides[side], channel, bytes, sizeof bytes, &length)));
-    CHECK(length == strlen(label) && !memcmp(bytes, label, length));
-    CHECK(done(sctp_channels_protocol(&sides[side], channel, bytes, sizeof bytes, &length)));
-    CHECK(length == strlen(protocol) && !memcmp(bytes, protocol, length));
-}
-
 /* A channel of each type, opened by either side: the peer is told the same of it, and messages go both ways. */
 static void each_type(void) {
     join();
@@ -218,12 +136,7 @@ static void each_type(void) {
 /* A channel that both sides agreed on in another way, opened before the handshake. */
 static void negotiated(void) {
     sctp_channels_options agreed = {.reliability = SCTP_ASSOC_REXMIT, .value = 2, .id = 700, .negotiated = true};
-    sctp_assoc_config config = default_config();
-    sctp_assoc_identity client = identity(1), server = identity(2);
-    now = 0;
-    CHECK(done(sctp_assoc_client(&ends[0], &config, PAYLOAD_SIZE, &client, now)));
-    CHECK(done(sctp_assoc_server(&ends[1], &config, PAYLOAD_SIZE, &server, now)));
-    begin_sides();
+    meet();
     for (int side = 0; side < 2; side++)
         CHECK(done(open_as(side, agreed, "agreed", "")) && id == 700);
     CHECK(send_on(0, 700, true, "early") == SCTP_CHANNELS_NOT_OPEN);
@@ -364,17 +277,17 @@ static void refused_memory(void) {
 }
 
 int main(void) {
-    empty_slots();
-    no_channel();
-    refused_open();
-    each_type();
-    negotiated();
-    no_room();
-    buffered();
-    closed();
-    failed_and_lost();
-    handshake_failed();
-    refused_memory();
+    TRY(empty_slots());
+    TRY(no_channel());
+    TRY(refused_open());
+    TRY(each_type());
+    TRY(negotiated());
+    TRY(no_room());
+    TRY(buffered());
+    TRY(closed());
+    TRY(failed_and_lost());
+    TRY(handshake_failed());
+    TRY(refused_memory());
     puts("channels: ok");
     return 0;
 }
