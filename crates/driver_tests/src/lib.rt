@@ -1,13 +1,8 @@
-//! Tests of two drivers that are joined in one process: what one gives out is handed to the other.
+//! Tests of what C does not show beside a driver: a watch and an observer of datagrams, which C has in code of its own,
+//! and what names a channel's limits and a refused OPEN. What C shows is tested in `host/`.
 #![tactic(auto)]
 
 #[cfg(test)]
-mod aborts;
+mod channels;
 #[cfg(test)]
-mod datagrams;
-#[cfg(test)]
-mod endings;
-#[cfg(test)]
-mod link;
-#[cfg(test)]
-mod messages;
+mod watches;
