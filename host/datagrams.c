@@ -69,7 +69,7 @@ static void is_quiet(void) {
 
 static void leaves(void) {
     for (size_t i = 0; i < sizeof left / sizeof *left; i++) {
-        case_name = left[i].name;
+        tried = left[i].name;
         CHECK(fate_of(left[i].datagram) == left[i].fate);
         is_quiet();
     }
@@ -78,7 +78,7 @@ static void leaves(void) {
 /* A HEARTBEAT under the own tag is answered, and an ABORT under the peer's tag closes. */
 static void takes(void) {
     uint8_t answer[100];
-    case_name = "datagrams under a tag that is accepted";
+    tried = "datagrams under a tag that is accepted";
     CHECK(fate_of(heartbeat) == SCTP_ASSOC_TAKEN);
     CHECK(sends(1) && length == spell(heartbeat_ack, answer) && memcmp(bytes, answer, length) == 0);
     is_quiet();

@@ -204,7 +204,7 @@ static void writes_open(void) {
         const struct open *open = &opens[k];
         uint8_t message[] = {3, open->type, 1, 0, 0, 0, 0, 0, 0, 4, 0, 1, 'c', 'h', 'a', 't', 'p'};
         char opened[100];
-        case_name = open->name;
+        tried = open->name;
         message[6] = (uint8_t)(open->parameter >> 8), message[7] = (uint8_t)open->parameter;
         CHECK(done(open_as(0, open->options, "chat", "p")) && id == 2 * k);
         tells(0, "");
@@ -257,7 +257,7 @@ static void no_open(void) {
         uint16_t stream = (uint16_t)(4 + 2 * k), ids[1];
         size_t streams;
         char failure[100];
-        case_name = others[k].name;
+        tried = others[k].name;
         CHECK(done(sctp_assoc_open_stream(&ends[1], stream, SCTP_ASSOC_PPID_BINARY)));
         writes(stream, others[k].type, others[k].message, others[k].size);
         snprintf(failure, sizeof failure, "failed %u", stream);

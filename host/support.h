@@ -14,17 +14,17 @@
 #define PAYLOAD_SIZE 1172
 #define MS UINT64_C(1000000)
 
-/* The case that is tried, and empty if it has no name. */
-static const char *case_name = "";
+/* The case that is tried, if a test has several. */
+static const char *tried = "";
 
 /* Carries a case out, whose name is told if it fails. */
-#define TRY(is_tried) (case_name = #is_tried, (is_tried), case_name = "")
+#define TRY(is_tried) (tried = #is_tried, (is_tried), tried = "")
 
 /* Ends the program if something that a test states is not so. */
-#define CHECK(is_so) ((is_so) ? (void)0 : failed(__FILE__, __LINE__, #is_so))
+#define CHECK(is_so) ((is_so) ? (void)0 : failed(__FILE__, __LINE__, __func__, #is_so))
 
-static void failed(const char *file, int line, const char *stated) {
-    fprintf(stderr, "%s:%d: %s%snot so: %s\n", file, line, case_name, *case_name ? ": " : "", stated);
+static void failed(const char *file, int line, const char *name, const char *stated) {
+    fprintf(stderr, "%s:%d: %s: not so: %s%s%s\n", file, line, name, stated, *tried ? ", of " : "", tried);
     exit(1);
 }
 

@@ -245,7 +245,7 @@ static void by_fault(const struct fault *fault) {
 /* What the peer sends that ends the association: of ABORTs and their causes the first counts. */
 static void by_faults(void) {
     for (size_t i = 0; i < sizeof faults / sizeof *faults; i++) {
-        case_name = faults[i].name;
+        tried = faults[i].name;
         by_fault(&faults[i]);
     }
 }
