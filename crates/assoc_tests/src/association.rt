@@ -1,65 +1,156 @@
-// A joined association by itself.
-use crate::scene::{Beginning, JOINED, Scene, shown};
-use sctp_assoc::{AssociationState, Error};
+// An association that goes through steps. One function owns it, as each way out of such a one proves how it is dropped.
+use crate::rows::hex_of;
+use bytes::Bytes;
+use sctp_assoc::{
+    Association, AssociationError, AssociationEvent, Error, Event, Instant, PartialDecode, Payload,
+    PayloadProtocolIdentifier, ServerConfig, Transmit, TransportConfig, token,
+};
 use std::alloc::Global;
+use std::net::{IpAddr, Ipv4Addr, SocketAddr};
 use std::test::Fail;
-use std::time::Duration;
 
-fn sizes(alloc: Global, max_payload_size: u32) -> Result<(u32, u32), Error> {
-    let beginning = Beginning::Joined {
-        max_payload_size,
-        tags: (1, 2),
-    };
-    let shown = shown(alloc, beginning, Scene::Rests)?;
-    Ok(shown.measures.0)
+// An address of the documentation range.
+fn address() -> SocketAddr {
+    SocketAddr::new(IpAddr::V4(Ipv4Addr::new(192, 0, 2, 2)), 5000)
 }
 
-#[test]
-fn sizes_follow_the_payload_size(rt: HostRuntime) -> Result<(), Fail> {
-    for (payload, expected) in [
-        (1, (29, 116)),
-        (1200, (1228, 4380)),
-        (65_519, (65_547, 131_094)),
-    ] {
-        assert_eq!(rt; sizes(rt.alloc(), payload)?, expected);
+// A server where there is a `server_config`, else a client.
+fn created(alloc: Global, server_config: Option<&ServerConfig>) -> Result<Association, Error> {
+    let config = TransportConfig::default();
+    let start = Instant::from_millis(0);
+    Association::new(
+        alloc,
+        server_config,
+        &config,
+        1200,
+        2,
+        100,
+        [67; 32],
+        address(),
+        None,
+        start,
+    )
+}
+
+fn joined(alloc: Global) -> Result<Association, Error> {
+    let config = TransportConfig::default();
+    let local = token(alloc, &config, 2, 100)?;
+    let remote = token(alloc, &config, 1, 500)?;
+    Association::new_with_out_of_band_init(alloc, &config, 1200, address(), None, &local, &remote)
+}
+
+// An association under the tag 2 and with the first TSN 100.
+fn begun(alloc: Global, kind: &str) -> Result<Association, Error> {
+    match kind {
+        "joined" => joined(alloc),
+        "client" => created(alloc, None),
+        _ => created(alloc, Some(&ServerConfig::default())),
+    }
+}
+
+/// What an association of this kind shows behind these steps.
+pub(crate) fn shown(alloc: Global, kind: &str, steps: &str) -> Result<String, Fail> {
+    match begun(alloc, kind) {
+        Ok(mut association) => shown_behind(alloc, &mut association, steps),
+        Err(error) => Err(Fail::from(error)),
+    }
+}
+
+fn shown_behind(alloc: Global, association: &mut Association, steps: &str) -> Result<String, Fail> {
+    let mut text = String::new(alloc);
+    for step in steps.split_whitespace() {
+        take(alloc, association, step, &mut text)?;
+    }
+    push_events(association, &mut text)?;
+    push_answers(alloc, association, &mut text)?;
+    Ok(text)
+}
+
+// The application calls or asks, its moment comes, or a datagram does.
+fn take(
+    alloc: Global,
+    association: &mut Association,
+    step: &str,
+    text: &mut String,
+) -> Result<(), Fail> {
+    match step {
+        "state" => return push_state(alloc, association, text),
+        "late" => return Ok(association.handle_timeout(Instant::from_millis(3000))?),
+        "write" => write(association)?,
+        "shutdown" => association.shutdown()?,
+        name => hand_over(
+            association,
+            &Bytes::from_vec(hex::decode(alloc, hex_of(name)?)?)?,
+        )?,
+    }
+    push_sent(association, text)?;
+    push_events(association, text)
+}
+
+// A message on stream 7.
+fn write(association: &mut Association) -> Result<(), Error> {
+    let mut stream = association.open_stream(7, PayloadProtocolIdentifier::Binary)?;
+    let _ = stream.write(b"abc")?;
+    Ok(())
+}
+
+fn hand_over(association: &mut Association, datagram: &Bytes) -> Result<(), Error> {
+    let packet = PartialDecode::unmarshal(datagram)?;
+    association.handle_event(AssociationEvent::datagram(Transmit {
+        now: Instant::from_millis(0),
+        remote: address(),
+        payload: Payload::PartialDecode(packet),
+        ecn: None,
+        local_ip: None,
+    }))
+}
+
+fn push_sent(association: &mut Association, text: &mut String) -> Result<(), Fail> {
+    match association.poll_transmit(Instant::from_millis(0)) {
+        Ok(sent) => Ok(text.push_str(if sent.is_some() { "sends " } else { "" })?),
+        Err(error) => Err(Fail::from(error)),
+    }
+}
+
+fn push_events(association: &mut Association, text: &mut String) -> Result<(), Fail> {
+    for _ in 0..100_u8 {
+        match association.poll()? {
+            Some(event) => text.push_str(name_of(&event))?,
+            None => break,
+        }
     }
     Ok(())
 }
 
-fn is_refused(alloc: Global, tags: (u32, u32)) -> bool {
-    let beginning = Beginning::Joined {
-        max_payload_size: 1200,
-        tags,
-    };
-    matches!(
-        shown(alloc, beginning, Scene::Rests),
-        Err(Error::ErrBadToken)
-    )
+fn name_of(event: &Event) -> &'static str {
+    match event {
+        Event::Connected => "connected ",
+        Event::AssociationLost {
+            reason: AssociationError::AssociationClosed,
+        } => "lost ",
+        Event::DataChannelStatsFinal(_) => "ended ",
+        _ => "told ",
+    }
 }
 
-#[test]
-fn a_token_with_tag_0_is_refused(rt: HostRuntime) -> Result<(), Fail> {
-    assert!(rt; is_refused(rt.alloc(), (0, 2)) && is_refused(rt.alloc(), (1, 0)));
-    Ok(())
+fn push_state(alloc: Global, association: &Association, text: &mut String) -> Result<(), Fail> {
+    let state = association.state();
+    Ok(text.push_str(format!(in alloc; "{state} ")?.as_str())?)
 }
 
-#[test]
-fn a_joined_association_is_connected(rt: HostRuntime) -> Result<(), Fail> {
-    let shown = shown(rt.alloc(), JOINED, Scene::IsTold)?;
-    assert_eq!(rt; shown.standing, (AssociationState::Established, 0));
-    assert_eq!(rt; shown.numbers, (1_048_576, 499, 2, (65_535, 65_535), true));
-    let round_trip = Duration::from_millis(3000);
-    assert_eq!(rt;
-        shown.measures,
-        ((1228, 4380), 1_048_576, round_trip, false)
-    );
-    assert!(rt; shown.told.is_so);
-    Ok(())
-}
-
-#[test]
-fn data_that_is_lost_is_marked(rt: HostRuntime) -> Result<(), Fail> {
-    let shown = shown(rt.alloc(), JOINED, Scene::IsMarked)?;
-    assert!(rt; shown.told.is_so);
+fn push_answers(alloc: Global, association: &Association, text: &mut String) -> Result<(), Fail> {
+    if association.poll_timeout().is_some() {
+        text.push_str("timer ")?;
+    }
+    push_state(alloc, association, text)?;
+    let tsn = association.peer_last_tsn();
+    let (inbound, outbound) = association.stream_counts();
+    text.push_str(format!(in alloc; "{tsn} {inbound} {outbound}")?.as_str())?;
+    if association.uses_forward_tsn() {
+        text.push_str(" forwards")?;
+    }
+    if association.is_marked(100) {
+        text.push_str(" marked")?;
+    }
     Ok(())
 }

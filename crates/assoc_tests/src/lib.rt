@@ -1,22 +1,8 @@
-//! Tests of one association: what it answers at first, its handshake packet by packet, and SACKs, FORWARD TSNs and
-//! requests to reset streams that come.
+//! What one association answers that no session, no driver and no call for C shows: questions that these never ask, and
+//! packets that a driver does not hand on. `host/` has the other tests of one association.
 #![tactic(auto)]
 
 #[cfg(test)]
 mod association;
 #[cfg(test)]
-mod forwards;
-#[cfg(test)]
-mod handshake;
-#[cfg(test)]
-mod payloads;
-#[cfg(test)]
-mod resets;
-#[cfg(test)]
-mod sacks;
-#[cfg(test)]
-mod scene;
-#[cfg(test)]
-mod scenes;
-#[cfg(test)]
-mod wire;
+mod rows;
