@@ -1,22 +1,7 @@
-//! Tests of what no clause of the association's crates says: values from outside of the proofs, and that each call
-//! succeeds where memory is ample.
+//! Tests of what no clause of the association's crates says, no C test and no session: what queues, states and errors
+//! print; and that timers have codes in their order.
 #![tactic(auto)]
 
 #[cfg(test)]
-mod gap_acks;
-#[cfg(test)]
-mod inbound;
-#[cfg(test)]
-mod outbound;
-#[cfg(test)]
-mod outbound_queue;
-#[cfg(test)]
 mod printed;
-#[cfg(test)]
-mod queues;
-#[cfg(test)]
-mod received;
-#[cfg(test)]
-mod searches;
-#[cfg(test)]
 mod timers;

@@ -1,157 +1,123 @@
-// The text by hand of what keeps more than it prints is the one that a derived `Debug` gives of the fields that stand
-// in it.
-use crate::outbound_queue::message;
+// What keeps more than it prints prints the fields that stand in it, as a derived `Debug` does.
 use bytes::Bytes;
-use sctp_outbound_queue::{InFlight, OutboundQueue, PendingMessage};
+use sctp_outbound_queue::{Attributes, OutboundQueue, PendingMessage};
+use sctp_parts::state::{AckMode, AckState};
 use sctp_received::ReceiveQueue;
-use sctp_wire_types::{Instant, Policy};
+use sctp_streams::AssociationError;
+use sctp_wire_types::{Error, Instant, PayloadProtocolIdentifier, Policy};
 use std::alloc::{AllocError, Global};
-use std::collections::{BTreeSet, VecDeque};
+use std::collections::VecDeque;
 use std::test::Fail;
 
-mod derived {
-    use sctp_outbound_queue::{InFlight, PendingMessage};
-    use sctp_wire_types::Instant;
-    use std::collections::{BTreeSet, VecDeque};
-
-    #[derive(Debug, Drop)]
-    pub struct ReceiveQueue {
-        pub tsns: BTreeSet<u32>,
-    }
-
-    #[derive(Debug, Drop)]
-    pub struct OutboundQueue {
-        pub pending: VecDeque<PendingMessage>,
-        pub in_flight: VecDeque<InFlight>,
-        pub first_tsn: u32,
-        pub next_message_id: u64,
-        pub pending_bytes: u64,
-        pub outstanding_bytes: u64,
-        pub marked: usize,
-        pub settled: usize,
-        pub all_run: bool,
-        pub next_deadline: Option<Instant>,
-    }
-}
-
-/// The message of two pieces, with a lifetime of so many ms.
+// An ordered message of two pieces on stream 1, with a lifetime of so many ms.
 fn timed(alloc: Global, lifetime: u32) -> Result<PendingMessage, AllocError> {
-    let mut timed = message(alloc)?;
-    timed.message.policy = Policy::Timed(lifetime);
-    Ok(timed)
-}
-
-/// The second piece of one that lives 50 ms, as it waits once the first one was sent and its time runs from 7 ms on.
-fn rest(alloc: Global) -> Result<PendingMessage, AllocError> {
-    let mut rest = timed(alloc, 50)?;
-    rest.message.deadline = Some(Instant::from_millis(57));
-    rest.begun = true;
-    rest.user_data = Bytes::from_static(b"cd");
-    rest.rest = VecDeque::new(alloc);
-    Ok(rest)
-}
-
-/// The message that was written behind it and lives 30 ms, of which the time does not run yet.
-fn behind(alloc: Global) -> Result<PendingMessage, AllocError> {
-    let mut behind = timed(alloc, 30)?;
-    behind.message.message_id = 1;
-    Ok(behind)
-}
-
-/// Its first piece, sent at 5 ms.
-fn first(alloc: Global) -> Result<InFlight, AllocError> {
-    let rest = rest(alloc)?;
-    Ok(InFlight {
-        message: rest.message,
-        beginning_fragment: true,
-        ending_fragment: false,
+    let mut rest = VecDeque::new(alloc);
+    rest.push_back(Bytes::from_static(b"cd"))?;
+    Ok(PendingMessage {
+        message: Attributes {
+            message_id: 0,
+            stream_identifier: 1,
+            generation: 0,
+            unordered: false,
+            stream_sequence_number: 0,
+            payload_type: PayloadProtocolIdentifier::Binary,
+            policy: Policy::Timed(lifetime),
+            deadline: None,
+        },
+        begun: false,
         user_data: Bytes::from_static(b"ab"),
-        sent_count: 1,
-        since: Instant::from_millis(5),
-        retransmit: false,
-        acked: false,
-        abandoned: false,
-        misses: 0,
+        rest,
     })
 }
 
-/// A queue whose first message was sent in part, and its time runs.
-fn sent_in_part(alloc: Global) -> Result<OutboundQueue, AllocError> {
-    let mut queue = OutboundQueue::new(alloc, u32::MAX);
+// Writes what a queue prints in a line.
+fn print(alloc: Global, queue: &OutboundQueue, text: &mut String) -> Result<(), AllocError> {
+    text.push_str(format!(in alloc; "{queue:?}\n")?.as_str())
+}
+
+// The first piece of a message that lives 50 ms is sent at 5 ms, and the time of the message runs from 7 ms on. The
+// time of one that is written since does not run, and its deadline is not known; once it runs, it is the next one.
+fn print_states(
+    alloc: Global,
+    queue: &mut OutboundQueue,
+    text: &mut String,
+) -> Result<(), AllocError> {
     queue.push(timed(alloc, 50)?)?;
     queue.send_next(Instant::from_millis(5))?;
     queue.start_timed_messages(Instant::from_millis(7));
-    Ok(queue)
-}
-
-/// Its fields, and those of what comes behind it.
-fn fields_of(alloc: Global) -> Result<derived::OutboundQueue, AllocError> {
-    Ok(derived::OutboundQueue {
-        pending: VecDeque::from_array(alloc, [rest(alloc)?])?,
-        in_flight: VecDeque::from_array(alloc, [first(alloc)?])?,
-        first_tsn: u32::MAX,
-        next_message_id: 1,
-        pending_bytes: 2,
-        outstanding_bytes: 2,
-        marked: 0,
-        settled: 0,
-        all_run: true,
-        next_deadline: Some(Instant::from_millis(57)),
-    })
-}
-
-#[test]
-fn a_queue_of_what_is_sent_prints_its_fields(rt: HostRuntime) -> Result<(), Fail> {
-    let queue = sent_in_part(rt.alloc())?;
-    let fields = fields_of(rt.alloc())?;
-    assert_eq!(rt;
-        format!(in rt.alloc(); "{queue:?}")?,
-        format!(in rt.alloc(); "{fields:?}")?
-    );
-    Ok(())
-}
-
-/// The time of what was written since does not run, and its deadline is not known; once it runs it is the next one.
-#[test]
-fn a_queue_prints_whether_all_times_run(rt: HostRuntime) -> Result<(), Fail> {
-    let mut queue = sent_in_part(rt.alloc())?;
-    queue.push(behind(rt.alloc())?)?;
-    let mut fields = fields_of(rt.alloc())?;
-    fields.pending.push_back(behind(rt.alloc())?)?;
-    fields.next_message_id = 2;
-    fields.pending_bytes = 6;
-    fields.all_run = false;
-    assert_eq!(rt;
-        format!(in rt.alloc(); "{queue:?}")?,
-        format!(in rt.alloc(); "{fields:?}")?
-    );
+    print(alloc, queue, text)?;
+    queue.push(timed(alloc, 30)?)?;
+    print(alloc, queue, text)?;
     queue.start_timed_messages(Instant::from_millis(9));
-    fields.pending.pop_back();
-    let mut started = behind(rt.alloc())?;
-    started.message.deadline = Some(Instant::from_millis(39));
-    fields.pending.push_back(started)?;
-    fields.all_run = true;
-    fields.next_deadline = Some(Instant::from_millis(39));
-    assert_eq!(rt;
-        format!(in rt.alloc(); "{queue:?}")?,
-        format!(in rt.alloc(); "{fields:?}")?
-    );
+    print(alloc, queue, text)
+}
+
+static STATES: &str = "\
+OutboundQueue { pending: [\
+PendingMessage { message: Attributes { message_id: 0, stream_identifier: 1, generation: 0, unordered: false, \
+stream_sequence_number: 0, payload_type: Binary, policy: Timed(50), deadline: Some(Instant { nanos: 57000000 }) }, \
+begun: true, user_data: b\"cd\", rest: [] }], in_flight: [\
+InFlight { message: Attributes { message_id: 0, stream_identifier: 1, generation: 0, unordered: false, \
+stream_sequence_number: 0, payload_type: Binary, policy: Timed(50), deadline: Some(Instant { nanos: 57000000 }) }, \
+beginning_fragment: true, ending_fragment: false, user_data: b\"ab\", sent_count: 1, \
+since: Instant { nanos: 5000000 }, retransmit: false, acked: false, abandoned: false, misses: 0 }], \
+first_tsn: 4294967295, next_message_id: 1, pending_bytes: 2, outstanding_bytes: 2, marked: 0, settled: 0, \
+all_run: true, next_deadline: Some(Instant { nanos: 57000000 }) }
+OutboundQueue { pending: [\
+PendingMessage { message: Attributes { message_id: 0, stream_identifier: 1, generation: 0, unordered: false, \
+stream_sequence_number: 0, payload_type: Binary, policy: Timed(50), deadline: Some(Instant { nanos: 57000000 }) }, \
+begun: true, user_data: b\"cd\", rest: [] }, \
+PendingMessage { message: Attributes { message_id: 1, stream_identifier: 1, generation: 0, unordered: false, \
+stream_sequence_number: 0, payload_type: Binary, policy: Timed(30), deadline: None }, \
+begun: false, user_data: b\"ab\", rest: [b\"cd\"] }], in_flight: [\
+InFlight { message: Attributes { message_id: 0, stream_identifier: 1, generation: 0, unordered: false, \
+stream_sequence_number: 0, payload_type: Binary, policy: Timed(50), deadline: Some(Instant { nanos: 57000000 }) }, \
+beginning_fragment: true, ending_fragment: false, user_data: b\"ab\", sent_count: 1, \
+since: Instant { nanos: 5000000 }, retransmit: false, acked: false, abandoned: false, misses: 0 }], \
+first_tsn: 4294967295, next_message_id: 2, pending_bytes: 6, outstanding_bytes: 2, marked: 0, settled: 0, \
+all_run: false, next_deadline: Some(Instant { nanos: 57000000 }) }
+OutboundQueue { pending: [\
+PendingMessage { message: Attributes { message_id: 0, stream_identifier: 1, generation: 0, unordered: false, \
+stream_sequence_number: 0, payload_type: Binary, policy: Timed(50), deadline: Some(Instant { nanos: 57000000 }) }, \
+begun: true, user_data: b\"cd\", rest: [] }, \
+PendingMessage { message: Attributes { message_id: 1, stream_identifier: 1, generation: 0, unordered: false, \
+stream_sequence_number: 0, payload_type: Binary, policy: Timed(30), deadline: Some(Instant { nanos: 39000000 }) }, \
+begun: false, user_data: b\"ab\", rest: [b\"cd\"] }], in_flight: [\
+InFlight { message: Attributes { message_id: 0, stream_identifier: 1, generation: 0, unordered: false, \
+stream_sequence_number: 0, payload_type: Binary, policy: Timed(50), deadline: Some(Instant { nanos: 57000000 }) }, \
+beginning_fragment: true, ending_fragment: false, user_data: b\"ab\", sent_count: 1, \
+since: Instant { nanos: 5000000 }, retransmit: false, acked: false, abandoned: false, misses: 0 }], \
+first_tsn: 4294967295, next_message_id: 2, pending_bytes: 6, outstanding_bytes: 2, marked: 0, settled: 0, \
+all_run: true, next_deadline: Some(Instant { nanos: 39000000 }) }
+";
+
+#[test]
+fn queues_print_their_fields(rt: HostRuntime) -> Result<(), Fail> {
+    let mut text = String::new(rt.alloc());
+    let mut queue = OutboundQueue::new(rt.alloc(), u32::MAX);
+    print_states(rt.alloc(), &mut queue, &mut text)?;
+    assert_eq!(rt; text.as_str(), STATES);
+    Ok(())
+}
+
+// A queue of TSNs prints these alone, ascending.
+fn hold(queue: &mut ReceiveQueue) -> Result<(), AllocError> {
+    for tsn in [102, 104, 103] {
+        queue.push(tsn, 100)?;
+    }
     Ok(())
 }
 
 #[test]
-fn a_queue_of_tsns_prints_them_alone(rt: HostRuntime) -> Result<(), Fail> {
-    let mut queue = ReceiveQueue::new(rt.alloc());
-    let mut fields = derived::ReceiveQueue {
-        tsns: BTreeSet::new(rt.alloc()),
-    };
-    for tsn in [102, 104, 103] {
-        assert!(rt; queue.push(tsn, 100)?, "at {tsn}");
-        fields.tsns.insert(tsn)?;
-    }
+fn small_types_have_their_texts(rt: HostRuntime) -> Result<(), Fail> {
+    let mut held = ReceiveQueue::new(rt.alloc());
+    hold(&mut held)?;
+    let (mode, due) = (AckMode::default(), AckState::default());
+    let reason = AssociationError::from(Error::ErrHandshakeInitAck);
+    let text = format!(in rt.alloc(); "{held:?}\n{mode} {due}\n{reason}")?;
     assert_eq!(rt;
-        format!(in rt.alloc(); "{queue:?}")?,
-        format!(in rt.alloc(); "{fields:?}")?
+        text.as_str(),
+        "ReceiveQueue { tsns: {102, 103, 104} }\nNormal Idle\nhandshake failed: no INIT ACK came"
     );
     Ok(())
 }
