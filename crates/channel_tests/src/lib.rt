@@ -1,13 +1,14 @@
-//! Tests of data channels over two associations that tokens joined, and of DCEP messages by themselves.
+//! Tests of data channels: what their calls answer between the sides of a pair and over two associations, runs of new
+//! pairs, and DATA_CHANNEL_OPEN by itself.
 #![tactic(auto)]
 
 #[cfg(test)]
-mod channels;
+mod callers;
+#[cfg(test)]
+mod lines;
 #[cfg(test)]
 mod open_messages;
 #[cfg(test)]
-mod play;
+mod port;
 #[cfg(test)]
-mod sides;
-#[cfg(test)]
-mod stacks;
+mod scenes;

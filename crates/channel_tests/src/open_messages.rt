@@ -1,122 +1,134 @@
 // DATA_CHANNEL_OPEN by itself. The bytes are those of RFC 8832 section 5.1, spelled by hand.
-use dcep_channel::{ChannelError, OpenMessage};
+use dcep_channel::OpenMessage;
 use std::alloc::Global;
 use std::test::Fail;
 
 /// Priority 0, label `chat`, no protocol.
-static OPEN: &str = "03000000000000000004000063686174";
+static OPEN: &[u8] = b"\x03\x00\x00\x00\x00\x00\x00\x00\x00\x04\x00\x00chat";
 
-/// Priority 513, a reliability parameter other than 0, label `a`, protocol `bc`.
-static OTHER: &str = "030002010000000700010002616263";
+/// What is read where one byte of these is another: its place, the byte, and the priority, label and protocol, or the
+/// number of the refusal.
+const CHANGED: [(usize, u8, &str); 13] = [
+    (0, 3, "0 chat "),
+    (0, 2, "31"),
+    (0, 0, "31"),
+    (1, 1, "32"),
+    (1, 128, "32"),
+    (2, 255, "65280 chat "),
+    (7, 9, "0 chat "),
+    (8, 1, "31"),
+    (9, 3, "31"),
+    (9, 5, "31"),
+    (10, 1, "31"),
+    (11, 1, "31"),
+    (12, 0, "0 \0hat "),
+];
 
-// The OPEN with this priority, label and protocol, in hex.
-fn spelled(alloc: Global, priority: u16, label: &[u8], protocol: &[u8]) -> Result<String, Fail> {
-    let message = OpenMessage::new(alloc, priority, label, protocol)?;
-    Ok(hex::encode(alloc, message.as_slice())?)
-}
+/// The same of other bytes: of a reliability parameter other than 0, of aiortc 1.4.0, and with one byte too many.
+const OTHERS: [(&[u8], &str); 3] = [
+    (
+        b"\x03\x00\x02\x01\x00\x00\x00\x07\x00\x01\x00\x02abc",
+        "513 a bc",
+    ),
+    (
+        b"\x03\x00\x00\x00\x00\x00\x00\x00\x00\x03\x00\x03bobbar",
+        "0 bob bar",
+    ),
+    (
+        b"\x03\x00\x00\x00\x00\x00\x00\x00\x00\x04\x00\x00chat\x00",
+        "31",
+    ),
+];
 
-// The number of the refusal to read these bytes; 0 where they are read.
-fn refusal(alloc: Global, bytes: &[u8]) -> Result<u8, Fail> {
-    match OpenMessage::read(bytes.to_vec(alloc)?) {
-        Ok(_) => Ok(0),
-        Err(error) => Ok(error.number()),
+// Priority, label and protocol of the OPEN that these bytes spell, or the number of the refusal.
+fn read(alloc: Global, bytes: Vec<u8>) -> Result<String, Fail> {
+    match OpenMessage::read(bytes) {
+        Ok(open) => {
+            let priority = open.priority();
+            let label = str::from_utf8(open.label()).unwrap_or("?");
+            let protocol = str::from_utf8(open.protocol()).unwrap_or("?");
+            Ok(format!(in alloc; "{priority} {label} {protocol}")?)
+        }
+        Err(error) => {
+            let number = error.number();
+            Ok(format!(in alloc; "{number}")?)
+        }
     }
-}
-
-// The same for the first so many of these bytes.
-fn refusal_of_first(alloc: Global, bytes: &[u8], count: usize) -> Result<u8, Fail> {
-    match bytes.get(..count) {
-        Some(front) => refusal(alloc, front),
-        None => refusal(alloc, bytes),
-    }
-}
-
-// The same where one byte is another one.
-fn refusal_with(alloc: Global, at: usize, byte: u8) -> Result<u8, Fail> {
-    let mut bytes = hex::decode(alloc, OPEN)?;
-    if let Some(place) = bytes.get_mut(at) {
-        *place = byte;
-    }
-    refusal(alloc, bytes.as_slice())
 }
 
 #[test]
-fn an_open_is_spelled(rt: HostRuntime) -> Result<(), Fail> {
-    assert_eq!(rt; spelled(rt.alloc(), 0, b"chat", b"")?.as_str(), OPEN);
-    let other = spelled(rt.alloc(), 513, b"a", b"bc")?;
-    assert_eq!(rt; other.as_str(), "030002010000000000010002616263");
-    Ok(())
-}
-
-#[test]
-fn an_open_that_is_cut_is_no_open(rt: HostRuntime) -> Result<(), Fail> {
-    let bytes = hex::decode(rt.alloc(), OPEN)?;
-    for count in 0..16 {
+fn opens_are_read(rt: HostRuntime) -> Result<(), Fail> {
+    for (at, byte, expected) in CHANGED {
+        let mut bytes = OPEN.to_vec(rt.alloc())?;
+        if let Some(place) = bytes.get_mut(at) {
+            *place = byte;
+        }
+        assert_eq!(rt; read(rt.alloc(), bytes)?.as_str(), expected, "at {at}");
+    }
+    for (bytes, expected) in OTHERS {
         assert_eq!(rt;
-            refusal_of_first(rt.alloc(), bytes.as_slice(), count)?,
-            31,
-            "at {count}"
+            read(rt.alloc(), bytes.to_vec(rt.alloc())?)?.as_str(),
+            expected
         );
     }
-    assert_eq!(rt; refusal(rt.alloc(), bytes.as_slice())?, 0);
-    Ok(())
-}
-
-#[test]
-fn one_byte_makes_another_message(rt: HostRuntime) -> Result<(), Fail> {
-    for (at, byte, expected) in [
-        (0, 2, 31),
-        (0, 0, 31),
-        (1, 1, 32),
-        (1, 128, 32),
-        (2, 255, 0),
-        (7, 9, 0),
-        (8, 1, 31),
-        (9, 3, 31),
-        (9, 5, 31),
-        (10, 1, 31),
-        (11, 1, 31),
-        (12, 0, 0),
-    ] {
-        assert_eq!(rt; refusal_with(rt.alloc(), at, byte)?, expected, "at {at}");
+    let mut cut = OPEN.to_vec(rt.alloc())?;
+    while cut.pop().is_some() {
+        assert_eq!(rt;
+            read(rt.alloc(), cut.clone()?)?.as_str(),
+            "31",
+            "cut to {}",
+            cut.len()
+        );
     }
     Ok(())
 }
 
+/// Priority, label and protocol, and the bytes of that OPEN.
+const SPELLED: [(u16, &[u8], &[u8], &[u8]); 2] = [
+    (
+        0,
+        b"chat",
+        b"",
+        b"\x03\x00\x00\x00\x00\x00\x00\x00\x00\x04\x00\x00chat",
+    ),
+    (
+        513,
+        b"a",
+        b"bc",
+        b"\x03\x00\x02\x01\x00\x00\x00\x00\x00\x01\x00\x02abc",
+    ),
+];
+
+/// The lengths of a label and a protocol, and those that are read in the OPEN, or the number of the refusal.
+const LENGTHS: [(usize, usize, &str); 3] = [
+    (65_535, 65_535, "65535 65535"),
+    (65_536, 0, "30"),
+    (0, 65_536, "30"),
+];
+
+fn lengths(alloc: Global, label: usize, protocol: usize) -> Result<String, Fail> {
+    let label: Vec<u8> = vec![in alloc; 7; label]?;
+    let protocol: Vec<u8> = vec![in alloc; 7; protocol]?;
+    match OpenMessage::new(alloc, 0, label.as_slice(), protocol.as_slice()) {
+        Ok(open) => {
+            let (label, protocol) = (open.label().len(), open.protocol().len());
+            Ok(format!(in alloc; "{label} {protocol}")?)
+        }
+        Err(error) => {
+            let number = error.number();
+            Ok(format!(in alloc; "{number}")?)
+        }
+    }
+}
+
 #[test]
-fn bytes_behind_are_refused(rt: HostRuntime) -> Result<(), Fail> {
-    let mut bytes = hex::decode(rt.alloc(), OPEN)?;
-    bytes.push(0)?;
-    assert_eq!(rt; refusal(rt.alloc(), bytes.as_slice())?, 31);
-    Ok(())
-}
-
-// The priority of an OPEN, and its label and protocol in hex.
-fn fields(alloc: Global, line: &str) -> Result<(u16, String, String), Fail> {
-    let message = OpenMessage::read(hex::decode(alloc, line)?)?;
-    let label = hex::encode(alloc, message.label())?;
-    let protocol = hex::encode(alloc, message.protocol())?;
-    Ok((message.priority(), label, protocol))
-}
-
-#[test]
-fn an_open_says_priority_label_and_protocol(rt: HostRuntime) -> Result<(), Fail> {
-    let (priority, label, protocol) = fields(rt.alloc(), OTHER)?;
-    assert_eq!(rt; priority, 513);
-    assert_eq!(rt; (label.as_str(), protocol.as_str()), ("61", "6263"));
-    Ok(())
-}
-
-// The refusal of a label of this length.
-fn refusal_of_label(alloc: Global, length: usize) -> Result<Option<ChannelError>, Fail> {
-    let label: Vec<u8> = vec![in alloc; 7; length]?;
-    Ok(OpenMessage::new(alloc, 0, label.as_slice(), b"").err())
-}
-
-#[test]
-fn a_label_has_a_greatest_length(rt: HostRuntime) -> Result<(), Fail> {
-    assert_eq!(rt; refusal_of_label(rt.alloc(), 65_535)?, None);
-    let refused = refusal_of_label(rt.alloc(), 65_536)?;
-    assert_eq!(rt; refused, Some(ChannelError::ErrLabelTooLong));
+fn opens_are_spelled(rt: HostRuntime) -> Result<(), Fail> {
+    for (priority, label, protocol, bytes) in SPELLED {
+        let open = OpenMessage::new(rt.alloc(), priority, label, protocol)?;
+        assert_eq!(rt; open.as_slice(), bytes, "of priority {priority}");
+    }
+    for (label, protocol, expected) in LENGTHS {
+        assert_eq!(rt; lengths(rt.alloc(), label, protocol)?.as_str(), expected);
+    }
     Ok(())
 }
