@@ -205,7 +205,7 @@ static void a_begun_message_is_given_up(void) {
 }
 
 static void what_is_sent(void) {
-    static const struct block apart[] = {{2, 2}, {4, 4}}, overlapping[] = {{3, 4}, {2, 3}, {4, 4}, {3, 1}, {0, 0}};
+    static const struct block apart[] = {{2, 2}, {4, 4}}, overlapping[] = {{3, 4}, {2, 3}, {4, 4}, {3, 1}};
     static const uint32_t others[] = {100, 102};
     data_goes_out_bundled();
     the_third_report_sends_again();
