@@ -41,10 +41,11 @@ fn joined(alloc: Global) -> Result<Association, Error> {
 
 // An association under the tag 2 and with the first TSN 100.
 fn begun(alloc: Global, kind: &str) -> Result<Association, Error> {
+    let server_config = ServerConfig::default();
     match kind {
         "joined" => joined(alloc),
         "client" => created(alloc, None),
-        _ => created(alloc, Some(&ServerConfig::default())),
+        _ => created(alloc, Some(&server_config)),
     }
 }
 
@@ -78,12 +79,11 @@ fn take(
         "late" => return Ok(association.handle_timeout(Instant::from_millis(3000))?),
         "write" => write(association)?,
         "shutdown" => association.shutdown()?,
-        name => hand_over(
-            association,
-            &Bytes::from_vec(hex::decode(alloc, hex_of(name)?)?)?,
-        )?,
+        name => come(alloc, association, name)?,
     }
-    push_sent(association, text)?;
+    if is_sent(association)? {
+        text.push_str("sends ")?;
+    }
     push_events(association, text)
 }
 
@@ -92,6 +92,12 @@ fn write(association: &mut Association) -> Result<(), Error> {
     let mut stream = association.open_stream(7, PayloadProtocolIdentifier::Binary)?;
     let _ = stream.write(b"abc")?;
     Ok(())
+}
+
+// The datagram of this name comes.
+fn come(alloc: Global, association: &mut Association, name: &str) -> Result<(), Fail> {
+    let datagram = Bytes::from_vec(hex::decode(alloc, hex_of(name)?)?)?;
+    Ok(hand_over(association, &datagram)?)
 }
 
 fn hand_over(association: &mut Association, datagram: &Bytes) -> Result<(), Error> {
@@ -105,10 +111,11 @@ fn hand_over(association: &mut Association, datagram: &Bytes) -> Result<(), Erro
     }))
 }
 
-fn push_sent(association: &mut Association, text: &mut String) -> Result<(), Fail> {
+// Whether packets were due.
+fn is_sent(association: &mut Association) -> Result<bool, Error> {
     match association.poll_transmit(Instant::from_millis(0)) {
-        Ok(sent) => Ok(text.push_str(if sent.is_some() { "sends " } else { "" })?),
-        Err(error) => Err(Fail::from(error)),
+        Ok(sent) => Ok(sent.is_some()),
+        Err(error) => Err(error),
     }
 }
 
