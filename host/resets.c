@@ -39,15 +39,16 @@ static bool take_event(int end, uint32_t kind) {
     return false;
 }
 
-/* An end is told once that the stream is over, with its last counters before all else, and has it no more. */
-static void is_over(int end, uint64_t messages_sent, uint64_t messages_received) {
+/* An end is told once that the stream is over, with its last counters, and has it no more. They come before all else, but
+ * for what the peer ended while messages waited to be read: there they come once these are read. */
+static void is_over(int end, bool with_counters_first, uint64_t messages_sent, uint64_t messages_received) {
     uint16_t ids[1];
     size_t count;
     unsigned ended = 0, finished = 0, reset = 0;
     while (done(sctp_assoc_poll_event(&ends[end], &event))) {
         ended += event.kind == SCTP_ASSOC_EVENT_STREAM_ENDED && event.stream == STREAM &&
                  event.counters.messages_sent == messages_sent && event.counters.messages_received == messages_received;
-        finished += event.kind == SCTP_ASSOC_EVENT_FINISHED && event.stream == STREAM && ended == 1;
+        finished += event.kind == SCTP_ASSOC_EVENT_FINISHED && event.stream == STREAM && ended == with_counters_first;
         reset += event.kind == SCTP_ASSOC_EVENT_RESET_COMPLETE && event.stream == STREAM && finished == 1;
     }
     CHECK(ended == 1 && finished == 1 && reset == 1);
@@ -90,8 +91,8 @@ static void ended(struct way way) {
     CHECK(sctp_assoc_read(&ends[0], STREAM, bytes, sizeof bytes, &length, &type) == SCTP_ASSOC_STREAM_CLOSED);
     CHECK(sctp_assoc_write(&ends[0], STREAM, SCTP_ASSOC_PPID_BINARY, bytes, 1) == way.refused);
     settle();
-    is_over(0, 1, 2);
-    is_over(1, 2, 1);
+    is_over(0, true, 1, 2);
+    is_over(1, true, 2, 1);
     CHECK(sctp_assoc_read(&ends[1], STREAM, bytes, sizeof bytes, &length, &type) == SCTP_ASSOC_NO_STREAM);
     CHECK(done(sctp_assoc_open_stream(&ends[0], STREAM, SCTP_ASSOC_PPID_BINARY)));
     used_both_ways(20);
@@ -115,9 +116,9 @@ static void read_to_the_end(void) {
     CHECK(!done(sctp_assoc_poll_event(&ends[1], &event)));
     CHECK(sctp_assoc_write(&ends[1], STREAM, SCTP_ASSOC_PPID_BINARY, bytes, 1) == SCTP_ASSOC_RESET_PENDING);
     CHECK(done(sctp_assoc_read(&ends[1], STREAM, bytes, sizeof bytes, &length, &type)) && length == 30);
-    is_over(1, 0, 1);
+    is_over(1, false, 0, 1);
     settle();
-    is_over(0, 1, 0);
+    is_over(0, true, 1, 0);
     free_both(ends);
 }
 
