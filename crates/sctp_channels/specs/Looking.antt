@@ -1,5 +1,5 @@
 -- What is done for a channel when something came for it.
-use Rattle.std.specs.Prelude.{◌≡◌, ◌⊎◌, ℕ, Bool, true, false, not, List, [], Some, None}
+use Rattle.std.specs.Prelude.{◌≡◌, ◌≢◌, ◌⊎◌, ℕ, Bool, true, false, not, List, [], Some, None}
 use Rattle.sctp_wire_types.specs.declared.error.Error.{Error}
 use Rattle.sctp_wire_types.specs.declared.error.Error.TheVariants.{ErrNoMemory, ErrAssociationFailed}
 use Rattle.sctp_wire_types.specs.declared.ids.PayloadProtocolIdentifier.TheVariants as kinds
@@ -63,9 +63,13 @@ IsTold (told.Failed id) t = stage_at t id ≡ None
 IsTold (told.Lost reason) t = t ≡ []
 IsTold (told.HandshakeFailed reason) t = t ≡ []
 
+-- no channel is told as closed
+abbrev pub IsNoEnd : ChannelEvent → Type 0
+IsNoEnd event = (id : ℕ) → event ≢ told.Closed id
+
 -- what a look at a channel gave and left of the channels
 abbrev pub Looks : List (ℕ × ChannelView) → Looked → List (ℕ × ChannelView) → Type 0
 Looks t looks.Done u = u ≡ t
 Looks t looks.Again u = Keeps t u
-Looks t (looks.Tells event) u = Keeps t u × IsTold event u
-Looks t (looks.Ends event) u = KeepsOrEnds t u × IsTold event u
+Looks t (looks.Tells event) u = Keeps t u × IsTold event u × IsNoEnd event
+Looks t (looks.Ends event) u = KeepsOrEnds t u × IsTold event u × IsNoEnd event

@@ -1,5 +1,5 @@
 -- Events of a driver, and what they say of channels.
-use Rattle.std.specs.Prelude.{◌≡◌, ℕ, if◌then◌else◌, List, [], Option, Some, None}
+use Rattle.std.specs.Prelude.{◌≡◌, ◌≢◌, ℕ, if◌then◌else◌, List, [], ◌∷◌, ◌++◌, Option, Some, None}
 use Rattle.std.specs.BTreeMap.{is_at}
 use Rattle.std.specs.Map.{remove_entry}
 use Rattle.std.specs.Ordering.{nat_cmp}
@@ -12,11 +12,12 @@ use Rattle.sctp_assoc.specs.Shown.{Shown}
 use Rattle.sctp_driver.specs.Driving.{Driving}
 use Rattle.channel_table.specs.declared.channel.Stage.TheVariants as stages
 use Rattle.channel_table.specs.Channels.{ChannelView}
-use Rattle.channel_table.specs.Tables.{Keeps, KeepsOrEnds, at_stage, is_taken}
+use Rattle.channel_table.specs.Tables.{Keeps, KeepsOrEnds, at_stage, is_taken, stage_at}
 use Rattle.sctp_channels.specs.declared.event.ChannelEvent.{ChannelEvent}
 use Rattle.sctp_channels.specs.declared.event.ChannelEvent.TheVariants as told
 use Rattle.sctp_channels.specs.declared.polling.Turn.{Turn}
 use Rattle.sctp_channels.specs.declared.polling.Turn.TheVariants as turns
+use Rattle.sctp_channels.specs.Channels.{ChannelsView}
 use Rattle.sctp_channels.specs.Looking.{IsTold}
 
 -- this is told where there is such a channel, and then the channels are so
@@ -52,6 +53,47 @@ abbrev pub Turns : List (ℕ × ChannelView) → Turn → List (ℕ × ChannelVi
 Turns t turns.Silent u = Keeps t u
 Turns t turns.Idle u = u ≡ t
 Turns t (turns.Tells event) u = KeepsOrEnds t u × IsTold event u
+
+-- A channel that this tells as closed, and that is gone: its stream is to be looked at next. What the peer sent on it
+-- after it had ended its half, perhaps another OPEN, was not looked at while the channel was still there.
+abbrev pub LooksAgain : ChannelEvent → ChannelsView → Type 0
+LooksAgain event c = (id : ℕ) → event ≡ told.Closed id → stage_at c.table id ≡ None → c.due ≡ id ∷ []
+
+-- the same of a turn
+abbrev pub TurnsAgain : Turn → ChannelsView → Type 0
+TurnsAgain turn c = (id : ℕ) → turn ≡ turns.Tells (told.Closed id) → stage_at c.table id ≡ None → c.due ≡ id ∷ []
+
+-- a channel that is told as closed, and is gone, ended by this event: both halves of its stream ended
+abbrev pub EndsAs : Event → Option ChannelEvent → List (ℕ × ChannelView) → Type 0
+EndsAs event o u = (id : ℕ) → o ≡ Some (told.Closed id) → stage_at u id ≡ None
+    → event ≡ events.Stream (stream_events.ResetComplete id)
+
+-- the same of a turn
+abbrev pub EndsBy : Event → Turn → List (ℕ × ChannelView) → Type 0
+EndsBy event turn u = (id : ℕ) → turn ≡ turns.Tells (told.Closed id) → stage_at u id ≡ None
+    → event ≡ events.Stream (stream_events.ResetComplete id)
+
+-- a channel that is told as closed is still there
+abbrev pub EndsNone : Option ChannelEvent → List (ℕ × ChannelView) → Type 0
+EndsNone o u = (id : ℕ) → o ≡ Some (told.Closed id) → stage_at u id ≢ None
+
+-- a stream is to be looked at behind the others, unless what came on it is told already
+abbrev pub DueUnlessTold : ℕ → Turn → List ℕ → List ℕ → Type 0
+DueUnlessTold id turns.Silent due after = after ≡ due ++ id ∷ []
+DueUnlessTold id turns.Idle due after = ⊥
+DueUnlessTold id (turns.Tells event) due after = after ≡ due
+
+abbrev pub DueAfterStream : StreamEvent → Turn → List ℕ → List ℕ → Type 0
+DueAfterStream (stream_events.Readable id) turn due after = DueUnlessTold id turn due after
+DueAfterStream (stream_events.ResetComplete id) turn due after = after ≡ due ++ id ∷ []
+DueAfterStream _ turn due after = after ≡ due
+
+-- Which streams are to be looked at after an event: those that were; behind them one on which something came, and one
+-- of which both halves ended; and the channels that waited for the association, once it is established.
+abbrev pub DueAfter : Event → Turn → List ℕ → List ℕ → List ℕ → Type 0
+DueAfter events.Connected turn waiting due after = after ≡ waiting
+DueAfter (events.Stream event) turn waiting due after = DueAfterStream event turn due after
+DueAfter _ turn waiting due after = after ≡ due
 
 -- no event waits at a driver
 abbrev pub IsIdle : Driving → Type 0

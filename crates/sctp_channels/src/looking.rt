@@ -77,7 +77,8 @@ fn refuse(driver: &mut Driver, id: StreamId) -> Looked
     Looked::Ends(ChannelEvent::Failed(id))
 }
 
-// A channel of this side: its OPEN is written, or its stream opened where it is negotiated.
+// A channel of this side: its OPEN is written, or its stream opened where it is negotiated. It is to be looked at once
+// for itself, so that where it cannot be begun, what came on its stream meanwhile is still looked at behind it.
 fn begin(table: &mut Table, driver: &mut Driver, id: StreamId) -> Result<Looked, Error>
     requires { stage_at table.old id ≡ Some stages.Waiting }
     ensures looks { IfOk result (λ looked. Looks table.old looked table.new) }

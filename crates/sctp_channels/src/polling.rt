@@ -6,8 +6,11 @@ ghost use Rattle.std.specs.Map.{remove_entry};
 ghost use Rattle.std.specs.Ordering.{nat_cmp};
 ghost use Rattle.channel_table.specs.declared.channel.Stage.TheVariants as stages;
 ghost use Rattle.channel_table.specs.Tables.{KeepsOrEnds, at_stage};
+ghost use Rattle.sctp_streams.specs.declared.event.Event.TheVariants as events;
+ghost use Rattle.sctp_wire_types.specs.declared.event.StreamEvent.TheVariants as stream_events;
 ghost use Rattle.sctp_channels.specs.Looking.{IsTold, may_pass};
-ghost use Rattle.sctp_channels.specs.Polling.{IsIdle, Meets, Turns, event_met, stream_event_met, told_if_there};
+ghost use Rattle.sctp_channels.specs.Polling.{DueAfter, EndsAs, EndsBy, EndsNone, IsIdle, LooksAgain, Meets, Turns};
+ghost use Rattle.sctp_channels.specs.Polling.{TurnsAgain, event_met, stream_event_met, told_if_there};
 
 use crate::channels::Channels;
 use crate::event::ChannelEvent;
@@ -30,12 +33,14 @@ pub(crate) enum Turn {
 impl Channels {
     /// The next event of the channels; None where none waits. It takes the events of the driver, in place of the
     /// driver's `poll_event` and `accept_stream`. On the way it writes the OPENs that wait, if the association is
-    /// established, reads the first messages of streams, and writes ACKs.
+    /// established, reads the first messages of streams, and writes ACKs. Behind `Closed` it looks at the stream of a
+    /// channel that is gone once more, since the peer may have opened another one on it meanwhile.
     ///
     /// Errors: `Beneath(ErrNoMemory)`, after which it can be called again and goes on where it was, unless the
     /// association failed; `Beneath(ErrAssociationFailed)`.
     pub fn poll_event(&mut self, driver: &mut Driver) -> Result<Option<ChannelEvent>, ChannelError>
         ensures told { IfOk result (λ told. IfSome told (λ event. IsTold event self.new.table)) }
+        ensures again { IfOk result (λ told. IfSome told (λ event. LooksAgain event self.new)) }
         ensures keeps { KeepsOrEnds self.old.table self.new.table }
         ensures all { result ≡ Ok None → self.new.due ≡ [] }
         ensures idle { result ≡ Ok None → IsIdle driver.new }
@@ -56,6 +61,7 @@ impl Channels {
 
     fn turn(&mut self, driver: &mut Driver) -> Result<Turn, Error>
         ensures turns { IfOk result (λ turn. Turns self.old.table turn self.new.table) }
+        ensures again { IfOk result (λ turn. TurnsAgain turn self.new) }
         ensures err { OnErr result (self.new.table ≡ self.old.table) }
         ensures all { result ≡ Ok Turn.Idle → self.new.due ≡ [] }
         ensures idle { result ≡ Ok Turn.Idle → IsIdle driver.new }
@@ -70,6 +76,7 @@ impl Channels {
 
     fn look_at(&mut self, driver: &mut Driver, id: StreamId) -> Result<Turn, Error>
         ensures turns { IfOk result (λ turn. Turns self.old.table turn self.new.table) }
+        ensures again { IfOk result (λ turn. TurnsAgain turn self.new) }
         ensures err { OnErr result (self.new.table ≡ self.old.table) }
         ensures busy { result ≢ Ok Turn.Idle }
         ensures role { self.new.role ≡ self.old.role }
@@ -92,6 +99,7 @@ impl Channels {
     fn take_event(&mut self, driver: &mut Driver) -> Result<Turn, Error>
         requires { self.old.due ≡ [] }
         ensures turns { IfOk result (λ turn. Turns self.old.table turn self.new.table) }
+        ensures again { IfOk result (λ turn. TurnsAgain turn self.new) }
         ensures err { OnErr result (self.new.table ≡ self.old.table) }
         ensures all { result ≡ Ok Turn.Idle → self.new.due ≡ [] }
         ensures idle { result ≡ Ok Turn.Idle → IsIdle driver.new }
@@ -127,6 +135,8 @@ fn meet_event(
 ) -> Turn
     requires { deque_len due.old < deque_capacity due.old }
     ensures turns { Turns table.old result table.new }
+    ensures due { DueAfter event result waiting.old.items due.old.items due.new.items }
+    ensures ends { EndsBy event result table.new }
     ensures busy { result ≢ Turn.Idle }
 {
     match event {
@@ -146,10 +156,23 @@ fn meet_event(
             *due = mem::replace(waiting, VecDeque::new(alloc));
             Turn::Tells(ChannelEvent::Connected)
         }
-        other => match told_of(table, other) {
-            Some(event) => Turn::Tells(event),
-            None => Turn::Silent,
-        },
+        Event::Stream(StreamEvent::ResetComplete { id }) => {
+            // What came for its channel's successor was not looked at yet.
+            due.push_back_reserved(id);
+            tell(table, event)
+        }
+        other => tell(table, other),
+    }
+}
+
+fn tell(table: &mut Table, event: Event) -> Turn
+    ensures turns { Turns table.old result table.new }
+    ensures ends { EndsBy event result table.new }
+    ensures busy { result ≢ Turn.Idle }
+{
+    match told_of(table, event) {
+        Some(event) => Turn::Tells(event),
+        None => Turn::Silent,
     }
 }
 
@@ -157,6 +180,7 @@ fn meet_event(
 fn told_of(table: &mut Table, event: Event) -> Option<ChannelEvent>
     ensures exact { event_met table.old event ≡ (table.new, result) }
     ensures meets { Meets table.old result table.new }
+    ensures ends { EndsAs event result table.new }
 {
     match event {
         Event::HandshakeFailed { reason } => {
@@ -175,6 +199,7 @@ fn told_of(table: &mut Table, event: Event) -> Option<ChannelEvent>
 fn told_of_stream(table: &mut Table, event: StreamEvent) -> Option<ChannelEvent>
     ensures exact { stream_event_met table.old event ≡ (table.new, result) }
     ensures meets { Meets table.old result table.new }
+    ensures ends { EndsAs (events.Stream event) result table.new }
 {
     match event {
         StreamEvent::Finished { id } => {
@@ -193,6 +218,7 @@ fn end(table: &mut Table, id: StreamId) -> Option<ChannelEvent>
     ensures exact { told_if_there table.old id (ChannelEvent.Closed id)
         (remove_entry (is_at (nat_cmp id)) table.old) ≡ (table.new, result) }
     ensures meets { Meets table.old result table.new }
+    ensures ends { EndsAs (events.Stream (stream_events.ResetComplete id)) result table.new }
 {
     if !table.contains(id) {
         return None;
@@ -206,6 +232,7 @@ fn fail_reset(table: &mut Table, id: StreamId) -> Option<ChannelEvent>
     ensures exact { told_if_there table.old id (ChannelEvent.Closed id) (at_stage table.old id stages.Closing)
         ≡ (table.new, result) }
     ensures meets { Meets table.old result table.new }
+    ensures stays { EndsNone result table.new }
 {
     if !table.contains(id) {
         return None;
@@ -217,6 +244,7 @@ fn fail_reset(table: &mut Table, id: StreamId) -> Option<ChannelEvent>
 fn tell_low(table: &mut Table, id: StreamId) -> Option<ChannelEvent>
     ensures exact { told_if_there table.old id (ChannelEvent.BufferedLow id) table.old ≡ (table.new, result) }
     ensures meets { Meets table.old result table.new }
+    ensures stays { EndsNone result table.new }
 {
     if table.contains(id) {
         Some(ChannelEvent::BufferedLow(id))
