@@ -270,6 +270,43 @@ static void no_open(void) {
     free_sides();
 }
 
+/* A message of DCEP comes on an open channel. The application receives nothing, and the channel is in this state. */
+static void is_dropped(const char *message, size_t size, uint32_t state) {
+    sctp_channels_info info;
+    writes(0, SCTP_ASSOC_PPID_DCEP, message, size);
+    tells(0, "message 0");
+    CHECK(receive_on(0, 0, 100) == SCTP_ASSOC_NOTHING);
+    CHECK(done(sctp_channels_get_info(&sides[0], 0, &info)) && info.state == state);
+}
+
+/* An ACK of four bytes is one. What DCEP does not have is dropped, whatever its length; an OPEN, whatever its length,
+ * ends the channel. */
+static void long_ack(void) {
+    uint32_t type;
+    join();
+    tells(0, "connected");
+    CHECK(done(open_as(0, reliable, "chat", "p")) && id == 0);
+    tells(0, "");
+    reads_dcep(0, (const uint8_t *)"\3\0\0\0\0\0\0\0\0\4\0\1chatp", 17);
+    writes(0, SCTP_ASSOC_PPID_DCEP, "\2\0\0", 4);
+    tells(0, "opened 0, message 0");
+    CHECK(receive_on(0, 0, 100) == SCTP_ASSOC_NOTHING);
+    tells(0, "");
+    is_dropped("\2", 1, SCTP_CHANNELS_STATE_OPEN);
+    is_dropped("\2\0\0", 4, SCTP_CHANNELS_STATE_OPEN);
+    is_dropped("\1\3", 2, SCTP_CHANNELS_STATE_OPEN);
+    is_dropped("\377", 1, SCTP_CHANNELS_STATE_OPEN);
+    writes(0, SCTP_ASSOC_PPID_STRING, "t", 1);
+    tells(0, "message 0");
+    CHECK(done(receive_on(0, 0, 100)) && text && length == 1 && bytes[0] == 't');
+    CHECK(done(send_on(0, 0, true, "u")));
+    pass_on(&ends[0], &ends[1], now);
+    CHECK(done(sctp_assoc_read(&ends[1], 0, bytes, sizeof bytes, &length, &type)));
+    CHECK(type == SCTP_ASSOC_PPID_STRING && length == 1 && bytes[0] == 'u');
+    is_dropped("\3", 1, SCTP_CHANNELS_STATE_CLOSING);
+    free_sides();
+}
+
 int main(void) {
     TRY(whole_life());
     TRY(identifiers());
@@ -278,6 +315,7 @@ int main(void) {
     TRY(writes_open());
     TRY(reads_open());
     TRY(no_open());
+    TRY(long_ack());
     puts("dcep: ok");
     return 0;
 }

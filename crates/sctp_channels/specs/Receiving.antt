@@ -1,6 +1,6 @@
 -- Messages that an application receives.
 use Rattle.std.specs.Prelude.{◌≡◌, ◌⊎◌, ℕ, zero, suc, ◌-◌, ◌^◌, ◌==◌, ◌&&◌, not, if◌then◌else◌}
-use Rattle.std.specs.Prelude.{Bool, true, false, List, slice_set, Option, Some, None, Result, Ok, Err}
+use Rattle.std.specs.Prelude.{Bool, true, false, List, slice_index, slice_set, Option, Some, None, Result, Ok, Err}
 use Rattle.sctp_wire_types.specs.declared.error.Error.TheVariants as errors
 use Rattle.sctp_wire_types.specs.declared.ids.PayloadProtocolIdentifier.{PayloadProtocolIdentifier}
 use Rattle.sctp_driver.specs.declared.messages.ReadAnswer.{ReadAnswer}
@@ -22,25 +22,30 @@ use Rattle.sctp_channels.specs.Channels.{ChannelsView, with_table}
 use Rattle.sctp_channels.specs.Opening.{Resets}
 use Rattle.sctp_channels.specs.Reading.{ReadsOrEnded, is_dcep}
 
-abbrev pub met_as : Option Received → PayloadProtocolIdentifier → ℕ → Next
-met_as (Some received) kind n = nexts.Given received
-met_as None kind n = if is_dcep kind && not (n == 1) then nexts.SecondOpen else nexts.Dropped
+-- these bytes begin as an OPEN does, by the message type 3
+abbrev pub begins_as_open : List ℕ → Bool
+begins_as_open bytes = not (is_empty bytes) && (slice_index bytes 0 == 3)
 
--- A message of an application is received. A DCEP message of one byte can only be an ACK, and is dropped; a longer one,
--- a second OPEN, ends the channel. A message of another payload type is dropped.
-abbrev pub met : PayloadProtocolIdentifier → ℕ → Next
-met kind n = met_as (received_as kind n) kind n
+abbrev pub met_as : Option Received → PayloadProtocolIdentifier → List ℕ → Next
+met_as (Some received) kind bytes = nexts.Given received
+met_as None kind bytes = if is_dcep kind && begins_as_open bytes then nexts.SecondOpen else nexts.Dropped
 
--- what a read of the stream of an open channel is to its application
-abbrev pub read_as : ReadAnswer → Next
-read_as answers.Nothing = nexts.Given receipts.Nothing
-read_as (answers.NoRoom n) = nexts.Given (receipts.NoRoom n)
-read_as (answers.Message kind n) = met kind n
+-- A message of an application is received. A second OPEN ends the channel: a DCEP message that begins as one, however
+-- long it is. All other DCEP messages are dropped, an ACK of any length among them, and so are those of other payload
+-- types. No message is empty, so that the first byte of the buffer into which it was read is its own.
+abbrev pub met : PayloadProtocolIdentifier → ℕ → List ℕ → Next
+met kind n bytes = met_as (received_as kind n) kind bytes
+
+-- what a read of the stream of an open channel, with the buffer as it then is, is to its application
+abbrev pub read_as : ReadAnswer → List ℕ → Next
+read_as answers.Nothing bytes = nexts.Given receipts.Nothing
+read_as (answers.NoRoom n) bytes = nexts.Given (receipts.NoRoom n)
+read_as (answers.Message kind n) bytes = met kind n bytes
 
 -- one read of the stream
 abbrev pub ReadsNext : ℕ → Driving → List ℕ → Next → Driving → List ℕ → Type 0
 ReadsNext id d buffer next e filled =
-    (answer : ReadAnswer) × ReadsOrEnded id d buffer answer e filled × (next ≡ read_as answer)
+    (answer : ReadAnswer) × ReadsOrEnded id d buffer answer e filled × (next ≡ read_as answer filled)
 
 -- so many reads gave messages that are dropped
 abbrev pub Drops : ℕ → ℕ → Driving → List ℕ → Driving → List ℕ → Type 0

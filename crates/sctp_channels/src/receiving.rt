@@ -4,13 +4,16 @@ ghost use Rattle.sctp_driver.specs.Driving.{Driving};
 ghost use Rattle.sctp_driver.specs.Messages.{ReadFails};
 ghost use Rattle.sctp_channels.specs.declared.receiving.Next.TheVariants as nexts;
 ghost use Rattle.sctp_channels.specs.Receiving.{GivesFirst, ReadsNext, Receives, ReceivesOpen, ReceivesRead};
-ghost use Rattle.sctp_channels.specs.Receiving.{met, read_as};
+ghost use Rattle.sctp_channels.specs.Receiving.{begins_as_open, met, read_as};
 
 use crate::channels::Channels;
 use crate::reading::{is_dcep, read};
 use channel_table::{ChannelError, Received, ShortMessage, Stage, received_as};
 use sctp_driver::{Driver, Error, PayloadProtocolIdentifier, ReadAnswer};
 use sctp_wire_types::StreamId;
+
+// The message type of DATA_CHANNEL_OPEN (RFC 8832 section 5.1).
+const OPEN: u8 = 3;
 
 /// What a read of the stream of an open channel is to its application.
 #[derive(Clone, Copy)]
@@ -150,13 +153,13 @@ fn read_next(driver: &mut Driver, id: StreamId, buffer: &mut [u8]) -> Result<Nex
     ensures unfilled { OnErr result (buffer.new ≡ buffer.old) }
 {
     match read(driver, id, buffer) {
-        Ok(answer) => Ok(read_as(answer)),
+        Ok(answer) => Ok(read_as(answer, buffer)),
         Err(error) => Err(error),
     }
 }
 
-fn read_as(answer: ReadAnswer) -> Next
-    ensures { result ≡ read_as answer }
+fn read_as(answer: ReadAnswer, buffer: &[u8]) -> Next
+    ensures { result ≡ read_as answer buffer.now }
 {
     match answer {
         ReadAnswer::Nothing => Next::Given(Received::Nothing),
@@ -164,21 +167,28 @@ fn read_as(answer: ReadAnswer) -> Next
         ReadAnswer::Message {
             payload_type,
             length,
-        } => meet(payload_type, length),
+        } => meet(payload_type, length, buffer),
     }
 }
 
-fn meet(payload_type: PayloadProtocolIdentifier, length: usize) -> Next
-    ensures { result ≡ met payload_type length }
+// What a message is that was read into this buffer. Of one of DCEP its first byte says that, however long it is.
+fn meet(payload_type: PayloadProtocolIdentifier, length: usize, buffer: &[u8]) -> Next
+    ensures { result ≡ met payload_type length buffer.now }
 {
     match received_as(payload_type, length) {
         Some(received) => Next::Given(received),
         None => {
-            if is_dcep(payload_type) && length != 1 {
+            if is_dcep(payload_type) && begins_as_open(buffer) {
                 Next::SecondOpen
             } else {
                 Next::Dropped
             }
         }
     }
+}
+
+fn begins_as_open(bytes: &[u8]) -> bool
+    ensures { result ≡ begins_as_open bytes.now }
+{
+    !bytes.is_empty() && bytes[0] == OPEN
 }
