@@ -159,20 +159,15 @@ fn meet_event(
         Event::Stream(StreamEvent::ResetComplete { id }) => {
             // What came for its channel's successor was not looked at yet.
             due.push_back_reserved(id);
-            tell(table, event)
+            match end(table, id) {
+                Some(event) => Turn::Tells(event),
+                None => Turn::Silent,
+            }
         }
-        other => tell(table, other),
-    }
-}
-
-fn tell(table: &mut Table, event: Event) -> Turn
-    ensures turns { Turns table.old result table.new }
-    ensures ends { EndsBy event result table.new }
-    ensures busy { result ≢ Turn.Idle }
-{
-    match told_of(table, event) {
-        Some(event) => Turn::Tells(event),
-        None => Turn::Silent,
+        other => match told_of(table, other) {
+            Some(event) => Turn::Tells(event),
+            None => Turn::Silent,
+        },
     }
 }
 

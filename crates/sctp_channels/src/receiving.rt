@@ -158,6 +158,8 @@ fn read_next(driver: &mut Driver, id: StreamId, buffer: &mut [u8]) -> Result<Nex
     }
 }
 
+// Inlined, as `meet` is: each message that is received takes this way.
+#[inline(always)]
 fn read_as(answer: ReadAnswer, buffer: &[u8]) -> Next
     ensures { result ≡ read_as answer buffer.now }
 {
@@ -172,6 +174,7 @@ fn read_as(answer: ReadAnswer, buffer: &[u8]) -> Next
 }
 
 // What a message is that was read into this buffer. Of one of DCEP its first byte says that, however long it is.
+#[inline(always)]
 fn meet(payload_type: PayloadProtocolIdentifier, length: usize, buffer: &[u8]) -> Next
     ensures { result ≡ met payload_type length buffer.now }
 {
