@@ -232,6 +232,7 @@ static void failed_and_lost(void) {
         CHECK(told[side][count[side] - 1].reason == SCTP_ASSOC_REASON_CLOSED);
     }
     CHECK(send_on(0, 0, true, "late") == SCTP_CHANNELS_NO_CHANNEL);
+    CHECK(open_as(0, reliable, "late", "") == SCTP_CHANNELS_LOST);
     free_sides();
 }
 

@@ -307,6 +307,23 @@ static void long_ack(void) {
     free_sides();
 }
 
+/* A message of a payload type that is none of a channel's is told by a code of its own, and the next one is received. */
+static void other_type(void) {
+    join();
+    tells(0, "connected");
+    CHECK(done(sctp_assoc_open_stream(&ends[1], 1, SCTP_ASSOC_PPID_BINARY)));
+    writes(1, SCTP_ASSOC_PPID_DCEP, "\3\0\0\0\0\0\0\0\0\1\0\0x", 13);
+    tells(0, "announced 1, message 1");
+    writes(1, SCTP_ASSOC_PPID_UNKNOWN, "part", 4);
+    writes(1, SCTP_ASSOC_PPID_STRING, "t", 1);
+    text = false;
+    CHECK(receive_on(0, 1, 3) == SCTP_ASSOC_NO_ROOM && length == 4);
+    CHECK(receive_on(0, 1, 100) == SCTP_CHANNELS_OTHER && length == 4 && memcmp(bytes, "part", 4) == 0 && !text);
+    CHECK(done(receive_on(0, 1, 100)) && text && length == 1);
+    CHECK(receive_on(0, 1, 100) == SCTP_ASSOC_NOTHING);
+    free_sides();
+}
+
 int main(void) {
     TRY(whole_life());
     TRY(identifiers());
@@ -316,6 +333,7 @@ int main(void) {
     TRY(reads_open());
     TRY(no_open());
     TRY(long_ack());
+    TRY(other_type());
     puts("dcep: ok");
     return 0;
 }

@@ -36,8 +36,8 @@ typedef struct sctp_channels {
 
 /* ---- Codes ----
  *
- * Each call answers a code of sctp_assoc.h, or one of the refusals below. What it gives is written if it answers
- * SCTP_ASSOC_DONE, and a length also at SCTP_ASSOC_NO_ROOM. At every other code what the pointers lead to stays as it
+ * Each call answers a code of sctp_assoc.h, or one of those below. What it gives is written if it answers
+ * SCTP_ASSOC_DONE, and a length also at SCTP_ASSOC_NO_ROOM and SCTP_CHANNELS_OTHER. At every other code what the pointers lead to stays as it
  * was, but for the buffer of sctp_channels_receive. SCTP_ASSOC_EMPTY_SLOT: either slot is empty; nothing changed.
  * SCTP_ASSOC_NO_MEMORY: memory was refused. What that leaves:
  *   sctp_channels_poll_event               it can be called again and goes on where it was, or the association has
@@ -45,11 +45,14 @@ typedef struct sctp_channels {
  *   sctp_channels_receive, _close          the channel stays as it is, or the association has failed
  *   all other calls                        nothing changed
  */
-#define SCTP_CHANNELS_LABEL_TOO_LONG 40     /* the label or the protocol is longer than 65,535 bytes */
-#define SCTP_CHANNELS_NO_IDENTIFIER_LEFT 41 /* each identifier of this side has a channel */
-#define SCTP_CHANNELS_IDENTIFIER_TAKEN 42   /* the negotiated identifier has a channel, or is 65,535 */
-#define SCTP_CHANNELS_NO_CHANNEL 43         /* there is no such channel */
-#define SCTP_CHANNELS_NOT_OPEN 44           /* its OPEN was not written yet, or it ends */
+#define SCTP_CHANNELS_LABEL_TOO_LONG 40          /* the label or the protocol is longer than 65,535 bytes */
+#define SCTP_CHANNELS_NO_IDENTIFIER_LEFT 41      /* each identifier of this side has a channel */
+#define SCTP_CHANNELS_IDENTIFIER_TAKEN 42        /* the negotiated identifier has a channel, or is 65,535 */
+#define SCTP_CHANNELS_NO_CHANNEL 43              /* there is no such channel */
+#define SCTP_CHANNELS_NOT_OPEN 44                /* its OPEN was not written yet, or it ends */
+#define SCTP_CHANNELS_IDENTIFIER_PAST_STREAMS 45 /* this side may not send on so many streams */
+#define SCTP_CHANNELS_LOST 46                    /* the association was lost */
+#define SCTP_CHANNELS_OTHER 47                   /* no refusal: a message of another payload type was received */
 
 /* ---- Begin and end ---- */
 
@@ -88,8 +91,11 @@ typedef struct sctp_channels_options {
 
 /* Makes a channel of this side and writes its identifier. Label and protocol are UTF-8 by RFC 8832 section 5.1, and
  * nothing here looks at that. It needs no established association: the channel's OPEN is written, or its stream opened
- * if it is negotiated, by the next sctp_channels_poll_event of an established one, and from then on it can be sent on.
- * Codes, refusals in this order and with nothing changed: DONE, EMPTY_SLOT, LABEL_TOO_LONG, IDENTIFIER_TAKEN,
+ * if it is negotiated, by the next sctp_channels_poll_event of an established one, and from then on it can be sent on;
+ * until then sctp_channels_send answers NOT_OPEN. Identifiers stop at the streams on which this side may send: before
+ * the handshake has agreed on their number, at as many as this side offers (`max_num_outbound_streams`). A channel whose
+ * identifier lies past those that were agreed on SCTP_CHANNELS_EVENT_FAILED tells. Codes, refusals in this order and
+ * with nothing changed: DONE, EMPTY_SLOT, LABEL_TOO_LONG, FAILED, LOST, IDENTIFIER_TAKEN, IDENTIFIER_PAST_STREAMS,
  * NO_IDENTIFIER_LEFT, NO_MEMORY. */
 sctp_assoc_code sctp_channels_open(sctp_channels *slot, sctp_assoc *assoc, const sctp_channels_options *options,
                                    const uint8_t *label, size_t label_length, const uint8_t *protocol,
@@ -150,10 +156,11 @@ sctp_assoc_code sctp_channels_send(sctp_channels *slot, sctp_assoc *assoc, uint1
 
 /* Copies the next message of a channel, whole, to the front of the buffer, and writes its length, which may be 0, and
  * whether it is a text. At NO_ROOM the message stays, and `length` says how long it is. NOTHING also on a channel that
- * is not open yet. Messages that are no application's are dropped on the way; they may be told as NO_ROOM, too, and may
- * have changed the buffer at any code but EMPTY_SLOT and NO_CHANNEL. A second OPEN of the peer ends the channel. Codes:
- * DONE, EMPTY_SLOT, NOTHING, NO_ROOM, NO_CHANNEL, FAILED, NO_MEMORY, and as of sctp_channels_close where a second OPEN
- * came. */
+ * is not open yet. SCTP_CHANNELS_OTHER gives a message, too, by its length: one of a payload type that RFC 8831 does not
+ * have, or that it has deprecated (of 52 and 54 each is a part of a message), which most programs pass over. DCEP
+ * messages are dropped on the way; they may be told as NO_ROOM, too, and may have changed the buffer at any code but
+ * EMPTY_SLOT and NO_CHANNEL. A second OPEN of the peer ends the channel. Codes: DONE, EMPTY_SLOT, NOTHING, NO_ROOM,
+ * OTHER, NO_CHANNEL, FAILED, NO_MEMORY, and as of sctp_channels_close where a second OPEN came. */
 sctp_assoc_code sctp_channels_receive(sctp_channels *slot, sctp_assoc *assoc, uint16_t id, uint8_t *buffer,
                                       size_t room, size_t *length, bool *is_text);
 

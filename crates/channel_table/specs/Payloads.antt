@@ -27,7 +27,7 @@ received_as kinds.String n = Some (receipts.Text n)
 received_as kinds.Binary n = Some (receipts.Binary n)
 received_as kinds.StringEmpty n = Some (receipts.Text 0)
 received_as kinds.BinaryEmpty n = Some (receipts.Binary 0)
-received_as kinds.Unknown n = None
+received_as kinds.Unknown n = Some (receipts.Other n)
 
 -- the greatest message by the attribute max-message-size (RFC 8841 section 6)
 abbrev pub send_limit : Option ℕ → ℕ

@@ -1,5 +1,5 @@
 -- The channels of one side by their identifiers, ascending.
-use Rattle.std.specs.Prelude.{◌≡◌, ◌<◌, ◌%◌, ◌==◌, ◌||◌, ℕ, Bool, true, false, List, is_some}
+use Rattle.std.specs.Prelude.{◌≡◌, ◌<◌, ◌%◌, ◌==◌, ◌||◌, ℕ, nat_lt, if◌then◌else◌, Bool, true, false, List, is_some}
 use Rattle.std.specs.Prelude.{Option, Some, None, Result, Ok, Err}
 use Rattle.std.specs.BTreeMap.{is_at}
 use Rattle.std.specs.Map.{lookup, set_value}
@@ -110,24 +110,31 @@ KeepsOrEnds t u = (id : ℕ) → KeepsOneOrEnds (channel_at t id) (channel_at u 
 abbrev pub AreTakenBelow : List (ℕ × ChannelView) → ℕ → ℕ → Type 0
 AreTakenBelow t parity limit = (other : ℕ) → other < limit → other % 2 ≡ parity → is_taken t other ≡ true
 
--- the least identifier of this parity that no channel has, or none is left; 65535 is none (RFC 8832 section 6)
-abbrev pub IsLeastFreeOf : List (ℕ × ChannelView) → ℕ → Option ℕ → Type 0
-IsLeastFreeOf t parity None = AreTakenBelow t parity 65535
-IsLeastFreeOf t parity (Some id) =
-    (id % 2 ≡ parity) × (id < 65535) × (is_taken t id ≡ false) × AreTakenBelow t parity id
+-- the least identifier of this parity below a number of streams that no channel has, or none is left; 65535 is none, as
+-- there are never more streams (RFC 8832 section 6)
+abbrev pub IsLeastFreeOf : List (ℕ × ChannelView) → ℕ → ℕ → Option ℕ → Type 0
+IsLeastFreeOf t parity streams None = AreTakenBelow t parity streams
+IsLeastFreeOf t parity streams (Some id) =
+    (id % 2 ≡ parity) × (id < streams) × (is_taken t id ≡ false) × AreTakenBelow t parity id
 
-abbrev pub IsLeastFree : List (ℕ × ChannelView) → Role → Option ℕ → Type 0
-IsLeastFree t role free = IsLeastFreeOf t (own_parity role) free
+abbrev pub IsLeastFree : List (ℕ × ChannelView) → Role → ℕ → Option ℕ → Type 0
+IsLeastFree t role streams free = IsLeastFreeOf t (own_parity role) streams free
 
-abbrev pub ChoosesOwn : List (ℕ × ChannelView) → Role → Result ℕ ChannelError → Type 0
-ChoosesOwn t role (Ok id) = IsLeastFree t role (Some id)
-ChoosesOwn t role (Err e) = IsLeastFree t role None × (e ≡ faults.NoIdentifierLeft)
+abbrev pub ChoosesOwn : List (ℕ × ChannelView) → Role → ℕ → Result ℕ ChannelError → Type 0
+ChoosesOwn t role streams (Ok id) = IsLeastFree t role streams (Some id)
+ChoosesOwn t role streams (Err e) = IsLeastFree t role streams None × (e ≡ faults.NoIdentifierLeft)
 
-abbrev pub TakesNegotiated : List (ℕ × ChannelView) → ℕ → Result ℕ ChannelError → Type 0
-TakesNegotiated t id (Ok chosen) = (chosen ≡ id) × ((id == 65535) || is_taken t id ≡ false)
-TakesNegotiated t id (Err e) = ((id == 65535) || is_taken t id ≡ true) × (e ≡ faults.IdentifierTaken)
+-- why a negotiated identifier is refused, if so: it has a channel or is 65535, or there are not so many streams
+abbrev pub negotiated_refusal : List (ℕ × ChannelView) → ℕ → ℕ → Option ChannelError
+negotiated_refusal t streams id =
+    if (id == 65535) || is_taken t id then Some faults.IdentifierTaken else
+    if nat_lt id streams then None else Some faults.IdentifierPastStreams
 
--- the identifier of a new channel
-abbrev pub Chooses : List (ℕ × ChannelView) → Role → Option ℕ → Result ℕ ChannelError → Type 0
-Chooses t role None r = ChoosesOwn t role r
-Chooses t role (Some id) r = TakesNegotiated t id r
+abbrev pub TakesNegotiated : List (ℕ × ChannelView) → ℕ → ℕ → Result ℕ ChannelError → Type 0
+TakesNegotiated t streams id (Ok chosen) = (chosen ≡ id) × (negotiated_refusal t streams id ≡ None)
+TakesNegotiated t streams id (Err e) = negotiated_refusal t streams id ≡ Some e
+
+-- the identifier of a new channel, of so many streams
+abbrev pub Chooses : List (ℕ × ChannelView) → Role → ℕ → Option ℕ → Result ℕ ChannelError → Type 0
+Chooses t role streams None r = ChoosesOwn t role streams r
+Chooses t role streams (Some id) r = TakesNegotiated t streams id r

@@ -19,10 +19,14 @@ pub enum ChannelError {
     NoIdentifierLeft,
     #[error("the identifier has a channel, or is 65535")]
     IdentifierTaken,
+    #[error("this side may not send on so many streams")]
+    IdentifierPastStreams,
     #[error("there is no such channel")]
     NoChannel,
     #[error("the channel is not open")]
     NotOpen,
+    #[error("the association was lost")]
+    Lost,
 }
 
 impl From<Error> for ChannelError {

@@ -12,6 +12,9 @@ pub enum Received {
     Text { length: usize },
     /// So does a binary message.
     Binary { length: usize },
+    /// So does a message of a payload type that RFC 8831 does not have, or that it has deprecated: of 52 and 54 each is
+    /// a part of a message. It is no text, no binary message and none of DCEP.
+    Other { length: usize },
     /// No message is ready.
     Nothing,
     /// The next message has `length` bytes, more than the buffer. It stays to be received.
@@ -40,8 +43,8 @@ pub fn binary_type(is_empty: bool) -> PayloadProtocolIdentifier
     }
 }
 
-/// What an application receives of a message of this payload type and length; None of a DCEP message and of a type that
-/// RFC 8831 does not have. The byte of an empty message is not received.
+/// What an application receives of a message of this payload type and length; None of a DCEP message. The byte of an
+/// empty message is not received.
 pub fn received_as(payload_type: PayloadProtocolIdentifier, length: usize) -> Option<Received>
     ensures { result ≡ received_as payload_type length }
 {
@@ -50,7 +53,8 @@ pub fn received_as(payload_type: PayloadProtocolIdentifier, length: usize) -> Op
         PayloadProtocolIdentifier::Binary => Some(Received::Binary { length }),
         PayloadProtocolIdentifier::StringEmpty => Some(Received::Text { length: 0 }),
         PayloadProtocolIdentifier::BinaryEmpty => Some(Received::Binary { length: 0 }),
-        PayloadProtocolIdentifier::Dcep | PayloadProtocolIdentifier::Unknown => None,
+        PayloadProtocolIdentifier::Unknown => Some(Received::Other { length }),
+        PayloadProtocolIdentifier::Dcep => None,
     }
 }
 

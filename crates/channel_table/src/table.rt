@@ -196,45 +196,57 @@ impl Table {
         }
     }
 
-    /// The identifier of a new channel: the one that was negotiated, or else the least one of this side's that no
-    /// channel has. Goes over the channels of this side whose identifiers are less.
+    /// The identifier of a new channel, of so many streams: the one that was negotiated, or else the least one of this
+    /// side's that no channel has. Goes over the channels of this side whose identifiers are less.
     ///
     /// Refused: `IdentifierTaken` where the negotiated one has a channel, or is 65,535, which no channel's stream has (RFC
-    /// 8832 section 6); `NoIdentifierLeft`.
-    pub fn identifier(&self, role: Role, kind: &ChannelKind) -> Result<StreamId, ChannelError>
-        ensures { Chooses self.now role kind.now.negotiated result }
+    /// 8832 section 6); `IdentifierPastStreams` where there are not so many streams; `NoIdentifierLeft`.
+    pub fn identifier(
+        &self,
+        role: Role,
+        streams: u16,
+        kind: &ChannelKind,
+    ) -> Result<StreamId, ChannelError>
+        ensures { Chooses self.now role streams kind.now.negotiated result }
     {
         match kind.negotiated {
-            Some(id) => self.negotiated(id),
-            None => self.own(role),
+            Some(id) => self.negotiated(streams, id),
+            None => self.own(role, streams),
         }
     }
 
-    fn negotiated(&self, id: StreamId) -> Result<StreamId, ChannelError>
-        ensures { TakesNegotiated self.now id result }
+    fn negotiated(&self, streams: u16, id: StreamId) -> Result<StreamId, ChannelError>
+        ensures { TakesNegotiated self.now streams id result }
     {
         if id == StreamId::MAX || self.contains(id) {
             return Err(ChannelError::IdentifierTaken);
         }
-        Ok(id)
+        if id < streams {
+            Ok(id)
+        } else {
+            Err(ChannelError::IdentifierPastStreams)
+        }
     }
 
-    fn own(&self, role: Role) -> Result<StreamId, ChannelError>
-        ensures { ChoosesOwn self.now role result }
+    fn own(&self, role: Role, streams: u16) -> Result<StreamId, ChannelError>
+        ensures { ChoosesOwn self.now role streams result }
     {
-        match self.least_free(role) {
+        match self.least_free(role, streams) {
             Some(id) => Ok(id),
             None => Err(ChannelError::NoIdentifierLeft),
         }
     }
 
-    // The least identifier of this side's that no channel has.
-    fn least_free(&self, role: Role) -> Option<StreamId>
-        ensures { IsLeastFree self.now role result }
+    // The least identifier of this side's, of so many streams, that no channel has.
+    fn least_free(&self, role: Role, streams: u16) -> Option<StreamId>
+        ensures { IsLeastFree self.now role streams result }
     {
         let parity = role.parity();
         for index in 0..32_768 - parity {
             let id = 2 * index + parity;
+            if id >= streams {
+                return None;
+            }
             if !self.contains(id) {
                 return Some(id);
             }

@@ -1,2 +1,3 @@
 mod Dropped
 mod Placed
+mod Unannounced

@@ -1,17 +1,20 @@
 -- What is done for a channel when something came for it.
 use Rattle.std.specs.Prelude.{◌≡◌, ◌≢◌, ◌⊎◌, ℕ, Bool, true, false, not, List, [], Some, None}
+use Rattle.std.specs.Prelude.{Result, Ok, Err}
 use Rattle.sctp_wire_types.specs.declared.error.Error.{Error}
 use Rattle.sctp_wire_types.specs.declared.error.Error.TheVariants.{ErrNoMemory, ErrAssociationFailed}
+use Rattle.sctp_wire_types.specs.declared.error.Error.TheVariants.{ErrStreamClosed, ErrStreamNotExisted}
+use Rattle.sctp_wire_types.specs.declared.error.Error.TheVariants.{ErrStreamResetPending}
 use Rattle.sctp_wire_types.specs.declared.ids.PayloadProtocolIdentifier.TheVariants as kinds
 use Rattle.sctp_streams.specs.Stream.{params_of}
 use Rattle.sctp_streams.specs.declared.setting.Setting.TheVariants as settings
-use Rattle.sctp_assoc.specs.Calls.{adjusted, opened, written}
+use Rattle.sctp_assoc.specs.Calls.{RefusesOrLacksMemory, adjusted, opened, refusal_to_write, written}
 use Rattle.sctp_driver.specs.Driving.{Driving, with_association}
 use Rattle.dcep_messages.specs.Codec.{ack_bytes, ordered_in, persistence_in}
 use Rattle.channel_table.specs.declared.channel.Stage.TheVariants as stages
 use Rattle.channel_table.specs.Channels.{ChannelView}
 use Rattle.channel_table.specs.Kinds.{reliability_type, reliability_value}
-use Rattle.channel_table.specs.Tables.{Keeps, KeepsOrEnds, has_ended, is_taken, stage_at}
+use Rattle.channel_table.specs.Tables.{Keeps, KeepsOrEnds, channel_at, has_ended, is_taken, stage_at}
 use Rattle.sctp_channels.specs.declared.event.ChannelEvent.{ChannelEvent}
 use Rattle.sctp_channels.specs.declared.event.ChannelEvent.TheVariants as told
 use Rattle.sctp_channels.specs.declared.looking.Looked.{Looked}
@@ -50,6 +53,57 @@ abbrev pub may_pass : Error → Bool
 may_pass ErrNoMemory = true
 may_pass ErrAssociationFailed = true
 may_pass _ = false
+
+-- a stream is gone or ends at this side, which is told by itself
+abbrev pub names_stream : Error → Bool
+names_stream ErrStreamNotExisted = true
+names_stream ErrStreamClosed = true
+names_stream ErrStreamResetPending = true
+names_stream _ = false
+
+-- a channel goes on by what was done at its stream
+abbrev pub goes_on : Result (Unit {0}) Error → Bool
+goes_on (Ok answer) = true
+goes_on (Err error) = names_stream error
+
+-- why the ACK was not written, with nothing changed; or it was, and its stream refused the rest
+abbrev pub Unacknowledged : Driving → ℕ → Error → Driving → Type 0
+Unacknowledged d id error e =
+    (RefusesOrLacksMemory {T = ℕ} (Err error) (refusal_to_write d.association id 1) × (e ≡ d))
+    ⊎ (e ≡ with_dcep d id ack_bytes)
+
+-- The peer's channel is announced: its ACK was written, or its stream is gone or ends, so that none can be.
+abbrev pub Announces : Driving → ℕ → ChannelView → Driving → Type 0
+Announces d id c e =
+    (e ≡ acknowledged d id c) ⊎ ((e ≡ with_dcep d id ack_bytes)
+    ⊎ ((error : Error) × (names_stream error ≡ true) × (refusal_to_write d.association id 1 ≡ Some error) × (e ≡ d)))
+
+-- where this tells that a channel of these is announced, it was acknowledged so
+abbrev pub AcksBy : ChannelEvent → Driving → List (ℕ × ChannelView) → Driving → Type 0
+AcksBy (told.Announced id) d t e = (c : ChannelView) × (channel_at t id ≡ Some c) × Announces d id c e
+AcksBy _ d t e = Unit {0}
+
+-- the same of a look
+abbrev pub Acks : Driving → List (ℕ × ChannelView) → Looked → Driving → Type 0
+Acks d t (looks.Tells event) e = AcksBy event d t e
+Acks d t (looks.Ends event) e = AcksBy event d t e
+Acks d t _ e = Unit {0}
+
+-- A channel that is told as announced was acknowledged just before: nothing was done to the driver since.
+abbrev pub IsAcknowledged : ChannelEvent → List (ℕ × ChannelView) → Driving → Type 0
+IsAcknowledged event u e =
+    (d : Driving) × (t : List (ℕ × ChannelView)) × KeepsOrEnds t u × AcksBy event d t e
+
+-- no channel is told as announced
+abbrev pub IsNoBeginning : ChannelEvent → Type 0
+IsNoBeginning (told.Announced id) = ⊥
+IsNoBeginning _ = Unit {0}
+
+-- the same of a look
+abbrev pub AnnouncesNone : Looked → Type 0
+AnnouncesNone (looks.Tells event) = IsNoBeginning event
+AnnouncesNone (looks.Ends event) = IsNoBeginning event
+AnnouncesNone _ = Unit {0}
 
 -- what an event tells is so
 abbrev pub IsTold : ChannelEvent → List (ℕ × ChannelView) → Type 0

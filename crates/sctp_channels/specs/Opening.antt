@@ -38,11 +38,23 @@ with_opened established c id message negotiated = placed established c id (opene
 abbrev pub established : Driving → Bool
 established d = is_established d.association.state
 
--- why a channel is not opened: its words are too long, no identifier serves, or memory is refused
-abbrev pub RefusesOpen : ChannelsView → ChannelKind → List ℕ → List ℕ → ChannelError → Type 0
-RefusesOpen c kind label protocol e =
+-- on how many streams this side may send: as many as both sides agreed on, and before that as many as this one offers
+abbrev pub outbound : Driving → ℕ
+outbound d = d.association.handshake.num_outbound_streams
+
+-- why an association takes no more channels, if so: it failed, or was lost
+abbrev pub end_refusal : Driving → Option ChannelError
+end_refusal d =
+    if d.association.failed then Some (faults.Beneath errors.ErrAssociationFailed) else
+    if d.association.lost then Some faults.Lost else None
+
+-- why a channel is not opened: its words are too long, the association is over, no identifier serves, or memory is
+-- refused
+abbrev pub RefusesOpen : ChannelsView → Driving → ChannelKind → List ℕ → List ℕ → ChannelError → Type 0
+RefusesOpen c d kind label protocol e =
     ((is_too_long label protocol ≡ true) × (e ≡ faults.LabelTooLong))
-    ⊎ (Chooses c.table c.role kind.negotiated (Err e) ⊎ (e ≡ faults.Beneath errors.ErrNoMemory))
+    ⊎ ((end_refusal d ≡ Some e)
+    ⊎ (Chooses c.table c.role (outbound d) kind.negotiated (Err e) ⊎ (e ≡ faults.Beneath errors.ErrNoMemory)))
 
 -- a stream of a channel is reset, or the driver refuses that
 abbrev pub Resets : ℕ → Driving → ChannelsView → Result (Unit {0}) ChannelError → Driving → ChannelsView → Type 0

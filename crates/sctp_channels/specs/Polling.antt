@@ -1,5 +1,5 @@
 -- Events of a driver, and what they say of channels.
-use Rattle.std.specs.Prelude.{◌≡◌, ◌≢◌, ℕ, if◌then◌else◌, List, [], ◌∷◌, ◌++◌, Option, Some, None}
+use Rattle.std.specs.Prelude.{◌≡◌, ◌≢◌, ℕ, if◌then◌else◌, List, [], ◌∷◌, ◌++◌, Option, Some, None, Bool, true, false}
 use Rattle.std.specs.BTreeMap.{is_at}
 use Rattle.std.specs.Map.{remove_entry}
 use Rattle.std.specs.Ordering.{nat_cmp}
@@ -10,6 +10,7 @@ use Rattle.sctp_streams.specs.declared.event.Event.TheVariants as events
 use Rattle.sctp_assoc.specs.Calls.{event_polled}
 use Rattle.sctp_assoc.specs.Shown.{Shown}
 use Rattle.sctp_driver.specs.Driving.{Driving}
+use Rattle.channel_table.specs.declared.channel.Stage.{Stage}
 use Rattle.channel_table.specs.declared.channel.Stage.TheVariants as stages
 use Rattle.channel_table.specs.Channels.{ChannelView}
 use Rattle.channel_table.specs.Tables.{Keeps, KeepsOrEnds, at_stage, is_taken, stage_at}
@@ -18,7 +19,7 @@ use Rattle.sctp_channels.specs.declared.event.ChannelEvent.TheVariants as told
 use Rattle.sctp_channels.specs.declared.polling.Turn.{Turn}
 use Rattle.sctp_channels.specs.declared.polling.Turn.TheVariants as turns
 use Rattle.sctp_channels.specs.Channels.{ChannelsView}
-use Rattle.sctp_channels.specs.Looking.{IsTold}
+use Rattle.sctp_channels.specs.Looking.{AcksBy, IsNoBeginning, IsTold}
 
 -- this is told where there is such a channel, and then the channels are so
 abbrev pub told_if_there : List (ℕ × ChannelView) → ℕ → ChannelEvent → List (ℕ × ChannelView)
@@ -53,6 +54,26 @@ abbrev pub Turns : List (ℕ × ChannelView) → Turn → List (ℕ × ChannelVi
 Turns t turns.Silent u = Keeps t u
 Turns t turns.Idle u = u ≡ t
 Turns t (turns.Tells event) u = KeepsOrEnds t u × IsTold event u
+
+-- where a turn tells that a channel of these is announced, it was acknowledged so
+abbrev pub AcksTurn : Driving → List (ℕ × ChannelView) → Turn → Driving → Type 0
+AcksTurn d t (turns.Tells event) e = AcksBy event d t e
+AcksTurn d t _ e = Unit {0}
+
+-- a turn does not tell that a channel is announced
+abbrev pub TellsNoBeginning : Turn → Type 0
+TellsNoBeginning (turns.Tells event) = IsNoBeginning event
+TellsNoBeginning _ = Unit {0}
+
+abbrev pub is_early_at : Option Stage → Bool
+is_early_at None = true
+is_early_at (Some stages.Waiting) = true
+is_early_at (Some _) = false
+
+-- before the association is established no channel begins, neither of this side nor of the peer
+abbrev pub is_early : Bool → List (ℕ × ChannelView) → ℕ → Bool
+is_early true t id = false
+is_early false t id = is_early_at (stage_at t id)
 
 -- A channel that this tells as closed, and that is gone: its stream is to be looked at next. What the peer sent on it
 -- after it had ended its half, perhaps another OPEN, was not looked at while the channel was still there.

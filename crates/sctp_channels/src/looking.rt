@@ -1,10 +1,14 @@
 // What is to be done for one channel, by how far it came.
-ghost use Rattle.std.specs.Prelude.{◌≡◌, ◌⊎◌, false, IfErr, IfOk, not, OnErr, OnOk, Some, None, Err, true};
+ghost use Rattle.std.specs.Prelude.{◌≡◌, ◌⊎◌, false, IfErr, IfOk, length, not, OnErr, OnOk, Some, None, Err, true};
+ghost use Rattle.sctp_assoc.specs.Calls.{RefusesOrLacksMemory, refusal_to_write};
 ghost use Rattle.channel_table.specs.declared.channel.Stage.TheVariants as stages;
 ghost use Rattle.dcep_messages.specs.Codec.{ordered_in};
+ghost use Rattle.std.specs.BTreeMap.{is_at};
+ghost use Rattle.std.specs.Map.{remove_entry};
+ghost use Rattle.std.specs.Ordering.{nat_cmp};
 ghost use Rattle.channel_table.specs.Tables.{stage_at};
-ghost use Rattle.sctp_channels.specs.Looking.{Begins, Looks, acknowledged, begun, may_pass};
-ghost use Rattle.sctp_channels.specs.Looking.{with_dcep, with_sending, with_stream};
+ghost use Rattle.sctp_channels.specs.Looking.{Acks, AnnouncesNone, Begins, Looks, Unacknowledged, acknowledged};
+ghost use Rattle.sctp_channels.specs.Looking.{begun, goes_on, may_pass, names_stream, with_dcep, with_sending, with_stream};
 
 use crate::event::ChannelEvent;
 use crate::reading::{First, is_dcep, may_pass, read, read_first};
@@ -27,6 +31,7 @@ pub(crate) enum Looked {
 }
 
 /// Does what is to be done for the channel of a stream, of which something came.
+#[tactic(auto, using(crate::proofs::Unannounced::acks_unannounced))]
 pub(crate) fn look(
     alloc: Global,
     table: &mut Table,
@@ -34,6 +39,7 @@ pub(crate) fn look(
     id: StreamId,
 ) -> Result<Looked, Error>
     ensures looks { IfOk result (λ looked. Looks table.old looked table.new) }
+    ensures acks { IfOk result (λ looked. Acks driver.old table.old looked driver.new) }
     ensures err { OnErr result (table.new ≡ table.old) }
     ensures passes { IfErr result (λ error. may_pass error ≡ true) }
 {
@@ -56,6 +62,7 @@ fn meet(
 ) -> Result<Looked, Error>
     requires { stage_at table.old id ≡ None }
     ensures looks { IfOk result (λ looked. Looks table.old looked table.new) }
+    ensures unannounced { IfOk result (λ looked. AnnouncesNone looked) }
     ensures err { OnErr result (table.new ≡ table.old) }
     ensures passes { IfErr result (λ error. may_pass error ≡ true) }
 {
@@ -77,14 +84,19 @@ fn refuse(driver: &mut Driver, id: StreamId) -> Looked
     Looked::Ends(ChannelEvent::Failed(id))
 }
 
-// A channel of this side: its OPEN is written, or its stream opened where it is negotiated. It is to be looked at once
-// for itself, so that where it cannot be begun, what came on its stream meanwhile is still looked at behind it.
+// A channel of this side: its OPEN is written, or its stream opened where it is negotiated, if its stream is one of those
+// that both sides agreed on. It is to be looked at once for itself, so that where it cannot be begun, what came on its
+// stream meanwhile is still looked at behind it.
 fn begin(table: &mut Table, driver: &mut Driver, id: StreamId) -> Result<Looked, Error>
     requires { stage_at table.old id ≡ Some stages.Waiting }
     ensures looks { IfOk result (λ looked. Looks table.old looked table.new) }
+    ensures unannounced { IfOk result (λ looked. AnnouncesNone looked) }
     ensures err { OnErr result (table.new ≡ table.old) }
     ensures passes { IfErr result (λ error. may_pass error ≡ true) }
 {
+    if id >= driver.outbound_streams() {
+        return Ok(fail(table, id));
+    }
     let Some(channel) = table.get(id) else {
         return Ok(Looked::Done);
     };
@@ -95,15 +107,25 @@ fn begin(table: &mut Table, driver: &mut Driver, id: StreamId) -> Result<Looked,
             if may_pass(error) {
                 return Err(error);
             }
-            table.remove(id);
-            Ok(Looked::Ends(ChannelEvent::Failed(id)))
+            Ok(fail(table, id))
         }
     }
 }
 
+// A channel that is not begun is gone.
+fn fail(table: &mut Table, id: StreamId) -> Looked
+    ensures exact { table.new ≡ remove_entry (is_at (nat_cmp id)) table.old }
+    ensures looked { result ≡ Looked.Ends (ChannelEvent.Failed id) }
+    ensures looks { Looks table.old result table.new }
+{
+    table.remove(id);
+    Looked::Ends(ChannelEvent::Failed(id))
+}
+
 fn mark_begun(table: &mut Table, id: StreamId, negotiated: bool) -> Looked
     requires { stage_at table.old id ≡ Some stages.Waiting }
-    ensures { Looks table.old result table.new }
+    ensures looks { Looks table.old result table.new }
+    ensures unannounced { AnnouncesNone result }
 {
     if negotiated {
         table.mark_open(id);
@@ -142,13 +164,31 @@ fn open_stream(driver: &mut Driver, id: StreamId) -> Result<(), Error>
     }
 }
 
-// A refusal that says that the stream is gone or ends is none for its channel, whose end is told by itself.
-fn pass(answer: Result<(), Error>) -> Result<(), Error>
-    ensures { IfErr result (λ error. (may_pass error ≡ true) × (answer ≡ Err error)) }
+// Whether a refusal says that a stream is gone or ends at this side, which is told by itself.
+fn names_stream(error: Error) -> bool
+    ensures { result ≡ names_stream error }
+{
+    matches!(
+        error,
+        Error::ErrStreamNotExisted | Error::ErrStreamClosed | Error::ErrStreamResetPending
+    )
+}
+
+// Whether a channel goes on by what was done at its stream: also where the stream is gone or ends. Where it is refused
+// for another reason, as in an association that ends, the channel stays as it is.
+fn goes_on(answer: Result<(), Error>) -> Result<bool, Error>
+    ensures ok { IfOk result (λ goes. goes ≡ goes_on answer) }
+    ensures err { IfErr result (λ error. (may_pass error ≡ true) × (answer ≡ Err error)) }
 {
     match answer {
-        Ok(()) => Ok(()),
-        Err(error) => { if may_pass(error) { Err(error) } else { Ok(()) } }
+        Ok(()) => Ok(true),
+        Err(error) => {
+            if may_pass(error) {
+                Err(error)
+            } else {
+                Ok(names_stream(error))
+            }
+        }
     }
 }
 
@@ -156,6 +196,7 @@ fn pass(answer: Result<(), Error>) -> Result<(), Error>
 fn await_answer(table: &mut Table, driver: &mut Driver, id: StreamId) -> Result<Looked, Error>
     requires { stage_at table.old id ≡ Some stages.Begun }
     ensures looks { IfOk result (λ looked. Looks table.old looked table.new) }
+    ensures unannounced { IfOk result (λ looked. AnnouncesNone looked) }
     ensures err { OnErr result (table.new ≡ table.old) }
     ensures passes { IfErr result (λ error. may_pass error ≡ true) }
 {
@@ -185,6 +226,7 @@ fn answer_dcep(
 ) -> Result<Looked, Error>
     requires { stage_at table.old id ≡ Some stages.Begun }
     ensures looks { IfOk result (λ looked. Looks table.old looked table.new) }
+    ensures unannounced { IfOk result (λ looked. AnnouncesNone looked) }
     ensures err { OnErr result (table.new ≡ table.old) }
     ensures passes { IfErr result (λ error. may_pass error ≡ true) }
 {
@@ -199,13 +241,16 @@ fn answer_dcep(
 fn confirm(table: &mut Table, driver: &mut Driver, id: StreamId) -> Result<Looked, Error>
     requires { stage_at table.old id ≡ Some stages.Begun }
     ensures looks { IfOk result (λ looked. Looks table.old looked table.new) }
+    ensures unannounced { IfOk result (λ looked. AnnouncesNone looked) }
     ensures err { OnErr result (table.new ≡ table.old) }
     ensures passes { IfErr result (λ error. may_pass error ≡ true) }
 {
     let Some(channel) = table.get(id) else {
         return Ok(Looked::Done);
     };
-    pass(set_sending(channel, driver, id))?;
+    if !goes_on(set_sending(channel, driver, id))? {
+        return Ok(Looked::Done);
+    }
     table.mark_open(id);
     Ok(Looked::Tells(ChannelEvent::Opened(id)))
 }
@@ -219,34 +264,41 @@ fn confirm_by(
 ) -> Result<Looked, Error>
     requires { stage_at table.old id ≡ Some stages.Begun }
     ensures looks { IfOk result (λ looked. Looks table.old looked table.new) }
+    ensures unannounced { IfOk result (λ looked. AnnouncesNone looked) }
     ensures err { OnErr result (table.new ≡ table.old) }
     ensures passes { IfErr result (λ error. may_pass error ≡ true) }
 {
     let Some(channel) = table.get(id) else {
         return Ok(Looked::Done);
     };
-    pass(set_sending(channel, driver, id))?;
+    if !goes_on(set_sending(channel, driver, id))? {
+        return Ok(Looked::Done);
+    }
     table.mark_open_by(id, message);
     Ok(Looked::Tells(ChannelEvent::Opened(id)))
 }
 
-// A channel of the peer: its ACK is written.
+// A channel of the peer: its ACK is written. In an association that ends none can be, and then it is not announced.
 fn acknowledge(table: &mut Table, driver: &mut Driver, id: StreamId) -> Result<Looked, Error>
     requires { stage_at table.old id ≡ Some stages.Announcing }
     ensures looks { IfOk result (λ looked. Looks table.old looked table.new) }
+    ensures acks { IfOk result (λ looked. Acks driver.old table.old looked driver.new) }
     ensures err { OnErr result (table.new ≡ table.old) }
     ensures passes { IfErr result (λ error. may_pass error ≡ true) }
 {
     let Some(channel) = table.get(id) else {
         return Ok(Looked::Done);
     };
-    pass(write_ack(channel, driver, id))?;
+    if !goes_on(write_ack(channel, driver, id))? {
+        return Ok(Looked::Done);
+    }
     table.mark_open(id);
     Ok(Looked::Tells(ChannelEvent::Announced(id)))
 }
 
 fn write_ack(channel: &Channel, driver: &mut Driver, id: StreamId) -> Result<(), Error>
-    ensures { OnOk result (driver.new ≡ acknowledged driver.old id channel.now) }
+    ensures ok { OnOk result (driver.new ≡ acknowledged driver.old id channel.now) }
+    ensures err { IfErr result (λ error. Unacknowledged driver.old id error driver.new) }
 {
     write_dcep(driver, id, &ACK_MESSAGE)?;
     set_sending(channel, driver, id)
@@ -280,6 +332,7 @@ fn set_in_order(channel: &Channel, driver: &mut Driver, id: StreamId) -> Result<
 }
 
 fn write_dcep(driver: &mut Driver, id: StreamId, message: &[u8]) -> Result<(), Error>
+    ensures refused { RefusesOrLacksMemory result (refusal_to_write driver.old.association id (length message.now)) }
     ensures ok { OnOk result (driver.new ≡ with_dcep driver.old id message.now) }
     ensures err { OnErr result (driver.new ≡ driver.old) }
 {

@@ -1,9 +1,9 @@
 // Channels are opened and closed.
-ghost use Rattle.std.specs.Prelude.{◌≡◌, Err, false, IfErr, IfOk, is_some, Ok, OnErr, OnOk, Some, true};
+ghost use Rattle.std.specs.Prelude.{◌≡◌, Err, false, IfErr, IfOk, IfSome, is_some, None, Ok, OnErr, OnOk, Some, true};
 ghost use Rattle.dcep_messages.specs.Codec.{is_too_long};
 ghost use Rattle.channel_table.specs.Tables.{Chooses};
-ghost use Rattle.sctp_channels.specs.Opening.{Closes, RefusesOpen, Resets, established, open_of, placed};
-ghost use Rattle.sctp_channels.specs.Opening.{with_opened};
+ghost use Rattle.sctp_channels.specs.Opening.{Closes, RefusesOpen, Resets, end_refusal, established, open_of, outbound};
+ghost use Rattle.sctp_channels.specs.Opening.{placed, with_opened};
 
 use crate::channels::Channels;
 use channel_table::{Channel, ChannelError, ChannelKind, OpenMessage, Stage, is_too_long};
@@ -15,9 +15,13 @@ impl Channels {
     /// this side's that no channel has. Its OPEN is written, or its stream opened where it is negotiated, by the next
     /// `poll_event` of an established association; from then on it can be sent on. The driver stays as it is.
     ///
+    /// Identifiers stop at the streams on which this side may send: before the handshake has agreed on their number, at
+    /// as many as this side offers. A channel whose identifier lies past those that were agreed on `Failed` tells.
+    ///
     /// Refused, in this order with nothing changed: `LabelTooLong` where label or protocol is longer than 65,535 bytes;
-    /// `IdentifierTaken` where the negotiated identifier has a channel, or is 65,535; `NoIdentifierLeft`;
-    /// `Beneath(ErrNoMemory)`.
+    /// `Beneath(ErrAssociationFailed)`; `Lost` where the association was lost; `IdentifierTaken` where the negotiated
+    /// identifier has a channel, or is 65,535; `IdentifierPastStreams` where this side may not send on so many streams;
+    /// `NoIdentifierLeft`; `Beneath(ErrNoMemory)`.
     pub fn open(
         &mut self,
         driver: &Driver,
@@ -26,16 +30,23 @@ impl Channels {
         protocol: &[u8],
     ) -> Result<StreamId, ChannelError>
         ensures long { is_too_long label.now protocol.now ≡ true → result ≡ Err ChannelError.LabelTooLong }
-        ensures chosen { IfOk result (λ id. Chooses self.old.table self.old.role kind.now.negotiated (Ok id)) }
+        ensures chosen { IfOk result (λ id. Chooses self.old.table self.old.role (outbound driver.now)
+            kind.now.negotiated (Ok id)) }
+        ensures lives { IfOk result (λ id. end_refusal driver.now ≡ None) }
+        ensures ended { IfSome (end_refusal driver.now) (λ e. is_too_long label.now protocol.now ≡ false
+            → result ≡ Err e) }
         ensures opened { IfOk result (λ id. self.new ≡ with_opened (established driver.now) self.old id
             (open_of kind.now label.now protocol.now) (is_some kind.now.negotiated)) }
-        ensures refused { IfErr result (λ e. RefusesOpen self.old kind.now label.now protocol.now e) }
+        ensures refused { IfErr result (λ e. RefusesOpen self.old driver.now kind.now label.now protocol.now e) }
         ensures err { OnErr result (self.new ≡ self.old) }
     {
         if is_too_long(label, protocol) {
             return Err(ChannelError::LabelTooLong);
         }
-        let id = self.table.identifier(self.role, kind)?;
+        check_ended(driver)?;
+        let id = self
+            .table
+            .identifier(self.role, driver.outbound_streams(), kind)?;
         let open_message = self.message_of(kind, label, protocol)?;
         let channel = Channel::opened(open_message, kind.negotiated.is_some());
         self.place(driver.is_established(), id, channel)?;
@@ -123,4 +134,18 @@ impl Channels {
             Err(error) => Err(ChannelError::Beneath(error)),
         }
     }
+}
+
+// Refuses what `open` does of an association that is over.
+fn check_ended(driver: &Driver) -> Result<(), ChannelError>
+    ensures ok { OnOk result (end_refusal driver.now ≡ None) }
+    ensures err { IfErr result (λ e. end_refusal driver.now ≡ Some e) }
+{
+    if driver.is_failed() {
+        return Err(ChannelError::Beneath(Error::ErrAssociationFailed));
+    }
+    if driver.is_drained() {
+        return Err(ChannelError::Lost);
+    }
+    Ok(())
 }

@@ -1,5 +1,5 @@
 // Events of the driver, and what they say of channels.
-ghost use Rattle.std.specs.Prelude.{◌≡◌, ◌≢◌, ◌⊎◌, ◌<◌, [], IfErr, IfOk, IfSome, None, OnErr, Ok, length, true};
+ghost use Rattle.std.specs.Prelude.{◌≡◌, ◌≢◌, ◌⊎◌, ◌<◌, [], ◌∷◌, ◌++◌, IfErr, IfOk, IfSome, None, OnErr, OnOk, Ok, length, true};
 ghost use Rattle.std.specs.VecDeque.{deque_capacity, deque_len};
 ghost use Rattle.std.specs.BTreeMap.{is_at};
 ghost use Rattle.std.specs.Map.{remove_entry};
@@ -8,14 +8,16 @@ ghost use Rattle.channel_table.specs.declared.channel.Stage.TheVariants as stage
 ghost use Rattle.channel_table.specs.Tables.{KeepsOrEnds, at_stage};
 ghost use Rattle.sctp_streams.specs.declared.event.Event.TheVariants as events;
 ghost use Rattle.sctp_wire_types.specs.declared.event.StreamEvent.TheVariants as stream_events;
-ghost use Rattle.sctp_channels.specs.Looking.{IsTold, may_pass};
-ghost use Rattle.sctp_channels.specs.Polling.{DueAfter, EndsAs, EndsBy, EndsNone, IsIdle, LooksAgain, Meets, Turns};
-ghost use Rattle.sctp_channels.specs.Polling.{TurnsAgain, event_met, stream_event_met, told_if_there};
+ghost use Rattle.sctp_channels.specs.Looking.{IsAcknowledged, IsNoBeginning, IsTold, may_pass};
+ghost use Rattle.sctp_channels.specs.Polling.{AcksTurn, DueAfter, EndsAs, EndsBy, EndsNone, IsIdle, LooksAgain, Meets};
+ghost use Rattle.sctp_channels.specs.Opening.{established};
+ghost use Rattle.sctp_channels.specs.Polling.{TellsNoBeginning, Turns, TurnsAgain, event_met, is_early};
+ghost use Rattle.sctp_channels.specs.Polling.{stream_event_met, told_if_there};
 
 use crate::channels::Channels;
 use crate::event::ChannelEvent;
 use crate::looking::{Looked, look};
-use channel_table::{ChannelError, Table};
+use channel_table::{ChannelError, Stage, Table};
 use sctp_driver::{Driver, Error, Event, StreamEvent};
 use sctp_wire_types::StreamId;
 use std::alloc::Global;
@@ -33,14 +35,16 @@ pub(crate) enum Turn {
 impl Channels {
     /// The next event of the channels; None where none waits. It takes the events of the driver, in place of the
     /// driver's `poll_event` and `accept_stream`. On the way it writes the OPENs that wait, if the association is
-    /// established, reads the first messages of streams, and writes ACKs. Behind `Closed` it looks at the stream of a
-    /// channel that is gone once more, since the peer may have opened another one on it meanwhile.
+    /// established, reads the first messages of streams, and writes ACKs; what comes for a new channel before it is
+    /// established waits in the driver. Behind `Closed` it looks at the stream of a channel that is gone once more, since
+    /// the peer may have opened another one on it meanwhile.
     ///
     /// Errors: `Beneath(ErrNoMemory)`, after which it can be called again and goes on where it was, unless the
     /// association failed; `Beneath(ErrAssociationFailed)`.
     pub fn poll_event(&mut self, driver: &mut Driver) -> Result<Option<ChannelEvent>, ChannelError>
         ensures told { IfOk result (λ told. IfSome told (λ event. IsTold event self.new.table)) }
         ensures again { IfOk result (λ told. IfSome told (λ event. LooksAgain event self.new)) }
+        ensures acks { IfOk result (λ told. IfSome told (λ event. IsAcknowledged event self.new.table driver.new)) }
         ensures keeps { KeepsOrEnds self.old.table self.new.table }
         ensures all { result ≡ Ok None → self.new.due ≡ [] }
         ensures idle { result ≡ Ok None → IsIdle driver.new }
@@ -61,6 +65,7 @@ impl Channels {
 
     fn turn(&mut self, driver: &mut Driver) -> Result<Turn, Error>
         ensures turns { IfOk result (λ turn. Turns self.old.table turn self.new.table) }
+        ensures acks { IfOk result (λ turn. AcksTurn driver.old self.old.table turn driver.new) }
         ensures again { IfOk result (λ turn. TurnsAgain turn self.new) }
         ensures err { OnErr result (self.new.table ≡ self.old.table) }
         ensures all { result ≡ Ok Turn.Idle → self.new.due ≡ [] }
@@ -76,12 +81,17 @@ impl Channels {
 
     fn look_at(&mut self, driver: &mut Driver, id: StreamId) -> Result<Turn, Error>
         ensures turns { IfOk result (λ turn. Turns self.old.table turn self.new.table) }
+        ensures acks { IfOk result (λ turn. AcksTurn driver.old self.old.table turn driver.new) }
         ensures again { IfOk result (λ turn. TurnsAgain turn self.new) }
         ensures err { OnErr result (self.new.table ≡ self.old.table) }
         ensures busy { result ≢ Ok Turn.Idle }
+        ensures waits { is_early (established driver.old) self.old.table id ≡ true → driver.new ≡ driver.old }
         ensures role { self.new.role ≡ self.old.role }
         ensures passes { IfErr result (λ error. may_pass error ≡ true) }
     {
+        if self.is_early(driver.is_established(), id) {
+            return self.postpone(id);
+        }
         match look(self.alloc, &mut self.table, driver, id)? {
             Looked::Again => Ok(Turn::Silent),
             Looked::Tells(event) => Ok(Turn::Tells(event)),
@@ -96,9 +106,40 @@ impl Channels {
         }
     }
 
+    // Whether a stream is to be looked at once the association is established: its channel is to be begun then, or it
+    // has none, and what came on it may be an OPEN, whose ACK cannot be written yet.
+    fn is_early(&self, is_established: bool, id: StreamId) -> bool
+        ensures { result ≡ is_early is_established self.now.table id }
+    {
+        if is_established {
+            return false;
+        }
+        match self.table.stage(id) {
+            None | Some(Stage::Waiting) => true,
+            Some(_) => false,
+        }
+    }
+
+    // The stream that is to be looked at next is to wait until the association is established.
+    fn postpone(&mut self, id: StreamId) -> Result<Turn, Error>
+        ensures waits { OnOk result (self.new.waiting ≡ self.old.waiting ++ id ∷ []) }
+        ensures silent { IfOk result (λ turn. turn ≡ Turn.Silent) }
+        ensures table { self.new.table ≡ self.old.table }
+        ensures role { self.new.role ≡ self.old.role }
+        ensures err { OnErr result (self.new ≡ self.old) }
+        ensures passes { IfErr result (λ error. may_pass error ≡ true) }
+    {
+        self.waiting.reserve(1)?;
+        self.due.pop_front();
+        self.waiting.push_back_reserved(id);
+        Ok(Turn::Silent)
+    }
+
+    #[tactic(auto, using(crate::proofs::Unannounced::acks_none))]
     fn take_event(&mut self, driver: &mut Driver) -> Result<Turn, Error>
         requires { self.old.due ≡ [] }
         ensures turns { IfOk result (λ turn. Turns self.old.table turn self.new.table) }
+        ensures acks { IfOk result (λ turn. AcksTurn driver.old self.old.table turn driver.new) }
         ensures again { IfOk result (λ turn. TurnsAgain turn self.new) }
         ensures err { OnErr result (self.new.table ≡ self.old.table) }
         ensures all { result ≡ Ok Turn.Idle → self.new.due ≡ [] }
@@ -135,6 +176,7 @@ fn meet_event(
 ) -> Turn
     requires { deque_len due.old < deque_capacity due.old }
     ensures turns { Turns table.old result table.new }
+    ensures begins_none { TellsNoBeginning result }
     ensures due { DueAfter event result waiting.old.items due.old.items due.new.items }
     ensures ends { EndsBy event result table.new }
     ensures busy { result ≢ Turn.Idle }
@@ -175,6 +217,7 @@ fn meet_event(
 fn told_of(table: &mut Table, event: Event) -> Option<ChannelEvent>
     ensures exact { event_met table.old event ≡ (table.new, result) }
     ensures meets { Meets table.old result table.new }
+    ensures begins_none { IfSome result (λ event. IsNoBeginning event) }
     ensures ends { EndsAs event result table.new }
 {
     match event {
@@ -194,6 +237,7 @@ fn told_of(table: &mut Table, event: Event) -> Option<ChannelEvent>
 fn told_of_stream(table: &mut Table, event: StreamEvent) -> Option<ChannelEvent>
     ensures exact { stream_event_met table.old event ≡ (table.new, result) }
     ensures meets { Meets table.old result table.new }
+    ensures begins_none { IfSome result (λ event. IsNoBeginning event) }
     ensures ends { EndsAs (events.Stream event) result table.new }
 {
     match event {
@@ -213,6 +257,7 @@ fn end(table: &mut Table, id: StreamId) -> Option<ChannelEvent>
     ensures exact { told_if_there table.old id (ChannelEvent.Closed id)
         (remove_entry (is_at (nat_cmp id)) table.old) ≡ (table.new, result) }
     ensures meets { Meets table.old result table.new }
+    ensures begins_none { IfSome result (λ event. IsNoBeginning event) }
     ensures ends { EndsAs (events.Stream (stream_events.ResetComplete id)) result table.new }
 {
     if !table.contains(id) {
@@ -227,6 +272,7 @@ fn fail_reset(table: &mut Table, id: StreamId) -> Option<ChannelEvent>
     ensures exact { told_if_there table.old id (ChannelEvent.Closed id) (at_stage table.old id stages.Closing)
         ≡ (table.new, result) }
     ensures meets { Meets table.old result table.new }
+    ensures begins_none { IfSome result (λ event. IsNoBeginning event) }
     ensures stays { EndsNone result table.new }
 {
     if !table.contains(id) {
@@ -239,6 +285,7 @@ fn fail_reset(table: &mut Table, id: StreamId) -> Option<ChannelEvent>
 fn tell_low(table: &mut Table, id: StreamId) -> Option<ChannelEvent>
     ensures exact { told_if_there table.old id (ChannelEvent.BufferedLow id) table.old ≡ (table.new, result) }
     ensures meets { Meets table.old result table.new }
+    ensures begins_none { IfSome result (λ event. IsNoBeginning event) }
     ensures stays { EndsNone result table.new }
 {
     if table.contains(id) {

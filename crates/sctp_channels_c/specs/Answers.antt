@@ -15,6 +15,8 @@ fault_code faults.NoIdentifierLeft = 41
 fault_code faults.IdentifierTaken = 42
 fault_code faults.NoChannel = 43
 fault_code faults.NotOpen = 44
+fault_code faults.IdentifierPastStreams = 45
+fault_code faults.Lost = 46
 
 -- 0 where the call was done
 abbrev pub code_of : {T : Type 0} → Result T ChannelError → ℕ
@@ -34,6 +36,7 @@ WritesNumber (Err fault) code before after = (code ≡ fault_code fault) × (aft
 abbrev pub Gives : Result Received ChannelError → ℕ → ℕ → ℕ → Bool → Bool → Type 0
 Gives (Ok (receipts.Text n)) code before length text_before text = (code ≡ 0) × (length ≡ n) × (text ≡ true)
 Gives (Ok (receipts.Binary n)) code before length text_before text = (code ≡ 0) × (length ≡ n) × (text ≡ false)
+Gives (Ok (receipts.Other n)) code before length text_before text = (code ≡ 47) × (length ≡ n) × (text ≡ text_before)
 Gives (Ok receipts.Nothing) code before length text_before text =
     (code ≡ 3) × (length ≡ before) × (text ≡ text_before)
 Gives (Ok (receipts.NoRoom n)) code before length text_before text = (code ≡ 4) × (length ≡ n) × (text ≡ text_before)

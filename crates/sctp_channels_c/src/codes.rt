@@ -15,6 +15,12 @@ pub(crate) const NO_CHANNEL: u32 = 43;
 
 const NOT_OPEN: u32 = 44;
 
+const IDENTIFIER_PAST_STREAMS: u32 = 45;
+
+const LOST: u32 = 46;
+
+pub(crate) const OTHER: u32 = 47;
+
 /// The code of a refusal.
 pub(crate) fn fault_code(fault: ChannelError) -> u32
     ensures { result ≡ fault_code fault }
@@ -26,6 +32,8 @@ pub(crate) fn fault_code(fault: ChannelError) -> u32
         ChannelError::IdentifierTaken => IDENTIFIER_TAKEN,
         ChannelError::NoChannel => NO_CHANNEL,
         ChannelError::NotOpen => NOT_OPEN,
+        ChannelError::IdentifierPastStreams => IDENTIFIER_PAST_STREAMS,
+        ChannelError::Lost => LOST,
     }
 }
 

@@ -2,7 +2,8 @@
 //! `include/sctp_channels.h` declares them and says what each does, what it writes and which codes it answers.
 //!
 //! Each call takes the channels out of their slot and, if it needs it, the driver out of the association's, makes one
-//! call of `sctp_channels`, and puts both back. Codes are those of `sctp_c`, and 40 to 44 for what channels refuse.
+//! call of `sctp_channels`, and puts both back. Codes are those of `sctp_c`, 40 to 46 for what channels refuse, and 47 for
+//! a message of another payload type.
 #![tactic(auto)]
 
 mod begin;

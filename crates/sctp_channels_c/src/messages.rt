@@ -11,7 +11,7 @@ ghost use Rattle.sctp_channels_c.specs.Answers.{Answers, Gives};
 ghost use Rattle.sctp_channels_c.specs.Kinds.{message_type};
 ghost use Rattle.sctp_channels_c.specs.Slots.{OnBoth, OnDriver};
 
-use crate::codes::{code_of, fault_code};
+use crate::codes::{OTHER, code_of, fault_code};
 use crate::slot::{ChannelsSlot, take_both};
 use sctp_channels::{ChannelError, Channels, Received};
 use sctp_driver::Driver;
@@ -94,6 +94,10 @@ fn tell_received(
             *length = received;
             *is_text = false;
             DONE
+        }
+        Ok(Received::Other { length: received }) => {
+            *length = received;
+            OTHER
         }
         Ok(Received::Nothing) => NOTHING,
         Ok(Received::NoRoom { length: wanted }) => {

@@ -428,6 +428,15 @@ impl Driver {
         self.association.rtt().as_millis().min(u64::MAX as u128) as u64
     }
 
+    /// How many streams this side may send on, those with the identifiers below it: as many as it offers, and once the
+    /// handshake has got that far as many as both sides agreed on (RFC 4960 section 5.1.1). No call of a stream holds to
+    /// it; a peer answers DATA on another stream by an ERROR.
+    pub fn outbound_streams(&self) -> u16
+        ensures { result ≡ self.now.association.handshake.num_outbound_streams }
+    {
+        self.association.stream_counts().0
+    }
+
     /// Whether the state is Established (RFC 4960 section 4): messages can be written.
     pub fn is_established(&self) -> bool
         ensures { result ≡ is_established self.now.association.state }

@@ -12,6 +12,12 @@ pub const SCTP_CHANNELS_IDENTIFIER_TAKEN: sctp_assoc_code = 42;
 pub const SCTP_CHANNELS_NO_CHANNEL: sctp_assoc_code = 43;
 /// The channel's OPEN was not written yet, or it ends.
 pub const SCTP_CHANNELS_NOT_OPEN: sctp_assoc_code = 44;
+/// The negotiated identifier lies past the streams on which this side may send.
+pub const SCTP_CHANNELS_IDENTIFIER_PAST_STREAMS: sctp_assoc_code = 45;
+/// The association was lost.
+pub const SCTP_CHANNELS_LOST: sctp_assoc_code = 46;
+/// A message of another payload type was received.
+pub const SCTP_CHANNELS_OTHER: sctp_assoc_code = 47;
 
 /// The client of the DTLS handshake, whose own channels have even identifiers (RFC 8832 section 6).
 pub const SCTP_CHANNELS_CLIENT: u32 = 0;

@@ -76,7 +76,11 @@ impl Channels {
     /// stream opened if it is negotiated, by the next [`poll_event`](Channels::poll_event) of an established one; from
     /// then on it can be sent on. The protocol is one that is registered for WebSocket, or empty.
     ///
-    /// Errors: `LabelTooLong`, `IdentifierTaken`, `NoIdentifierLeft`, `NoMemory`.
+    /// Identifiers stop at the streams on which this side may send: before the handshake has agreed on their number, at
+    /// as many as this side offers. [`Event::Failed`] tells of a channel that lies past those that were agreed on.
+    ///
+    /// Errors: `LabelTooLong`; `Failed` of the association; `Lost`; `IdentifierTaken`, `IdentifierPastStreams`,
+    /// `NoIdentifierLeft`; `NoMemory`.
     pub fn open(&mut self, association: &Association, label: &str, protocol: &str, kind: &Kind) -> Result<u16, Error> {
         self.slot.open(&association.slot, &kind.raw(), label.as_bytes(), protocol.as_bytes())
     }
@@ -123,8 +127,8 @@ impl Channels {
     }
 
     /// Copies the next message of a channel, whole, to the front of the buffer. None if none is ready, and as long as
-    /// the channel is not open. Messages that are no application's are dropped on the way; such a one may have changed
-    /// the buffer, and be told as `NoRoom`, too. A second OPEN of the peer ends the channel.
+    /// the channel is not open. DCEP messages are dropped on the way; such a one may have changed the buffer, and be told
+    /// as `NoRoom`, too. A second OPEN of the peer ends the channel.
     ///
     /// Errors: `NoRoom` if the buffer is shorter than the message, which stays; `NoChannel`; `Failed` of the
     /// association; `NoMemory`: the message stays, or the association failed; those of [`close`](Channels::close) if a
@@ -136,7 +140,7 @@ impl Channels {
         buffer: &'b mut [u8],
     ) -> Result<Option<Message<&'b [u8]>>, Error> {
         let received = self.slot.receive(&mut association.slot, id, buffer)?;
-        Ok(received.map(|(length, is_text)| Message::of(is_text, &buffer[..length])))
+        Ok(received.map(|(length, form)| Message::of(form, &buffer[..length])))
     }
 
     /// The same into a vector of the message's length.
@@ -148,9 +152,9 @@ impl Channels {
             match self.slot.receive(&mut association.slot, id, &mut bytes) {
                 Err(Error::NoRoom { needed }) => bytes.resize(needed, 0), // each time more than before
                 received => {
-                    return Ok(received?.map(|(length, is_text)| {
+                    return Ok(received?.map(|(length, form)| {
                         bytes.truncate(length);
-                        Message::of(is_text, bytes)
+                        Message::of(form, bytes)
                     }))
                 }
             }

@@ -60,7 +60,7 @@ impl Sides {
         let (channels, end) = (&mut self.channels[side], &mut self.link.ends[side]);
         match message {
             Message::Text(text) => channels.send_text(end, id, std::str::from_utf8(text).expect("a text")),
-            Message::Binary(bytes) => channels.send_binary(end, id, bytes),
+            Message::Binary(bytes) | Message::Other(bytes) => channels.send_binary(end, id, bytes),
         }
     }
 

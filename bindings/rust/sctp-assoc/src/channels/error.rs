@@ -20,10 +20,14 @@ pub enum Error {
     NoIdentifierLeft,
     /// The negotiated identifier has a channel, or is 65,535.
     IdentifierTaken,
+    /// The negotiated identifier lies past the streams on which this side may send.
+    IdentifierPastStreams,
     /// There is no such channel.
     NoChannel,
     /// The channel's OPEN was not written yet, or it ends.
     NotOpen,
+    /// The association was lost.
+    Lost,
 }
 
 impl Error {
@@ -37,6 +41,8 @@ impl Error {
             sys::SCTP_CHANNELS_IDENTIFIER_TAKEN => Error::IdentifierTaken,
             sys::SCTP_CHANNELS_NO_CHANNEL => Error::NoChannel,
             sys::SCTP_CHANNELS_NOT_OPEN => Error::NotOpen,
+            sys::SCTP_CHANNELS_IDENTIFIER_PAST_STREAMS => Error::IdentifierPastStreams,
+            sys::SCTP_CHANNELS_LOST => Error::Lost,
             other => Error::Association(crate::Error::of(other, length)),
         }
     }
@@ -64,6 +70,8 @@ impl fmt::Display for Error {
             Error::IdentifierTaken => f.write_str("the identifier has a channel, or is 65535"),
             Error::NoChannel => f.write_str("there is no such channel"),
             Error::NotOpen => f.write_str("the channel is not open"),
+            Error::IdentifierPastStreams => f.write_str("this side may not send on so many streams"),
+            Error::Lost => f.write_str("the association was lost"),
         }
     }
 }

@@ -114,21 +114,32 @@ pub enum Message<B> {
     Text(B),
     /// A binary message.
     Binary(B),
+    /// A message of a payload type that RFC 8831 does not have, or that it has deprecated: of 52 and 54 each is a part of
+    /// a message. Most programs pass over it.
+    Other(B),
+}
+
+/// Which of them a message is.
+#[derive(Clone, Copy)]
+pub(super) enum Form {
+    Text,
+    Binary,
+    Other,
 }
 
 impl<B> Message<B> {
-    pub(super) fn of(is_text: bool, bytes: B) -> Message<B> {
-        if is_text {
-            Message::Text(bytes)
-        } else {
-            Message::Binary(bytes)
+    pub(super) fn of(form: Form, bytes: B) -> Message<B> {
+        match form {
+            Form::Text => Message::Text(bytes),
+            Form::Binary => Message::Binary(bytes),
+            Form::Other => Message::Other(bytes),
         }
     }
 
-    /// Its bytes, whichever of the two it is.
+    /// Its bytes, whichever of them it is.
     pub fn into_bytes(self) -> B {
         match self {
-            Message::Text(bytes) | Message::Binary(bytes) => bytes,
+            Message::Text(bytes) | Message::Binary(bytes) | Message::Other(bytes) => bytes,
         }
     }
 }

@@ -6,6 +6,7 @@
 //! to the slots, too: neither is `Sync`, so no two calls on one run at a time. Which association a slot of channels goes
 //! with, and which calls are left to it on streams, C owes for what the calls do, and not for that they are safe.
 use super::error::{done, done_or_nothing, Error};
+use super::kind::Form;
 use crate::slot::Slot as Association;
 use sctp_assoc_sys as sys;
 use std::cell::UnsafeCell;
@@ -79,19 +80,23 @@ impl Slot {
         done(unsafe { sys::sctp_channels_send(slot, assoc, id, is_text, message.as_ptr(), message.len()) })
     }
 
-    /// The length of the message, which stands at the front of the buffer, and whether it is a text.
+    /// The length of the message, which stands at the front of the buffer, and what it is.
     pub(super) fn receive(
         &mut self,
         association: &mut Association,
         id: u16,
         buffer: &mut [u8],
-    ) -> Result<Option<(usize, bool)>, Error> {
+    ) -> Result<Option<(usize, Form)>, Error> {
         let (mut length, mut is_text) = (0, false);
         let (slot, assoc) = (self.raw.get(), association.raw());
         let (at, room) = (buffer.as_mut_ptr(), buffer.len());
         // SAFETY: as the file's head says.
         let code = unsafe { sys::sctp_channels_receive(slot, assoc, id, at, room, &mut length, &mut is_text) };
-        Ok(done_or_nothing(code, length)?.then_some((length, is_text)))
+        if code == sys::SCTP_CHANNELS_OTHER {
+            return Ok(Some((length, Form::Other)));
+        }
+        let form = if is_text { Form::Text } else { Form::Binary };
+        Ok(done_or_nothing(code, length)?.then_some((length, form)))
     }
 
     pub(super) fn info(&self, id: u16) -> Result<sys::sctp_channels_info, Error> {
