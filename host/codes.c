@@ -1,5 +1,6 @@
 /* Every code of the interface, every fate of a datagram and every reason that is told, each at least once. Only
- * SCTP_ASSOC_NO_STREAM_LEFT is not, which takes 2^64 streams. */
+ * SCTP_ASSOC_NO_STREAM_LEFT is not, which takes 2^64 streams; SCTP_ASSOC_NO_RANDOM is in identities.c, and
+ * SCTP_ASSOC_BAD_INIT in tokens.c. */
 #include "support.h"
 
 static sctp_assoc ends[2];

@@ -3,7 +3,8 @@
  *
  * One association lies in one slot. Datagrams, moments and calls of the application go in; datagrams, events and the
  * next moment come out. No call reads a clock, a socket or a random source, blocks, calls back, or keeps anything
- * outside of the slot. `./library` builds the archive to link with; docs/GUIDE.md shows how to use it.
+ * outside of the slot, but for one that nobody has to make: sctp_assoc_random_identity asks the system for random
+ * bytes. `./library` builds the archive to link with; docs/GUIDE.md shows how to use it.
  *
  * One turn of the loop, at the moment `now`:
  *   1. If sctp_assoc_poll_timeout gives a moment that isn't after now, call sctp_assoc_handle_timeout.
@@ -111,6 +112,8 @@ typedef uint32_t sctp_assoc_code;
 #define SCTP_ASSOC_STREAM_CLOSED 26         /* this half of the stream is closed */
 #define SCTP_ASSOC_MESSAGE_TOO_LONG 27      /* longer than max_send_message_size; or a reason of over 65,527 bytes */
 #define SCTP_ASSOC_EMPTY_MESSAGE 28         /* a message has one byte at least */
+#define SCTP_ASSOC_NO_RANDOM 60             /* the system gives no random bytes */
+#define SCTP_ASSOC_BAD_INIT 61              /* the bytes are no INIT chunk, or end within a parameter of it */
 
 /* ---- Configuration ---- */
 
@@ -144,6 +147,11 @@ typedef struct sctp_assoc_identity {
     uint8_t cookie[32];   /* a server's State Cookie (section 5.1.3) */
 } sctp_assoc_identity;
 
+/* Draws an identity from the system's random source, by getentropy or, where the system lacks that, from /dev/urandom.
+ * It waits if the system has just started and has no random bytes yet. This call alone asks the system for anything but
+ * memory. Codes: DONE, NO_RANDOM. */
+sctp_assoc_code sctp_assoc_random_identity(sctp_assoc_identity *identity);
+
 /* What two sides that join without a handshake exchange: the values of the INIT chunk that each would send. */
 typedef struct sctp_assoc_token {
     uint32_t tag;
@@ -158,6 +166,17 @@ typedef struct sctp_assoc_token {
 /* Writes the token of a side with this configuration. Answers SCTP_ASSOC_DONE. */
 sctp_assoc_code sctp_assoc_make_token(const sctp_assoc_config *config, uint32_t tag, uint32_t initial_tsn,
                                       sctp_assoc_token *token);
+
+/* Writes the INIT chunk with the values of a token (RFC 4960 section 3.3.2) to the front of the buffer, as a client
+ * would send it: its Supported Extensions list RE-CONFIG and, if the token has it, FORWARD TSN. `length` says how long
+ * it is, with its padding. Codes: DONE, NO_ROOM, BAD_TOKEN. */
+#define SCTP_ASSOC_MAX_INIT 28 /* none is longer, in bytes */
+sctp_assoc_code sctp_assoc_token_to_init(const sctp_assoc_token *token, uint8_t *buffer, size_t room, size_t *length);
+
+/* Reads a token out of the INIT chunk of a peer, with its padding or without. Of its parameters the Supported
+ * Extensions count alone; one that RFC 4960 doesn't know is passed over, or ends the reading, as its type says (section
+ * 3.2.1). Codes, refusals in this order: DONE, BAD_INIT, BAD_TOKEN. */
+sctp_assoc_code sctp_assoc_token_from_init(const uint8_t *init, size_t length, sctp_assoc_token *token);
 
 /* ---- Begin and end ----
  *

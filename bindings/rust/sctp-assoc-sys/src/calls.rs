@@ -9,6 +9,8 @@ extern "C" {
 
     /// Writes the defaults.
     pub fn sctp_assoc_default_config(config: *mut sctp_assoc_config) -> sctp_assoc_code;
+    /// Draws an identity from the system's random source.
+    pub fn sctp_assoc_random_identity(identity: *mut sctp_assoc_identity) -> sctp_assoc_code;
     /// Writes the token of a side with this configuration.
     pub fn sctp_assoc_make_token(
         config: *const sctp_assoc_config,
@@ -16,6 +18,15 @@ extern "C" {
         initial_tsn: u32,
         token: *mut sctp_assoc_token,
     ) -> sctp_assoc_code;
+    /// Writes the INIT chunk with the values of a token to the front of the buffer, and its length.
+    pub fn sctp_assoc_token_to_init(
+        token: *const sctp_assoc_token,
+        buffer: *mut u8,
+        room: usize,
+        length: *mut usize,
+    ) -> sctp_assoc_code;
+    /// Reads a token out of the INIT chunk of a peer.
+    pub fn sctp_assoc_token_from_init(init: *const u8, length: usize, token: *mut sctp_assoc_token) -> sctp_assoc_code;
 
     /// Makes a client, whose INIT waits for [`sctp_assoc_poll_transmit`]. What the slot held is freed.
     pub fn sctp_assoc_client(

@@ -38,9 +38,15 @@ pub const SCTP_ASSOC_STREAM_CLOSED: sctp_assoc_code = 26;
 pub const SCTP_ASSOC_MESSAGE_TOO_LONG: sctp_assoc_code = 27;
 /// A message has one byte at least.
 pub const SCTP_ASSOC_EMPTY_MESSAGE: sctp_assoc_code = 28;
+/// The system gives no random bytes.
+pub const SCTP_ASSOC_NO_RANDOM: sctp_assoc_code = 60;
+/// The bytes are no INIT chunk, or end within a parameter of it.
+pub const SCTP_ASSOC_BAD_INIT: sctp_assoc_code = 61;
 
 /// No limit, in `max_init_retransmits` and `max_data_retransmits`.
 pub const SCTP_ASSOC_NO_LIMIT: usize = usize::MAX;
+/// No INIT chunk that is written of a token is longer, in bytes.
+pub const SCTP_ASSOC_MAX_INIT: usize = 28;
 /// No datagram is longer, in bytes.
 pub const SCTP_ASSOC_MAX_DATAGRAM: usize = 65548;
 

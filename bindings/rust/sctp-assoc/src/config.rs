@@ -1,4 +1,4 @@
-use crate::slot;
+use crate::{slot, Error};
 use sctp_assoc_sys as sys;
 use std::time::Duration;
 
@@ -98,6 +98,14 @@ pub struct Identity {
 }
 
 impl Identity {
+    /// Draws an identity from the system's random source. No other call asks the system for anything but memory.
+    ///
+    /// Errors: `NoRandom`.
+    pub fn random() -> Result<Identity, Error> {
+        let raw = slot::random_identity()?;
+        Ok(Identity { tag: raw.tag, initial_tsn: raw.initial_tsn, cookie: raw.cookie })
+    }
+
     /// Makes an identity of bytes that come from a random source which nobody can guess.
     pub fn from_random(bytes: [u8; 40]) -> Identity {
         let word = |at: usize| u32::from_ne_bytes([bytes[at], bytes[at + 1], bytes[at + 2], bytes[at + 3]]).max(1);
@@ -132,7 +140,26 @@ pub struct Token {
 impl Token {
     /// The token of a side with this configuration.
     pub fn new(config: &Config, tag: u32, initial_tsn: u32) -> Token {
-        let raw = slot::make_token(&config.raw(), tag, initial_tsn);
+        Token::of(&slot::make_token(&config.raw(), tag, initial_tsn))
+    }
+
+    /// The INIT chunk with these values (RFC 4960 section 3.3.2), as a client would send it, with its padding.
+    ///
+    /// Errors: `BadToken`.
+    pub fn to_init(&self) -> Result<Vec<u8>, Error> {
+        slot::token_to_init(&self.raw())
+    }
+
+    /// Reads a token out of the INIT chunk of a peer, with its padding or without. Of its parameters the Supported
+    /// Extensions count alone; one that RFC 4960 doesn't know is passed over, or ends the reading, as its type says
+    /// (section 3.2.1).
+    ///
+    /// Errors: `BadInit`, `BadToken`.
+    pub fn from_init(init: &[u8]) -> Result<Token, Error> {
+        Ok(Token::of(&slot::token_from_init(init)?))
+    }
+
+    fn of(raw: &sys::sctp_assoc_token) -> Token {
         Token {
             tag: raw.tag,
             initial_tsn: raw.initial_tsn,

@@ -42,6 +42,10 @@ pub enum Error {
     MessageTooLong,
     /// The message has no byte.
     EmptyMessage,
+    /// The system gives no random bytes.
+    NoRandom,
+    /// The bytes are no INIT chunk, or end within a parameter of it.
+    BadInit,
     /// The library answered a code that these bindings do not know.
     Unknown(u32),
 }
@@ -66,6 +70,8 @@ impl Error {
             sys::SCTP_ASSOC_STREAM_CLOSED => Error::StreamClosed,
             sys::SCTP_ASSOC_MESSAGE_TOO_LONG => Error::MessageTooLong,
             sys::SCTP_ASSOC_EMPTY_MESSAGE => Error::EmptyMessage,
+            sys::SCTP_ASSOC_NO_RANDOM => Error::NoRandom,
+            sys::SCTP_ASSOC_BAD_INIT => Error::BadInit,
             other => Error::Unknown(other),
         }
     }
@@ -90,6 +96,8 @@ impl fmt::Display for Error {
             Error::StreamClosed => f.write_str("this half of the stream is closed"),
             Error::MessageTooLong => f.write_str("the message is too long"),
             Error::EmptyMessage => f.write_str("the message is empty"),
+            Error::NoRandom => f.write_str("the system gives no random bytes"),
+            Error::BadInit => f.write_str("the bytes are no INIT chunk"),
             Error::Unknown(code) => write!(f, "the library answered the unknown code {code}"),
         }
     }

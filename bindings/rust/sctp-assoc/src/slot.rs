@@ -33,11 +33,34 @@ pub(crate) fn default_config() -> sys::sctp_assoc_config {
     config
 }
 
+pub(crate) fn random_identity() -> Result<sys::sctp_assoc_identity, Error> {
+    let mut identity = sys::sctp_assoc_identity::default();
+    // SAFETY: as the file's head says.
+    done(unsafe { sys::sctp_assoc_random_identity(&mut identity) })?;
+    Ok(identity)
+}
+
 pub(crate) fn make_token(config: &sys::sctp_assoc_config, tag: u32, initial_tsn: u32) -> sys::sctp_assoc_token {
     let mut token = sys::sctp_assoc_token::default();
     // SAFETY: as the file's head says.
     unsafe { sys::sctp_assoc_make_token(config, tag, initial_tsn, &mut token) };
     token
+}
+
+/// The INIT chunk of a token.
+pub(crate) fn token_to_init(token: &sys::sctp_assoc_token) -> Result<Vec<u8>, Error> {
+    let (mut init, mut length) = (vec![0; sys::SCTP_ASSOC_MAX_INIT], 0);
+    // SAFETY: as the file's head says.
+    done(unsafe { sys::sctp_assoc_token_to_init(token, init.as_mut_ptr(), init.len(), &mut length) })?;
+    init.truncate(length);
+    Ok(init)
+}
+
+pub(crate) fn token_from_init(init: &[u8]) -> Result<sys::sctp_assoc_token, Error> {
+    let mut token = sys::sctp_assoc_token::default();
+    // SAFETY: as the file's head says.
+    done(unsafe { sys::sctp_assoc_token_from_init(init.as_ptr(), init.len(), &mut token) })?;
+    Ok(token)
 }
 
 /// How an association is made.

@@ -1,5 +1,6 @@
 //! Every error and fate, each at least once, with a heap that can refuse. Only `NoStreamLeft` is not, which takes 2^64
-//! streams, and `Unknown`, which no library of this version answers. One test, as the heap is the process's.
+//! streams, `NoRandom`, which `host/identities.c` has, and `Unknown`, which no library of this version answers. One
+//! test, as the heap is the process's.
 mod support;
 
 use sctp_assoc::{Association, Config, Error, Event, Fate, PayloadType, Reason, Reliability, Token};
@@ -87,6 +88,8 @@ fn refused_begin() {
     assert_eq!(error(Association::client(&too_small, &identity(1), now)), Error::BadPayloadSize);
     assert_eq!(error(Association::server(&config, &without_tsn, now)), Error::BadInitialTsn);
     assert_eq!(error(Association::joined(&config, &token, &narrow, now)), Error::BadToken);
+    assert_eq!(narrow.to_init(), Err(Error::BadToken));
+    assert_eq!(Token::from_init(&[1, 0, 0, 20]), Err(Error::BadInit));
     assert_eq!(error(refusing(|| Association::joined(&config, &token, &token, now))), Error::NoMemory);
 }
 

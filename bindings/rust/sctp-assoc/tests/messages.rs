@@ -1,7 +1,7 @@
 //! A handshake, and messages of 1, 1,200 and 65,536 bytes both ways.
 mod support;
 
-use sctp_assoc::{Association, Config, Error, Event, PayloadType, Reliability, Token};
+use sctp_assoc::{Association, Config, Error, Event, Identity, PayloadType, Reliability, Token};
 use std::time::Instant;
 use support::Link;
 
@@ -54,6 +54,18 @@ fn by_tokens() -> Result<(), Error> {
     let (config, now) = (Config::default(), Instant::now());
     let (a, b) = (Token::new(&config, 5, 50), Token::new(&config, 6, 60));
     let ends = [Association::joined(&config, &a, &b, now)?, Association::joined(&config, &b, &a, now)?];
+    both_ways(&mut Link { ends, now })
+}
+
+/// Each side has its own token as it made it, and the peer's as it read it of an INIT chunk.
+#[test]
+fn by_tokens_in_init_chunks() -> Result<(), Error> {
+    let (config, now) = (Config::default(), Instant::now());
+    let token = |identity: Identity| Token::new(&config, identity.tag, identity.initial_tsn);
+    let (a, b) = (token(Identity::random()?), token(Identity::random()?));
+    let (from_a, from_b) = (Token::from_init(&a.to_init()?)?, Token::from_init(&b.to_init()?)?);
+    assert!(a != b && from_a == a && from_b == b);
+    let ends = [Association::joined(&config, &a, &from_b, now)?, Association::joined(&config, &b, &from_a, now)?];
     both_ways(&mut Link { ends, now })
 }
 
