@@ -59,10 +59,7 @@ static void begin(void) {
     sctp_assoc_config config;
     sctp_assoc_identity identity;
     done(sctp_assoc_default_config(&config));
-    if (getentropy(&identity, sizeof identity) != 0)
-        stop("no random bytes: errno", (unsigned)errno);
-    identity.tag |= 1; /* so that neither number is 0 */
-    identity.initial_tsn |= 1;
+    done(sctp_assoc_random_identity(&identity));
     done((is_client ? sctp_assoc_client : sctp_assoc_server)(&assoc, &config, MAX_PAYLOAD_SIZE, &identity, now()));
     done(sctp_channels_begin(&channels, is_client ? SCTP_CHANNELS_CLIENT : SCTP_CHANNELS_SERVER));
     if (is_client)
@@ -116,10 +113,13 @@ static void on_event(const sctp_channels_event *event) {
         end();
 }
 
-static void take_events(void) {
+/* Answers whether there was any. */
+static bool take_events(void) {
     sctp_channels_event event;
-    while (done(sctp_channels_poll_event(&channels, &assoc, &event)))
+    bool any = false;
+    for (; done(sctp_channels_poll_event(&channels, &assoc, &event)); any = true)
         on_event(&event);
+    return any;
 }
 
 /* Sends what is due. */
@@ -130,10 +130,12 @@ static void send_all(void) {
         sendto(udp, datagram, length, 0, (struct sockaddr *)&peer, sizeof peer);
 }
 
+/* Until there is neither an event nor a datagram: each may bring the other. */
 static void serve(void) {
     take_events();
-    send_all();
-    take_events(); /* what was sent may have ended it */
+    do
+        send_all();
+    while (take_events());
 }
 
 /* A server's peer is whoever comes, until a handshake is done. */

@@ -17,7 +17,6 @@
 #include <stdlib.h>
 #include <string.h>
 #include <time.h>
-#include <unistd.h>
 
 #define SECOND UINT64_C(1000000000)
 #define MAX_PAYLOAD_SIZE 1172 /* fits links of 1280 bytes, below UDP and IPv6 */
@@ -64,10 +63,7 @@ static uint64_t now(void) {
 /* Makes the association of an end. */
 static void begin(struct end *end, const struct sockaddr_in *peer) {
     sctp_assoc_identity identity;
-    if (getentropy(&identity, sizeof identity) != 0)
-        stop("no random bytes: errno", (unsigned)errno);
-    identity.tag |= 1; /* so that neither number is 0 */
-    identity.initial_tsn |= 1;
+    done(sctp_assoc_random_identity(&identity));
     done((is_client ? sctp_assoc_client : sctp_assoc_server)(&end->slot, &config, MAX_PAYLOAD_SIZE, &identity, now()));
     end->peer = *peer;
     end->is_up = false;
@@ -153,10 +149,13 @@ static void on_server_event(struct end *end, const sctp_assoc_event *event) {
         read_all(end, event->stream);
 }
 
-static void take_events(struct end *end) {
+/* Answers whether there was any. */
+static bool take_events(struct end *end) {
     sctp_assoc_event event;
-    while (done(sctp_assoc_poll_event(&end->slot, &event)))
+    bool any = false;
+    for (; done(sctp_assoc_poll_event(&end->slot, &event)); any = true)
         (is_client ? on_client_event : on_server_event)(end, &event);
+    return any;
 }
 
 /* Sends what is due. Most datagrams have up to MAX_PAYLOAD_SIZE and 28 bytes; one that names many gaps or streams may
@@ -168,12 +167,14 @@ static void send_all(struct end *end) {
         sendto(udp, datagram, length, 0, (struct sockaddr *)&end->peer, sizeof end->peer);
 }
 
-/* What is due at an end. That of a server whose association is over is free for another client then. */
+/* What is due at an end, until there is neither an event nor a datagram: each may bring the other. That of a server
+ * whose association is over is free for another client then. */
 static void serve(struct end *end) {
     bool is_over = false;
     take_events(end);
-    send_all(end);
-    take_events(end);
+    do
+        send_all(end);
+    while (take_events(end));
     done(sctp_assoc_is_drained(&end->slot, &is_over));
     if (is_client || !is_over)
         return;

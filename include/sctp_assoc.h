@@ -9,13 +9,14 @@
  * One turn of the loop, at the moment `now`:
  *   1. If sctp_assoc_poll_timeout gives a moment that isn't after now, call sctp_assoc_handle_timeout.
  *   2. If a datagram came, call sctp_assoc_handle_datagram.
- *   3. Call sctp_assoc_poll_event until it answers SCTP_ASSOC_NOTHING. At SCTP_ASSOC_EVENT_READABLE call
- *      sctp_assoc_read until it answers SCTP_ASSOC_NOTHING, or the stream is gone. At SCTP_ASSOC_EVENT_OPENED call
- *      sctp_assoc_accept_stream.
- *   4. Call sctp_assoc_poll_transmit until it answers SCTP_ASSOC_NOTHING, and send each datagram. It can queue events,
- *      too: call sctp_assoc_poll_event again after it. Do this step also after each datagram that you handed in and
- *      after each write, since no timer runs for what waits to go out.
- *   5. Sleep until the moment of sctp_assoc_poll_timeout, or until a datagram comes.
+ *   3. Take events and poll for datagrams until neither brings anything:
+ *      - Call sctp_assoc_poll_event until it answers SCTP_ASSOC_NOTHING. At SCTP_ASSOC_EVENT_READABLE call
+ *        sctp_assoc_read until it answers SCTP_ASSOC_NOTHING, or the stream is gone. At SCTP_ASSOC_EVENT_OPENED call
+ *        sctp_assoc_accept_stream.
+ *      - Call sctp_assoc_poll_transmit until it answers SCTP_ASSOC_NOTHING, and send each datagram.
+ *      A poll for datagrams can queue events, and what you write at an event leaves datagrams. Do this step also after
+ *      each datagram that you handed in and after each write, since no timer runs for what waits to go out.
+ *   4. Sleep until the moment of sctp_assoc_poll_timeout, or until a datagram comes.
  *
  * To end, call sctp_assoc_shutdown and go on with the loop until sctp_assoc_is_drained; or, at once, sctp_assoc_abort,
  * which tells the peer why, or sctp_assoc_close, which tells it nothing.

@@ -4,10 +4,11 @@
  * The channels of one side lie in a slot beside that of the association, and most calls are handed both. `./library
  * channels` builds the archive to link with, in place of the other: it has the calls of sctp_assoc.h, too.
  *
- * The loop is that of sctp_assoc.h but for step 3: call sctp_channels_poll_event until it answers SCTP_ASSOC_NOTHING,
- * in place of sctp_assoc_poll_event and sctp_assoc_accept_stream. At SCTP_CHANNELS_EVENT_MESSAGE call
- * sctp_channels_receive until it answers SCTP_ASSOC_NOTHING, or the channel is gone. What these calls write, as OPENs
- * and ACKs, goes out by sctp_assoc_poll_transmit like messages do: call it after them, too.
+ * The loop is that of sctp_assoc.h but for the events that its step 3 takes: call sctp_channels_poll_event until it
+ * answers SCTP_ASSOC_NOTHING, in place of sctp_assoc_poll_event and sctp_assoc_accept_stream. At
+ * SCTP_CHANNELS_EVENT_MESSAGE call sctp_channels_receive until it answers SCTP_ASSOC_NOTHING, or the channel is gone.
+ * What these calls write, as OPENs and ACKs, goes out by sctp_assoc_poll_transmit like messages do, so do that step
+ * after them, too: take events and poll for datagrams until neither brings anything.
  *
  * What C owes is what the head of sctp_assoc.h says, for both slots. Besides, a slot of channels stays with one
  * association from the first call that gets both, and streams of that association which have a channel are left to

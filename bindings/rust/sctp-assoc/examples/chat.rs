@@ -7,8 +7,7 @@
 use sctp_assoc::channels::{Channels, Event, Kind, Role};
 use sctp_assoc::{Association, Config, End, Fate, Identity, MAX_DATAGRAM};
 use std::error::Error;
-use std::fs::File;
-use std::io::{stdin, stdout, BufRead, Read, Write};
+use std::io::{stdin, stdout, BufRead, Write};
 use std::net::{Ipv4Addr, SocketAddr, UdpSocket};
 use std::sync::mpsc::{channel, sync_channel, Receiver, RecvTimeoutError, Sender, SyncSender};
 use std::thread;
@@ -48,12 +47,6 @@ struct Chat {
     buffer: Vec<u8>,
 }
 
-fn identity() -> Result<Identity> {
-    let mut bytes = [0; 40];
-    File::open("/dev/urandom")?.read_exact(&mut bytes)?;
-    Ok(Identity::from_random(bytes))
-}
-
 /// Hands on each datagram that comes.
 fn hand_on_datagrams(udp: &UdpSocket, inputs: &SyncSender<Input>) {
     let mut buffer = vec![0; MAX_DATAGRAM];
@@ -88,7 +81,7 @@ impl Chat {
             Some(_) => (Association::client, Role::Client),
             None => (Association::server, Role::Server),
         };
-        let association = make(&Config::default(), &identity()?, Instant::now())?;
+        let association = make(&Config::default(), &Identity::random()?, Instant::now())?;
         let mut channels = Channels::new(role)?;
         if peer.is_some() {
             channels.open(&association, "chat", "", &Kind::default())?;
@@ -145,11 +138,14 @@ impl Chat {
         Ok(())
     }
 
-    fn take_events(&mut self) -> Result<()> {
+    /// Answers whether there was any.
+    fn take_events(&mut self) -> Result<bool> {
+        let mut any = false;
         while let Some(event) = self.channels.poll_event(&mut self.association)? {
             self.on_event(event)?;
+            any = true;
         }
-        Ok(())
+        Ok(any)
     }
 
     /// Sends what is due.
@@ -162,10 +158,14 @@ impl Chat {
         Ok(())
     }
 
+    /// Until there is neither an event nor a datagram: each may bring the other.
     fn serve(&mut self) -> Result<()> {
         self.take_events()?;
         self.send_all()?;
-        self.take_events() // what was sent may have ended it
+        while self.take_events()? {
+            self.send_all()?;
+        }
+        Ok(())
     }
 
     /// A server's peer is whoever comes, until a handshake is done.

@@ -6,8 +6,7 @@
 //!     cargo run --example echo -- client 127.0.0.1:9899 100
 use sctp_assoc::{Association, Config, Event, Fate, Identity, PayloadType, Stream, MAX_DATAGRAM};
 use std::error::Error;
-use std::fs::File;
-use std::io::{ErrorKind, Read};
+use std::io::ErrorKind;
 use std::mem;
 use std::net::{SocketAddr, UdpSocket};
 use std::time::{Duration, Instant};
@@ -49,12 +48,6 @@ struct Client {
     sent: usize,
     echoed: usize,
     ends_until: Option<Instant>,
-}
-
-fn identity() -> Result<Identity> {
-    let mut bytes = [0; 40];
-    File::open("/dev/urandom")?.read_exact(&mut bytes)?;
-    Ok(Identity::from_random(bytes))
 }
 
 /// The client's message with this number, in both of its ways.
@@ -173,21 +166,27 @@ impl End {
         Ok(())
     }
 
-    fn take_events(&mut self, client: &mut Option<Client>) -> Result<()> {
+    /// Answers whether there was any.
+    fn take_events(&mut self, client: &mut Option<Client>) -> Result<bool> {
+        let mut any = false;
         while let Some(event) = self.association.poll_event()? {
             match client {
                 Some(client) => self.on_client_event(event, client)?,
                 None => self.on_server_event(event)?,
             }
+            any = true;
         }
-        Ok(())
+        Ok(any)
     }
 
-    /// Does what is due at the association.
+    /// Does what is due at the association, until there is neither an event nor a datagram: each may bring the other.
     fn serve(&mut self, udp: &UdpSocket, client: &mut Option<Client>, buffer: &mut [u8]) -> Result<()> {
         self.take_events(client)?;
         self.send_all(udp, buffer)?;
-        self.take_events(client) // what was sent may have ended it
+        while self.take_events(client)? {
+            self.send_all(udp, buffer)?;
+        }
+        Ok(())
     }
 }
 
@@ -274,7 +273,7 @@ impl Echo {
             return Ok(()); // the type of the first chunk; 1 is INIT
         }
         let now = Instant::now();
-        let mut stranger = End::new(from, Association::server(&Config::default(), &identity()?, now)?);
+        let mut stranger = End::new(from, Association::server(&Config::default(), &Identity::random()?, now)?);
         if stranger.association.handle_datagram(now, datagram)? != Fate::Taken {
             return Ok(());
         }
@@ -312,7 +311,7 @@ fn be_server(port: &str) -> Result<Echo> {
 }
 
 fn be_client(peer: &str, count: &str) -> Result<Echo> {
-    let association = Association::client(&Config::default(), &identity()?, Instant::now())?;
+    let association = Association::client(&Config::default(), &Identity::random()?, Instant::now())?;
     Ok(Echo {
         udp: UdpSocket::bind("0.0.0.0:0")?,
         ends: vec![End::new(peer.parse()?, association)],

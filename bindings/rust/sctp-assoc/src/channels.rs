@@ -2,14 +2,14 @@
 //! `channels`, with which the crate links the archive of `./library channels`.
 //!
 //! [`Channels`] stand beside an [`Association`], which most calls are handed. The loop of the association stays as the
-//! page of the crate has it, but for its third step:
+//! page of the crate has it, but for the events that its third step takes:
 //!
-//! 3. Call [`Channels::poll_event`] until it gives None, in place of [`Association::poll_event`] and
-//!    [`Association::accept_stream`]; at [`Event::Message`] call [`Channels::receive`] until it gives None, too, or the
-//!    channel is gone.
+//! - Call [`Channels::poll_event`] until it gives None, in place of [`Association::poll_event`] and
+//!   [`Association::accept_stream`]; at [`Event::Message`] call [`Channels::receive`] until it gives None, too, or the
+//!   channel is gone.
 //!
-//! What these calls write, as OPENs and ACKs, goes out by [`Association::poll_transmit`] like messages do: call it after
-//! them, too. `examples/chat.rs` does so over UDP. Here two sides meet in memory:
+//! What these calls write, as OPENs and ACKs, goes out by [`Association::poll_transmit`] like messages do, so do that
+//! step after them, too. `examples/chat.rs` does so over UDP. Here two sides meet in memory:
 //!
 //! ```
 //! use sctp_assoc::channels::{Channels, Error, Event, Kind, Message, Role};

@@ -2,16 +2,18 @@
 //! builds, whose functions are proved. `sctp-assoc-sys` looks for it in its checkout, or where `SCTP_ASSOC_ARCHIVE`
 //! says.
 //!
-//! An [`Association`] reads no clock, no socket and no random source. One turn of its loop, at the moment `now`:
+//! An [`Association`] reads no clock, no socket and no random source; [`Identity::random`] alone asks the system for
+//! random bytes. One turn of its loop, at the moment `now`:
 //!
 //! 1. If [`poll_timeout`](Association::poll_timeout) gives a moment that is not after `now`, call
 //!    [`handle_timeout`](Association::handle_timeout).
 //! 2. If a datagram came, hand it to [`handle_datagram`](Association::handle_datagram).
-//! 3. Call [`poll_event`](Association::poll_event) until it gives None; at [`Event::Readable`] call
-//!    [`read`](Stream::read) until it does so too, or the stream is gone.
-//! 4. Call [`poll_transmit`](Association::poll_transmit) until it gives None, and send each datagram. It can queue
-//!    events, too: poll for events again after it.
-//! 5. Sleep until the moment of `poll_timeout`, or until a datagram comes.
+//! 3. Take events and poll for datagrams until neither brings anything: a poll for datagrams can queue events, and what
+//!    is written at an event leaves datagrams.
+//!    - Call [`poll_event`](Association::poll_event) until it gives None; at [`Event::Readable`] call
+//!      [`read`](Stream::read) until it does so too, or the stream is gone.
+//!    - Call [`poll_transmit`](Association::poll_transmit) until it gives None, and send each datagram.
+//! 4. Sleep until the moment of `poll_timeout`, or until a datagram comes.
 //!
 //! To end call [`shutdown`](Association::shutdown), and go on until [`is_drained`](Association::is_drained); or, to end
 //! at once, [`abort`](Association::abort), which tells the peer why, or [`close`](Association::close), which tells it
