@@ -19,7 +19,7 @@ static size_t waiting[2];
 static unsigned came; /* messages */
 
 static void begin_to_write(sctp_assoc *slot);
-static void take_events(sctp_assoc *slot);
+static bool take_events(sctp_assoc *slot);
 
 static void send_datagram(sctp_assoc *slot, const uint8_t *bytes, size_t length) {
     int to = slot == &ends[0];
@@ -36,10 +36,19 @@ static void take_message(sctp_assoc *slot, uint16_t stream, const uint8_t *messa
 
 #include "guide.h"
 
+/* A turn of an end, which leaves neither an event nor a datagram. */
+static void turn_of(int end, uint64_t now, const uint8_t *bytes, size_t length) {
+    sctp_assoc_event event;
+    uint8_t datagram[PAYLOAD_SIZE + 28];
+    turn(&ends[end], now, bytes, length);
+    CHECK(sctp_assoc_poll_event(&ends[end], &event) == SCTP_ASSOC_NOTHING);
+    CHECK(sctp_assoc_poll_transmit(&ends[end], now, datagram, sizeof datagram, &length) == SCTP_ASSOC_NOTHING);
+}
+
 /* Turns of both ends until none has a datagram for the other. */
 static void go_on(uint64_t now) {
-    turn(&ends[0], now, NULL, 0);
-    turn(&ends[1], now, NULL, 0);
+    turn_of(0, now, NULL, 0);
+    turn_of(1, now, NULL, 0);
     while (waiting[0] + waiting[1] > 0) {
         for (int end = 0; end < 2; end++) {
             static struct datagram taken[WAITING];
@@ -47,7 +56,7 @@ static void go_on(uint64_t now) {
             memcpy(taken, queues[end], sizeof taken);
             waiting[end] = 0;
             for (size_t i = 0; i < count; i++)
-                turn(&ends[end], now, taken[i].bytes, taken[i].length);
+                turn_of(end, now, taken[i].bytes, taken[i].length);
         }
     }
 }

@@ -3,8 +3,7 @@
 //! and shut down. Two others are observed, and one aborts. With the feature `channels` two more have data channels.
 #![cfg(test)]
 use sctp_assoc::{Association, Config, Error, Event, Identity, PayloadType, Reliability, MAX_DATAGRAM};
-use std::fs::File;
-use std::io::{Read, Write};
+use std::io::Write;
 use std::sync::{Arc, Mutex};
 use std::time::{Duration, Instant};
 
