@@ -1,8 +1,7 @@
 /*
  * A page in a browser and this program, joined by data channels (RFC 8831, RFC 8832): a chat with the terminal, a file
- * that goes there and back, and what passes below. The page posts its offer by HTTP, and the program answers for ICE-lite
- * (RFC 8445 section 2.5). On its UDP socket stand DTLS 1.2 by OpenSSL, one association and its channels. It has one page
- * at a time. docs/GUIDE.md explains the calls.
+ * that goes there and back, and what passes below. HTTP carries the page, its offer and the answer. Above a UDP socket
+ * stand ICE-lite (RFC 8445 section 2.5), DTLS 1.2 by OpenSSL, and one association. docs/GUIDE.md explains the calls.
  *
  *   cc -O2 -Iinclude -o webrtc examples/webrtc.c "$(./library channels)" -lssl -lcrypto
  *   ./webrtc                      then open the page that it names; Ctrl-C ends it
@@ -29,8 +28,6 @@
 #define MAX_PAYLOAD_SIZE 1164 /* fits links of 1280 bytes, below DTLS 1.2 with AES-GCM, UDP and IPv6 */
 #define MAX_MESSAGE 262144    /* bytes; what the answer offers and what the association takes have to agree */
 #define MAX_BUFFERED 1000000  /* bytes that may wait on a channel before more of its messages are received */
-#define CONSENT 30            /* seconds without a STUN request, after which the page is gone (RFC 7675) */
-#define END_WITHIN 3          /* seconds for the shutdown at Ctrl-C; a page that is gone never answers it */
 
 /* A packet of SCTP that waits until its delay is over. */
 struct packet {
@@ -45,7 +42,7 @@ struct packet {
 static struct {
     SSL *dtls;                  /* NULL if there is no connection */
     const char *end;            /* why it is over, or NULL */
-    char user[9], password[33]; /* of this side, for STUN */
+    char secret[41];            /* this side's user name for STUN, 8 digits, and its password */
     char fingerprint[96];       /* of the page's certificate, by its offer */
     uint32_t max_message_size;  /* of the page, by its offer */
     bool is_client, is_secure, has_address;
@@ -53,7 +50,7 @@ static struct {
     uint64_t heard;             /* when a STUN request came last */
     STAILQ_HEAD(, packet) packets;
     sctp_assoc assoc;
-    sctp_assoc_watch watch; /* says why the association ended */
+    sctp_assoc_watch watch;     /* says why the association ended */
     sctp_channels channels;
 } page;
 
@@ -108,14 +105,14 @@ static void print_stats(FILE *out) {
     done(sctp_assoc_stream_ids(&page.assoc, ids, 65536, &count));
     fprintf(out, "{\"channels\":[");
     for (size_t i = 0; i < count; i++) {
+        size_t bytes = buffered_on(ids[i]);
         if (sctp_channels_get_info(&page.channels, ids[i], &info) != SCTP_ASSOC_DONE)
             continue;
-        buffered += buffered_on(ids[i]);
-        fprintf(out, "%s{\"id\":%u,\"state\":\"%s\",\"buffered\":%zu,\"label\":\"", before, ids[i], states[info.state],
-                buffered_on(ids[i]));
+        fprintf(out, "%s{\"id\":%u,\"label\":\"", before, ids[i]);
         for (const char *at = label_of(ids[i]); *at; at++)
             fprintf(out, (uint8_t)*at < ' ' || *at == '"' || *at == '\\' ? "\\u%04x" : "%c", *at);
-        fprintf(out, "\"}");
+        fprintf(out, "\",\"state\":\"%s\",\"buffered\":%zu}", states[info.state], bytes);
+        buffered += bytes;
         before = ",";
     }
     fprintf(out, "],\"buffered\":%zu,\"roundTrip\":%ju,\"inFlight\":%ju,\"congestionWindow\":%u,\"timeouts\":%ju,"
@@ -123,19 +120,16 @@ static void print_stats(FILE *out) {
             path.congestion_window, totals.retransmission_timeouts, totals.fast_retransmissions);
 }
 
-/* Those of "open" are label, protocol, unordered, kind, value, negotiated and identifier. A word "-" is an empty one. */
+/* Behind "open" stand label, protocol, unordered, kind, value, negotiated and identifier. "-" is an empty word. */
 static void on_command(uint16_t id, const char *command) {
     static char answer[MAX_MESSAGE];
-    sctp_channels_options options = SCTP_CHANNELS_ORDERED_RELIABLE;
     char label[1000], protocol[1000];
-    unsigned unordered, negotiated;
+    unsigned unordered, kind, value, negotiated;
     uint16_t channel = 0;
     FILE *out = fmemopen(answer, sizeof answer, "w");
-    answer[0] = 0;
-    if (sscanf(command, "open %999s %999s %u %u %u %u %hu", label, protocol, &unordered, &options.reliability,
-               &options.value, &negotiated, &options.id) == 7) {
-        options.unordered = unordered != 0;
-        options.negotiated = negotiated != 0;
+    if (sscanf(command, "open %999s %999s %u %u %u %u %hu", label, protocol, &unordered, &kind, &value, &negotiated,
+               &channel) == 7) {
+        sctp_channels_options options = {kind, value, 0, channel, unordered != 0, negotiated != 0};
         sctp_assoc_code code = sctp_channels_open(
             &page.channels, &page.assoc, &options, (uint8_t *)label, strcmp(label, "-") == 0 ? 0 : strlen(label),
             (uint8_t *)protocol, strcmp(protocol, "-") == 0 ? 0 : strlen(protocol), &channel);
@@ -151,90 +145,80 @@ static void on_command(uint16_t id, const char *command) {
     else
         fprintf(out, "{\"code\":-1}");
     fclose(out);
-    if (answer[0])
-        sctp_channels_send(&page.channels, &page.assoc, id, true, (uint8_t *)answer, strlen(answer));
+    sctp_channels_send(&page.channels, &page.assoc, id, true, (uint8_t *)answer, strlen(answer)); /* not after an end */
 }
 
 /* Sends back what came on a channel, unless it is for this program. While much waits there, the rest is left: then the
  * window closes, and the page waits, too. A channel that ends takes nothing more, and the page no message too long. */
 static void receive_on(uint16_t id) {
-    static uint8_t message[MAX_MESSAGE + 1];
+    static uint8_t text[MAX_MESSAGE + 1];
     size_t length;
     bool is_text, is_chat = strcmp(label_of(id), "chat") == 0, is_control = strcmp(label_of(id), "control") == 0;
     sctp_channels_set_low_threshold(&page.channels, &page.assoc, id, MAX_BUFFERED / 2);
     page.chat = is_chat ? id : page.chat;
-    while (buffered_on(id) < MAX_BUFFERED && sctp_channels_receive(&page.channels, &page.assoc, id, message, MAX_MESSAGE,
+    while (buffered_on(id) < MAX_BUFFERED && sctp_channels_receive(&page.channels, &page.assoc, id, text, MAX_MESSAGE,
                                                                    &length, &is_text) == SCTP_ASSOC_DONE) {
-        message[length] = 0;
+        text[length] = 0;
         if (is_chat)
-            printf("page: %s\n", (char *)message);
+            printf("page: %s\n", (char *)text);
         else if (is_control)
-            on_command(id, (char *)message);
+            on_command(id, (char *)text);
         else
-            sctp_channels_send(&page.channels, &page.assoc, id, is_text, message, length);
+            sctp_channels_send(&page.channels, &page.assoc, id, is_text, text, length);
     }
 }
 
 static void on_event(const sctp_channels_event *event) {
-    static const char *const ends[] = {"it was lost", "it was closed here", "it was aborted here",
-                                       "it was shut down in order", "the page aborted it", "the page broke a rule"};
+    static const char *const ends[] = {"the page did not answer the handshake of SCTP", "it was closed here",
+                                       "it was aborted here", "it was shut down in order", "the page aborted it",
+                                       "the page broke a rule of the protocol", "no room is left"};
     if (event->kind == SCTP_CHANNELS_EVENT_CONNECTED)
         puts("the page is connected");
-    else if (event->kind == SCTP_CHANNELS_EVENT_LOST)
-        page.end = event->reason == SCTP_ASSOC_REASON_BUFFER_EXHAUSTED ? "no room is left" : ends[page.watch.end];
-    else if (event->kind == SCTP_CHANNELS_EVENT_HANDSHAKE_FAILED)
-        page.end = "the page did not answer the handshake of SCTP";
+    else if (event->kind == SCTP_CHANNELS_EVENT_LOST || event->kind == SCTP_CHANNELS_EVENT_HANDSHAKE_FAILED)
+        page.end = ends[page.watch.end];
     else if (event->kind != SCTP_CHANNELS_EVENT_CLOSED && event->kind != SCTP_CHANNELS_EVENT_FAILED)
         receive_on(event->id); /* it is open, a message came, or there is room again */
     else if (event->id == page.chat)
         page.chat = -1;
 }
 
-/* The path of SCTP. A packet that is not lost waits. */
+/* A packet of SCTP waits until its delay is over, or is lost, such as where there is no memory for it. */
 static void hold(bool is_incoming, const uint8_t *bytes, size_t length) {
     static unsigned short seed[3] = {1, 2, 3};
-    struct packet *packet;
-    if (erand48(seed) * 100 < loss)
+    struct packet *packet = erand48(seed) * 100 < loss ? NULL : malloc(sizeof *packet + length);
+    if (!packet)
         return;
-    if (!(packet = malloc(sizeof *packet + length)))
-        err(1, "a packet");
-    packet->is_incoming = is_incoming;
-    packet->due = now() + delay;
-    packet->length = length;
+    *packet = (struct packet){.is_incoming = is_incoming, .due = now() + delay, .length = length};
     memcpy(packet->bytes, bytes, length);
     STAILQ_INSERT_TAIL(&page.packets, packet, next);
 }
 
-/* Takes events and polls for packets, until neither brings anything. */
-static void serve(void) {
-    static uint8_t packet[SCTP_ASSOC_MAX_DATAGRAM];
+/* Takes events, polls for packets and lets one through that is due by a moment, until none of it brings anything. */
+static void serve(uint64_t by) {
+    static uint8_t bytes[SCTP_ASSOC_MAX_DATAGRAM];
     sctp_channels_event event;
+    struct packet *packet;
     size_t length;
+    uint32_t fate;
     for (bool is_any = page.is_secure; is_any;) {
         for (is_any = false; done(sctp_channels_poll_event(&page.channels, &page.assoc, &event)); is_any = true)
             on_event(&event);
-        for (; done(sctp_assoc_watched_poll_transmit(&page.assoc, &page.watch, now(), packet, sizeof packet, &length));
+        for (; done(sctp_assoc_watched_poll_transmit(&page.assoc, &page.watch, now(), bytes, sizeof bytes, &length));
              is_any = true)
-            hold(false, packet, length);
-    }
-}
-
-/* Lets packets through that are due by a moment, and serves those that come. What fits no record of DTLS is lost. */
-static void pass_on(uint64_t by) {
-    struct packet *packet;
-    uint32_t fate;
-    while ((packet = STAILQ_FIRST(&page.packets)) && packet->due <= by) {
+            hold(false, bytes, length);
+        if (!(packet = STAILQ_FIRST(&page.packets)) || packet->due > by)
+            continue;
         STAILQ_REMOVE_HEAD(&page.packets, next);
-        if (!packet->is_incoming)
+        if (packet->is_incoming)
+            sctp_assoc_watched_handle_datagram(&page.assoc, &page.watch, now(), packet->bytes, packet->length, &fate);
+        else
             SSL_write(page.dtls, packet->bytes, (int)packet->length);
-        else if (done(sctp_assoc_watched_handle_datagram(&page.assoc, &page.watch, now(), packet->bytes, packet->length,
-                                                         &fate)))
-            serve();
         free(packet);
+        is_any = true;
     }
 }
 
-/* A server waits for the INIT, which browsers send in either role. */
+/* A server waits for the INIT, which browsers send in either role. Both ports are 5000, as all of WebRTC has them. */
 static void begin_association(void) {
     sctp_assoc_config config;
     sctp_assoc_identity identity;
@@ -252,41 +236,35 @@ static void begin_association(void) {
 }
 
 static void print_fingerprint(const X509 *certificate, char text[96]) {
-    uint8_t digest[32];
-    if (X509_digest(certificate, EVP_sha256(), digest, NULL) != 1 ||
-        OPENSSL_buf2hexstr_ex(text, 96, NULL, digest, sizeof digest, ':') != 1)
-        errx(1, "no fingerprint");
+    uint8_t digest[32] = {0};
+    X509_digest(certificate, EVP_sha256(), digest, NULL);
+    OPENSSL_buf2hexstr_ex(text, 96, NULL, digest, sizeof digest, ':');
 }
 
 /* In WebRTC nobody vouches for a certificate but the fingerprint in the offer. */
-static int is_that_of_offer(X509_STORE_CTX *context, void *user) {
+static int is_expected(X509_STORE_CTX *context, void *expected) {
     char text[96];
-    (void)user;
     print_fingerprint(X509_STORE_CTX_get0_cert(context), text);
-    return strcasecmp(text, page.fingerprint) == 0;
+    return strcasecmp(text, expected) == 0;
 }
 
 static void make_certificate(void) {
     EVP_PKEY *key = EVP_EC_gen("P-256");
     X509 *certificate = X509_new();
-    X509_NAME *name = X509_get_subject_name(certificate);
     X509_gmtime_adj(X509_getm_notBefore(certificate), -24 * 3600);
     X509_gmtime_adj(X509_getm_notAfter(certificate), 30 * 24 * 3600);
-    X509_NAME_add_entry_by_txt(name, "CN", MBSTRING_ASC, (const uint8_t *)"webrtc", -1, -1, 0);
-    X509_set_issuer_name(certificate, name);
+    X509_NAME_add_entry_by_txt(X509_get_subject_name(certificate), "CN", MBSTRING_ASC, (uint8_t *)"webrtc", -1, -1, 0);
+    X509_set_issuer_name(certificate, X509_get_subject_name(certificate));
     X509_set_pubkey(certificate, key);
     dtls_context = SSL_CTX_new(DTLS_method());
     if (!dtls_context || X509_sign(certificate, key, EVP_sha256()) == 0 ||
         SSL_CTX_use_certificate(dtls_context, certificate) != 1 || SSL_CTX_use_PrivateKey(dtls_context, key) != 1)
         errx(1, "no certificate");
     print_fingerprint(certificate, fingerprint);
-    SSL_CTX_set_min_proto_version(dtls_context, DTLS1_2_VERSION);
     SSL_CTX_set_verify(dtls_context, SSL_VERIFY_PEER | SSL_VERIFY_FAIL_IF_NO_PEER_CERT, NULL);
-    SSL_CTX_set_cert_verify_callback(dtls_context, is_that_of_offer, NULL);
-    SSL_CTX_set_options(dtls_context, SSL_OP_NO_QUERY_MTU | SSL_OP_NO_RENEGOTIATION);
+    SSL_CTX_set_cert_verify_callback(dtls_context, is_expected, page.fingerprint);
+    SSL_CTX_set_options(dtls_context, SSL_OP_NO_DTLSv1 | SSL_OP_NO_QUERY_MTU | SSL_OP_NO_RENEGOTIATION);
     SSL_CTX_set_tlsext_use_srtp(dtls_context, "SRTP_AES128_CM_SHA1_80"); /* some peers refuse a side without it */
-    X509_free(certificate);
-    EVP_PKEY_free(key);
 }
 
 /* It writes to the socket itself, but it is handed what comes, since that is not DTLS alone. */
@@ -314,71 +292,46 @@ static void serve_dtls(void) {
         hold(true, packet, (size_t)length);
     if (SSL_get_shutdown(page.dtls) & SSL_RECEIVED_SHUTDOWN)
         page.end = "the page closed DTLS";
-    serve();
-    pass_on(now());
+    serve(now());
 }
 
-static uint32_t crc32(const uint8_t *bytes, size_t length) {
-    uint32_t crc = UINT32_MAX;
-    for (size_t bit = 0; bit < 8 * length; bit++) {
-        crc ^= bit % 8 == 0 ? bytes[bit / 8] : 0;
-        crc = crc >> 1 ^ (crc & 1 ? UINT32_C(0xedb88320) : 0);
-    }
-    return ~crc;
-}
-
-/* The value of MESSAGE-INTEGRITY at this place of a message, with which its length in the header ends then. */
-static void sign(uint8_t *message, size_t at, uint8_t digest[20]) {
-    message[2] = (uint8_t)((at + 4) >> 8);
-    message[3] = (uint8_t)(at + 4);
-    HMAC(EVP_sha1(), page.password, (int)strlen(page.password), message, at, digest, NULL);
-}
-
-/* Where an attribute of this type stands in a message of STUN (RFC 8489), or 0. */
-static size_t find_attribute(const uint8_t *message, size_t length, int type) {
-    for (size_t at = 20, size; at + 4 <= length; at += 4 + (size + 3) / 4 * 4) {
-        size = (size_t)message[at + 2] << 8 | message[at + 3];
-        if ((message[at] << 8 | message[at + 1]) == type && size <= length - at - 4)
-            return at;
-    }
-    return 0;
-}
-
-/* Answers a Binding request that was made under the password of this side. DTLS goes to the address that the page
- * nominated last, or before that to the one that it asked from first. */
+/* Answers a Binding request of STUN (RFC 8489) under the password of this side, which ends, as those of ICE do, with
+ * MESSAGE-INTEGRITY and FINGERPRINT. DTLS goes to the address that was nominated last, at first to any. */
 static void on_stun(uint8_t *message, size_t length, const struct sockaddr_in *from) {
-    uint8_t answer[64] = {1, 1}, digest[20];
-    size_t integrity = find_attribute(message, length, 0x0008);
-    uint32_t crc;
-    if (length < 20 || message[0] != 0 || message[1] != 1 || integrity == 0 || integrity + 24 > length)
+    uint8_t digest[20], answer[64] = {1, 1, [3] = 36, [21] = 0x20, [23] = 8, [25] = 1, /* XOR-MAPPED-ADDRESS */
+                                      0x21, 0x12, 0x21, 0x12, 0xa4, 0x42, [33] = 8, [35] = 20, /* MESSAGE-INTEGRITY */
+                                      [56] = 0x80, 0x28, [59] = 4}; /* FINGERPRINT */
+    size_t before = length - 32;
+    uint32_t crc = UINT32_MAX;
+    if (length < 52 || memcmp(message, "\0\1", 2) != 0 || memcmp(message + before, "\0\x08\0\x14", 4) != 0)
         return;
-    sign(message, integrity, digest);
-    if (CRYPTO_memcmp(digest, message + integrity + 4, 20) != 0)
+    message[2] = (uint8_t)((before + 4) >> 8); /* its length without FINGERPRINT */
+    message[3] = (uint8_t)(before + 4);
+    HMAC(EVP_sha1(), page.secret + 8, 32, message, before, digest, NULL);
+    if (CRYPTO_memcmp(digest, message + before + 4, 20) != 0)
         return;
     memcpy(answer + 4, message + 4, 16);
-    memcpy(answer + 20, "\0\x20\0\x08\0\1", 6); /* XOR-MAPPED-ADDRESS */
-    memcpy(answer + 26, &from->sin_port, 2);
-    memcpy(answer + 28, &from->sin_addr, 4);
-    for (int i = 0; i < 6; i++)
-        answer[26 + i] ^= (uint8_t)"\x21\x12\x21\x12\xa4\x42"[i];
-    memcpy(answer + 32, "\0\x08\0\x14", 4); /* MESSAGE-INTEGRITY */
-    sign(answer, 32, answer + 36);
-    memcpy(answer + 56, "\x80\x28\0\4", 4); /* FINGERPRINT, with which the message ends */
-    answer[3] = sizeof answer - 20;
-    crc = htonl(crc32(answer, 56) ^ UINT32_C(0x5354554e));
+    for (size_t i = 0; i < 6; i++) /* port and address */
+        answer[26 + i] ^= ((const uint8_t *)from)[offsetof(struct sockaddr_in, sin_port) + i];
+    HMAC(EVP_sha1(), page.secret + 8, 32, answer, 32, answer + 36, NULL);
+    answer[3] = 44;
+    for (int bit = 0; bit < 56 * 8; bit++) { /* CRC-32 */
+        crc ^= bit % 8 == 0 ? answer[bit / 8] : 0;
+        crc = crc >> 1 ^ (crc & 1 ? 0xedb88320 : 0);
+    }
+    crc = htonl(~crc ^ 0x5354554e);
     memcpy(answer + 60, &crc, 4);
     sendto(udp, answer, sizeof answer, 0, (const struct sockaddr *)from, sizeof *from);
     page.heard = now();
-    if (!page.has_address || find_attribute(message, integrity, 0x0025) != 0) { /* USE-CANDIDATE */
+    if (!page.has_address || memmem(message, before, "\0\x25\0\0", 4)) { /* USE-CANDIDATE */
         BIO_ADDR *to = BIO_ADDR_new();
         BIO_ADDR_rawmake(to, AF_INET, &from->sin_addr, sizeof from->sin_addr, from->sin_port);
-        BIO_dgram_set_peer(SSL_get_wbio(page.dtls), to);
+        page.has_address = BIO_dgram_set_peer(SSL_get_wbio(page.dtls), to) == 1;
         BIO_ADDR_free(to);
-        page.has_address = true;
     }
 }
 
-/* DTLS that is not of this page is dropped by DTLS itself (RFC 7983 says what is what). */
+/* What is not of this page's DTLS is dropped there. */
 static void on_udp(void) {
     static uint8_t datagram[65536];
     struct sockaddr_in from;
@@ -388,25 +341,19 @@ static void on_udp(void) {
         length = recvfrom(udp, datagram, sizeof datagram, MSG_DONTWAIT, (struct sockaddr *)&from, &size);
         if (length <= 0 || !page.dtls)
             return;
-        if (datagram[0] < 4)
+        if (datagram[0] < 4) /* RFC 7983 */
             on_stun(datagram, (size_t)length, &from);
-        else if (page.has_address && datagram[0] >= 20 && datagram[0] < 64) {
-            BIO_write(SSL_get_rbio(page.dtls), datagram, (int)length);
+        else if (page.has_address && BIO_write(SSL_get_rbio(page.dtls), datagram, (int)length) > 0)
             serve_dtls();
-        }
     }
 }
 
 /* Ends the connection, by an ABORT unless the association is over. */
 static void take_down(const char *why) {
     sctp_assoc_watched_abort(&page.assoc, &page.watch, (const uint8_t *)why, strlen(why));
-    serve();
-    pass_on(UINT64_MAX);
+    serve(UINT64_MAX);
     SSL_shutdown(page.dtls);
-    printf("the connection ended: %s", why);
-    if (page.watch.end == SCTP_ASSOC_END_ABORT_CAME)
-        printf(" (cause %u: %.*s)", page.watch.cause, page.watch.reason_length, (char *)page.watch.reason);
-    putchar('\n');
+    printf("the connection ended: %s %.*s\n", why, page.watch.reason_length, (char *)page.watch.reason);
     SSL_free(page.dtls);
     sctp_channels_free(&page.channels);
     sctp_assoc_free(&page.assoc);
@@ -435,107 +382,81 @@ static bool on_offer(const char *offer, char *answer, size_t room) {
     snprintf(page.fingerprint, sizeof page.fingerprint, "%s", find(offer, "a=fingerprint:sha-256 ", ""));
     if (getentropy(random, sizeof random) != 0)
         err(1, "a password");
-    OPENSSL_buf2hexstr_ex(page.user, sizeof page.user, NULL, random, 4, 0);
-    OPENSSL_buf2hexstr_ex(page.password, sizeof page.password, NULL, random + 4, 16, 0);
+    OPENSSL_buf2hexstr_ex(page.secret, sizeof page.secret, NULL, random, sizeof random, 0);
     begin_dtls();
     snprintf(answer, room,
              "v=0\r\no=- 1 1 IN IP4 %s\r\ns=-\r\nt=0 0\r\na=group:BUNDLE %.*s\r\na=ice-lite\r\n"
-             "m=application %d UDP/DTLS/SCTP webrtc-datachannel\r\nc=IN IP4 %s\r\na=mid:%.*s\r\n"
-             "a=ice-ufrag:%s\r\na=ice-pwd:%s\r\na=fingerprint:sha-256 %s\r\na=setup:%s\r\n"
-             "a=sctp-port:5000\r\na=max-message-size:%d\r\n"
+             "m=application %d UDP/DTLS/SCTP webrtc-datachannel\r\nc=IN IP4 %s\r\na=mid:%.*s\r\na=ice-ufrag:%.8s\r\n"
+             "a=ice-pwd:%s\r\na=fingerprint:sha-256 %s\r\na=setup:%s\r\na=sctp-port:5000\r\na=max-message-size:%d\r\n"
              "a=candidate:1 1 udp 2130706431 %s %d typ host\r\na=end-of-candidates\r\n",
-             address, mid_length, mid, port, address, mid_length, mid, page.user, page.password, fingerprint,
+             address, mid_length, mid, port, address, mid_length, mid, page.secret, page.secret + 8, fingerprint,
              page.is_client ? "active" : "passive", MAX_MESSAGE, address, port);
-    return true;
-}
-
-/* The page lies beside this source. */
-static bool read_page(char *text, size_t room) {
-    char path[4096];
-    FILE *file;
-    snprintf(path, sizeof path, "%.*shtml", (int)sizeof __FILE__ - 2, __FILE__);
-    if (!(file = fopen(path, "r")) && !(file = fopen("examples/webrtc.html", "r")))
-        return false;
-    text[fread(text, 1, room - 1, file)] = 0;
-    fclose(file);
     return true;
 }
 
 /* A connection is accepted once a request is there, so that little is waited for. */
 static void on_http(void) {
-    static char line[65536], offer[65536], body[65536];
-    char request[100];
-    const char *status = "200 OK", *type = "text/html; charset=utf-8";
+    static char line[65536], body[65536], answer[65536];
+    char request[100] = "", path[] = __FILE__ "tml";
     size_t length = 0;
-    FILE *http = fdopen(accept(listener, NULL, NULL), "r");
+    FILE *file, *http = fdopen(accept(listener, NULL, NULL), "r");
     if (!http)
         return;
-    request[0] = body[0] = 0;
     fgets(request, sizeof request, http);
     while (fgets(line, sizeof line, http) && line[0] != '\r')
         if (strncasecmp(line, "Content-Length:", 15) == 0)
             length = strtoul(line + 15, NULL, 10);
-    offer[fread(offer, 1, MIN(length, sizeof offer - 1), http)] = 0;
-    if (strncmp(request, "POST /offer ", 12) == 0 && on_offer(offer, body, sizeof body))
-        type = "application/sdp";
-    else if (strncmp(request, "GET / ", 6) != 0 || !read_page(body, sizeof body))
-        status = "404 Not Found";
-    dprintf(fileno(http), "HTTP/1.1 %s\r\nContent-Type: %s\r\nContent-Length: %zu\r\nAccess-Control-Allow-Origin: *\r\n"
-            "Connection: close\r\n\r\n%s", status, type, strlen(body), body);
+    body[fread(body, 1, MIN(length, sizeof body - 1), http)] = 0;
+    path[sizeof __FILE__ - 2] = 'h'; /* webrtc.html lies beside this source, webrtc.c */
+    bool is_offer = strncmp(request, "POST /offer ", 12) == 0, is_page = strncmp(request, "GET / ", 6) == 0;
+    if (is_page && (file = fopen(path, "r"))) {
+        answer[fread(answer, 1, sizeof answer - 1, file)] = 0;
+        fclose(file);
+    } else if (!is_offer || !on_offer(body, answer, sizeof answer))
+        answer[0] = 0;
+    dprintf(fileno(http), "HTTP/1.1 %s\r\nContent-Type: %s\r\nAccess-Control-Allow-Origin: *\r\nConnection: close\r\n"
+            "Content-Length: %zu\r\n\r\n%s", answer[0] ? "200 OK" : "404 Not Found",
+            is_offer ? "application/sdp" : "text/html; charset=utf-8", strlen(answer), answer);
     fclose(http);
 }
 
-/* Typed lines wait until there is a chat, and while much waits to go out on it. */
-static void on_input(void) {
+/* Until something comes, or a packet or timer of SCTP is due; the rest waits 100 ms. Input waits for a chat with room. */
+static void turn(void) {
     static char *line;
     static size_t room;
-    ssize_t length = getline(&line, &room, stdin);
-    if (length <= 0)
-        input = -1;
-    else
-        sctp_channels_send(&page.channels, &page.assoc, (uint16_t)page.chat, true, (uint8_t *)line,
-                           (size_t)length - (line[length - 1] == '\n'));
-}
-
-/* Waits until something comes or is due. DTLS, consent and Ctrl-C are looked after every 100 ms. */
-static void turn(void) {
-    int chat = page.dtls && page.chat >= 0 && buffered_on((uint16_t)page.chat) < MAX_BUFFERED ? input : -1;
-    struct pollfd ready[] = {{.fd = udp, .events = POLLIN},
-                             {.fd = listener, .events = POLLIN},
-                             {.fd = chat, .events = POLLIN}};
-    uint64_t at = now(), due = at + SECOND / 10, moment;
-    if (sctp_assoc_poll_timeout(&page.assoc, &moment) == SCTP_ASSOC_DONE)
-        due = MIN(due, moment);
-    if (page.dtls && !STAILQ_EMPTY(&page.packets))
+    bool has_room = page.dtls && page.chat >= 0 && buffered_on(page.chat) < MAX_BUFFERED;
+    struct pollfd ready[] = {{udp, POLLIN, 0}, {listener, POLLIN, 0}, {has_room ? input : -1, POLLIN, 0}};
+    uint64_t at = now(), due = at + SECOND / 10, timeout;
+    if (sctp_assoc_poll_timeout(&page.assoc, &timeout) == SCTP_ASSOC_DONE)
+        due = MIN(due, timeout);
+    if (STAILQ_FIRST(&page.packets))
         due = MIN(due, STAILQ_FIRST(&page.packets)->due);
     poll(ready, 3, due > at ? (int)((due - at + 999999) / 1000000) : 0);
     on_udp();
     if (ready[1].revents)
         on_http();
-    if (ready[2].revents)
-        on_input();
+    if (ready[2].revents && getline(&line, &room, stdin) <= 0)
+        input = -1;
+    else if (ready[2].revents)
+        sctp_channels_send(&page.channels, &page.assoc, page.chat, true, (uint8_t *)line, strcspn(line, "\n"));
     if (!page.dtls)
         return;
-    if (page.is_secure)
-        done(sctp_assoc_handle_timeout(&page.assoc, now()));
+    sctp_assoc_handle_timeout(&page.assoc, now());
     serve_dtls();
-    if (now() > page.heard + CONSENT * SECOND)
+    if (now() > page.heard + 30 * SECOND) /* RFC 7675 */
         page.end = "the page was not heard of for long (ICE consent)";
     if (page.end)
         take_down(page.end);
 }
 
 static void open_sockets(void) {
-    struct sockaddr_in own = {.sin_family = AF_INET, .sin_port = htons((uint16_t)port)};
+    const struct sockaddr_in own = {AF_INET, htons((uint16_t)port), {inet_addr(address)}, {0}};
     const struct timeval patience = {.tv_usec = 200000};
     const int on = 1, seconds = 60;
-    if (inet_pton(AF_INET, address, &own.sin_addr) != 1)
-        errx(1, "no IPv4 address: %s", address);
     listener = socket(AF_INET, SOCK_STREAM, 0);
     udp = socket(AF_INET, SOCK_DGRAM, 0);
     setsockopt(listener, SOL_SOCKET, SO_REUSEADDR, &on, sizeof on);
     setsockopt(listener, SOL_SOCKET, SO_RCVTIMEO, &patience, sizeof patience); /* of its connections, too */
-    setsockopt(listener, SOL_SOCKET, SO_SNDTIMEO, &patience, sizeof patience);
     setsockopt(listener, IPPROTO_TCP, TCP_DEFER_ACCEPT, &seconds, sizeof seconds);
     if (bind(listener, (struct sockaddr *)&own, sizeof own) != 0 || listen(listener, 10) != 0 ||
         bind(udp, (struct sockaddr *)&own, sizeof own) != 0)
@@ -543,39 +464,21 @@ static void open_sockets(void) {
 }
 
 static void on_interrupt(int signal) {
-    (void)signal;
-    interrupts++;
-}
-
-/* The first Ctrl-C ends the association in order, a second one at once. */
-static void run(void) {
-    uint64_t end_until = 0;
-    while (interrupts == 0)
-        turn();
-    if (sctp_assoc_shutdown(&page.assoc) == SCTP_ASSOC_DONE)
-        end_until = now() + END_WITHIN * SECOND;
-    while (page.dtls && interrupts == 1 && now() < end_until)
-        turn();
-    if (page.dtls)
-        take_down("the program ends");
+    interrupts += signal == SIGINT;
 }
 
 int main(int argc, char **argv) {
     static const struct option names[] = {{"address", 1, 0, 'a'}, {"port", 1, 0, 'p'},  {"client", 0, 0, 'c'},
                                           {"loss", 1, 0, 'l'},    {"delay", 1, 0, 'd'}, {0}};
     for (int name; (name = getopt_long(argc, argv, "", names, NULL)) != -1;) {
-        if (name == 'a')
-            address = optarg;
-        else if (name == 'p')
-            port = atoi(optarg);
-        else if (name == 'c')
-            prefers_client = true;
-        else if (name == 'l')
-            loss = atof(optarg);
-        else if (name == 'd')
-            delay = strtoul(optarg, NULL, 10) * (SECOND / 1000);
-        else
-            errx(2, "[--address A] [--port N] [--client] [--loss P] [--delay MS]");
+        switch (name) {
+        case 'a': address = optarg; break;
+        case 'p': port = atoi(optarg); break;
+        case 'c': prefers_client = true; break;
+        case 'l': loss = atof(optarg); break;
+        case 'd': delay = strtoul(optarg, NULL, 10) * (SECOND / 1000); break;
+        default: errx(2, "[--address A] [--port N] [--client] [--loss P] [--delay MS]");
+        }
     }
     setvbuf(stdin, NULL, _IONBF, 0); /* no line is hidden from poll() in a buffer */
     setvbuf(stdout, NULL, _IOLBF, 0);
@@ -584,6 +487,12 @@ int main(int argc, char **argv) {
     open_sockets();
     make_certificate();
     printf("http://%s:%d/\n", address, port);
-    run();
-    SSL_CTX_free(dtls_context);
+    while (interrupts == 0)
+        turn();
+    /* The first Ctrl-C ends the association in order, but does not wait for ever; a second one ends it at once. */
+    bool is_ending = sctp_assoc_shutdown(&page.assoc) == SCTP_ASSOC_DONE;
+    for (uint64_t until = now() + 3 * SECOND; is_ending && page.dtls && interrupts == 1 && now() < until;)
+        turn();
+    if (page.dtls)
+        take_down("the program ends");
 }
