@@ -420,7 +420,7 @@ static void on_http(void) {
     fclose(http);
 }
 
-/* Until something comes, or a packet or timer of SCTP is due; the rest waits 100 ms. Input waits for a chat with room. */
+/* Waits for what comes and for what SCTP has due, and looks after the rest every 100 ms. Input waits for the chat. */
 static void turn(void) {
     static char *line;
     static size_t room;
