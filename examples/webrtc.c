@@ -21,7 +21,6 @@
 #include <openssl/ssl.h>
 #include <poll.h>
 #include <signal.h>
-#include <sys/param.h>
 #include <sys/queue.h>
 
 #define SECOND UINT64_C(1000000000)
@@ -44,7 +43,7 @@ static struct {
     const char *end;            /* why it is over, or NULL */
     char secret[41];            /* this side's user name for STUN, 8 digits, and its password */
     char fingerprint[96];       /* of the page's certificate, by its offer */
-    uint32_t max_message_size;  /* of the page, by its offer */
+    uint32_t max_message_size, sctp_port; /* of the page, by its offer, too */
     bool is_client, is_secure, has_address;
     int chat;                   /* the channel of the chat, or -1 */
     uint64_t heard;             /* when a STUN request came last */
@@ -218,12 +217,13 @@ static void serve(uint64_t by) {
     }
 }
 
-/* A server waits for the INIT, which browsers send in either role. Both ports are 5000, as all of WebRTC has them. */
+/* A server waits for the INIT, which browsers send in either role. */
 static void begin_association(void) {
     sctp_assoc_config config;
     sctp_assoc_identity identity;
     done(sctp_assoc_default_config(&config));
     config.max_receive_message_size = MAX_MESSAGE;
+    config.remote_port = (uint16_t)page.sctp_port;
     if (getentropy(&identity, sizeof identity) != 0)
         err(1, "an identity");
     identity.tag |= 1; /* so that neither number is 0 */
@@ -379,6 +379,7 @@ static bool on_offer(const char *offer, char *answer, size_t room) {
     page.heard = now();
     page.is_client = strncmp(setup, "passive", 7) == 0 || (prefers_client && strncmp(setup, "active", 6) != 0);
     page.max_message_size = (uint32_t)strtoul(find(offer, "a=max-message-size:", "65536"), NULL, 10);
+    page.sctp_port = (uint32_t)strtoul(find(offer, "a=sctp-port:", "5000"), NULL, 10);
     snprintf(page.fingerprint, sizeof page.fingerprint, "%s", find(offer, "a=fingerprint:sha-256 ", ""));
     if (getentropy(random, sizeof random) != 0)
         err(1, "a password");
@@ -406,7 +407,7 @@ static void on_http(void) {
     while (fgets(line, sizeof line, http) && line[0] != '\r')
         if (strncasecmp(line, "Content-Length:", 15) == 0)
             length = strtoul(line + 15, NULL, 10);
-    body[fread(body, 1, MIN(length, sizeof body - 1), http)] = 0;
+    body[fread(body, 1, length < sizeof body ? length : sizeof body - 1, http)] = 0;
     path[sizeof __FILE__ - 2] = 'h'; /* webrtc.html lies beside this source, webrtc.c */
     bool is_offer = strncmp(request, "POST /offer ", 12) == 0, is_page = strncmp(request, "GET / ", 6) == 0;
     if (is_page && (file = fopen(path, "r"))) {
@@ -427,10 +428,10 @@ static void turn(void) {
     bool has_room = page.dtls && page.chat >= 0 && buffered_on(page.chat) < MAX_BUFFERED;
     struct pollfd ready[] = {{udp, POLLIN, 0}, {listener, POLLIN, 0}, {has_room ? input : -1, POLLIN, 0}};
     uint64_t at = now(), due = at + SECOND / 10, timeout;
-    if (sctp_assoc_poll_timeout(&page.assoc, &timeout) == SCTP_ASSOC_DONE)
-        due = MIN(due, timeout);
-    if (STAILQ_FIRST(&page.packets))
-        due = MIN(due, STAILQ_FIRST(&page.packets)->due);
+    if (sctp_assoc_poll_timeout(&page.assoc, &timeout) == SCTP_ASSOC_DONE && timeout < due)
+        due = timeout;
+    if (STAILQ_FIRST(&page.packets) && STAILQ_FIRST(&page.packets)->due < due)
+        due = STAILQ_FIRST(&page.packets)->due;
     poll(ready, 3, due > at ? (int)((due - at + 999999) / 1000000) : 0);
     on_udp();
     if (ready[1].revents)
