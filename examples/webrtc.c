@@ -6,7 +6,7 @@
  *   cc -O2 -Iinclude -o webrtc examples/webrtc.c "$(./library channels)" -lssl -lcrypto
  *   ./webrtc                      then open the page that it names; Ctrl-C ends it
  *
- *   --address A, --port N         where the page finds it, by TCP and UDP; else at 127.0.0.1 and 8080
+ *   --address A, --port N         where it is, by TCP and UDP; else 127.0.0.1, which Firefox leaves out, and 8080
  *   --client                      to be the client of DTLS and of SCTP, and not the server
  *   --loss P, --delay MS          loses P percent of the SCTP packets of each direction, and delays the others
  */
