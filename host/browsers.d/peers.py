@@ -39,7 +39,7 @@ FIREFOX_PREFERENCES = {
 @dataclass(frozen=True)
 class Peer:
     name: str
-    title: str  # what stands before the version of `package`
+    title: str  # {} stands for the version of `package`
     package: str  # that which names the version
     packages: tuple  # all that it needs
 
@@ -82,9 +82,9 @@ class Aiortc(Peer):
 
 
 PEERS = [
-    Chromium("chromium", "Chromium", "chromium", ("chromium",)),
-    Firefox("firefox", "Firefox", "firefox-esr", ("firefox-esr",)),
-    Firefox("firefox-usrsctp", "Firefox, usrsctp", "firefox-esr", ("firefox-esr",), uses_dcsctp=False),
-    Pion("pion", "pion", "golang-github-pion-webrtc.v3-dev", ("golang-go", "golang-github-pion-webrtc.v3-dev")),
-    Aiortc("aiortc", "aiortc", "python3-aiortc", ("python3-aiortc",)),
+    Chromium("chromium", "Chromium {}", "chromium", ("chromium",)),
+    Firefox("firefox", "Firefox {}", "firefox-esr", ("firefox-esr",)),
+    Firefox("firefox-usrsctp", "Firefox {}, usrsctp", "firefox-esr", ("firefox-esr",), uses_dcsctp=False),
+    Pion("pion", "pion {}", "golang-github-pion-webrtc.v3-dev", ("golang-go", "golang-github-pion-webrtc.v3-dev")),
+    Aiortc("aiortc", "aiortc {}", "python3-aiortc", ("python3-aiortc",)),
 ]

@@ -65,7 +65,7 @@ class Results:
         return "yes" if set(marks) == {PASSED} else "".join(marks)
 
     def print_table(self, peers, cases):
-        heads = [f"{peer.title} {machine.version_of(peer.package)}" for peer in peers]
+        heads = [peer.title.format(machine.version_of(peer.package)) for peer in peers]
         rows = [["", *heads], *([case.title, *(self.cell(peer.name, case.name) for peer in peers)] for case in cases)]
         widths = [max(len(row[column]) for row in rows) for column in range(len(rows[0]))]
         rows.insert(1, ["-" * width for width in widths])

@@ -6,6 +6,7 @@ import queue
 import re
 import signal
 import subprocess
+import sys
 import tempfile
 import threading
 import time
@@ -94,6 +95,19 @@ class Handler(http.server.BaseHTTPRequestHandler):
         pass
 
 
+class Server(http.server.ThreadingHTTPServer):
+    """For the peer of one run. Connections that break off when the peer is ended are no fault."""
+
+    daemon_threads = True
+
+    def __init__(self, run):
+        super().__init__(("127.0.0.1", 0), Handler)
+        self.run = run
+
+    def handle_error(self, _request, _client_address):
+        self.run.log(f"a connection broke off: {sys.exc_info()[1]}")
+
+
 class Run:
     def __init__(self, peer, role, loss, port, is_ended, tell):
         self.peer, self.role, self.loss, self.port = peer, role, loss, port
@@ -106,6 +120,8 @@ class Run:
         self.log_file = open(os.path.join(machine.OUT, name), "w", encoding="utf-8")
 
     def log(self, text):
+        if self.log_file.closed:
+            return
         self.log_file.write(f"{time.monotonic() - self.began:8.3f} {text}\n")
         self.log_file.flush()
 
@@ -130,8 +146,7 @@ class Run:
             time.sleep(0.05)
 
     def go(self, cases):
-        server = http.server.ThreadingHTTPServer(("127.0.0.1", 0), Handler)
-        server.daemon_threads, server.run = True, self
+        server = Server(self)
         threading.Thread(target=server.serve_forever, daemon=True).start()
         waiting = list(cases)
         try:

@@ -2,10 +2,9 @@ package main
 
 import (
 	"fmt"
-	"strings"
 	"time"
 
-	"github.com/pion/webrtc/v3"
+	"github.com/pion/webrtc"
 )
 
 const rounds = 10
