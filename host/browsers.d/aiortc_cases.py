@@ -34,7 +34,9 @@ def is_reliable(kind):
 
 
 async def echo_each(channel):
-    await channel.echo("hello", "Grüße, 世界 🎈", bytes_of(5, 1), bytes_of(3000, 2), "")
+    """One at a time, since on an unordered channel they may come back in another order."""
+    for message in ("hello", "Grüße, 世界 🎈", bytes_of(5, 1), bytes_of(3000, 2), ""):
+        await channel.echo(message)
 
 
 async def channels_by_peer(connection):
@@ -296,9 +298,9 @@ async def channels_at_once(connection):
     await each(channel.echo(*words_of(i, 10)) for i, channel in enumerate(channels))
 
 
-async def thousand_channels(connection):
+async def many_by_program(connection, count):
     await connection.begin()
-    channels = await opened_at_once_by_program(connection, 1030)
+    channels = await opened_at_once_by_program(connection, count)
     await channels[-1].echo("hello")
 
 
@@ -392,7 +394,8 @@ CASES = {
     "lifetime": lifetime,
     "fifty-channels": fifty_channels,
     "channels-at-once": channels_at_once,
-    "thousand-channels": thousand_channels,
+    "thousand-channels": lambda connection: many_by_program(connection, 1000),
+    "past-2047": lambda connection: many_by_program(connection, 1030),
     "reopened-by-peer": reopened_by_peer,
     "reopened-by-program": reopened_by_program,
     "reopened-by-both": reopened_by_both,

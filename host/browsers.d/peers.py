@@ -15,6 +15,7 @@ CHROMIUM_OPTIONS = [
     "--disable-extensions",
     "--no-first-run",
     "--allow-loopback-in-peer-connection",
+    "--disable-features=WebRtcHideLocalIpsWithMdns",  # for want of multicast here no name would be found
 ]
 
 # Firefox gathers the addresses of the loopback interface if it is told to, and if the page captures, for which it gets

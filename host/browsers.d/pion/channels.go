@@ -33,7 +33,8 @@ var cases = map[string]testCase{
 	"lifetime":            func(c *connection) string { return unreliable(c, kind{isTimed: true, value: number(200)}) },
 	"fifty-channels":      fiftyChannels,
 	"channels-at-once":    channelsAtOnce,
-	"thousand-channels":   thousandChannels,
+	"thousand-channels":   func(c *connection) string { return manyByProgram(c, 1000) },
+	"past-2047":           func(c *connection) string { return manyByProgram(c, 1030) },
 	"reopened-by-peer":    reopenedAfterPeer,
 	"reopened-by-program": reopenedAfterProgram,
 	"reopened-by-both":    reopenedAfterBoth,
@@ -100,8 +101,11 @@ func (k kind) expectOf(c *channel) {
 	expectEqual(shown(c.MaxPacketLifeTime()), shown(expected.MaxPacketLifeTime), "maxPacketLifeTime")
 }
 
+// One at a time, since on an unordered channel they may come back in another order.
 func echoEach(c *channel) {
-	c.echo(text("hello"), text("Grüße, 世界 🎈"), binary(5, 1), binary(3000, 2), text(""))
+	for _, m := range []message{text("hello"), text("Grüße, 世界 🎈"), binary(5, 1), binary(3000, 2), text("")} {
+		c.echo(m)
+	}
 }
 
 func begun(c *connection) { c.begin(func() {}) }
@@ -277,9 +281,9 @@ func channelsAtOnce(c *connection) string {
 	return ""
 }
 
-func thousandChannels(c *connection) string {
+func manyByProgram(c *connection, count int) string {
 	begun(c)
-	opened := openedAtOnceByProgram(c, 1030)
+	opened := openedAtOnceByProgram(c, count)
 	opened[len(opened)-1].echo(text("hello"))
 	return ""
 }

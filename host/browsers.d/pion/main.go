@@ -281,13 +281,17 @@ func (c *connection) negotiate(id uint16) *channel {
 	return made.isOpen()
 }
 
+// A channel may be open here before the program has its OPEN.
 func (c *connection) expectListed(open *channel) {
-	for _, listed := range c.command("stats").Channels {
-		if listed.ID == int(*open.ID()) {
-			expectEqual(listed.Label, open.Label(), "the label that the program lists")
-			expectEqual(listed.State, "open", "the state that the program lists")
-			return
+	for i := 0; i < 100; i++ {
+		for _, listed := range c.command("stats").Channels {
+			if listed.ID == int(*open.ID()) {
+				expectEqual(listed.Label, open.Label(), "the label that the program lists")
+				expectEqual(listed.State, "open", "the state that the program lists")
+				return
+			}
 		}
+		time.Sleep(100 * time.Millisecond)
 	}
 	fail("the program does not list %s", open.name())
 }
