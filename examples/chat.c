@@ -68,9 +68,11 @@ static void begin(void) {
 
 static void print_all(uint16_t id) {
     static uint8_t text[MAX_TEXT];
+    sctp_assoc_code code;
     size_t length;
     bool is_text;
-    while (done(sctp_channels_receive(&channels, &assoc, id, text, sizeof text, &length, &is_text)))
+    while ((code = sctp_channels_receive(&channels, &assoc, id, text, sizeof text, &length, &is_text)) ==
+               SCTP_CHANNELS_OTHER || done(code))
         if (fwrite(text, 1, length, stdout) != length || putchar('\n') == EOF)
             stop("no output: errno", (unsigned)errno);
     fflush(stdout);

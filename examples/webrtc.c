@@ -152,17 +152,19 @@ static void on_command(uint16_t id, const char *command) {
 static void receive_on(uint16_t id) {
     static uint8_t text[MAX_MESSAGE + 1];
     size_t length;
+    sctp_assoc_code code;
     bool is_text, is_chat = strcmp(label_of(id), "chat") == 0, is_control = strcmp(label_of(id), "control") == 0;
     sctp_channels_set_low_threshold(&page.channels, &page.assoc, id, MAX_BUFFERED / 2);
     page.chat = is_chat ? id : page.chat;
-    while (buffered_on(id) < MAX_BUFFERED && sctp_channels_receive(&page.channels, &page.assoc, id, text, MAX_MESSAGE,
-                                                                   &length, &is_text) == SCTP_ASSOC_DONE) {
+    while (buffered_on(id) < MAX_BUFFERED &&
+           ((code = sctp_channels_receive(&page.channels, &page.assoc, id, text, MAX_MESSAGE, &length, &is_text)) ==
+            SCTP_ASSOC_DONE || code == SCTP_CHANNELS_OTHER)) {
         text[length] = 0;
         if (is_chat)
             printf("page: %s\n", (char *)text);
         else if (is_control)
             on_command(id, (char *)text);
-        else
+        else if (code == SCTP_ASSOC_DONE)
             sctp_channels_send(&page.channels, &page.assoc, id, is_text, text, length);
     }
 }
@@ -224,10 +226,7 @@ static void begin_association(void) {
     done(sctp_assoc_default_config(&config));
     config.max_receive_message_size = MAX_MESSAGE;
     config.remote_port = (uint16_t)page.sctp_port;
-    if (getentropy(&identity, sizeof identity) != 0)
-        err(1, "an identity");
-    identity.tag |= 1; /* so that neither number is 0 */
-    identity.initial_tsn |= 1;
+    done(sctp_assoc_random_identity(&identity));
     done((page.is_client ? sctp_assoc_client : sctp_assoc_server)(&page.assoc, &config, MAX_PAYLOAD_SIZE, &identity,
                                                                   now()));
     done(sctp_channels_begin(&page.channels, page.is_client ? SCTP_CHANNELS_CLIENT : SCTP_CHANNELS_SERVER));
