@@ -38,8 +38,9 @@ typedef struct sctp_channels {
 /* ---- Codes ----
  *
  * Each call answers a code of sctp_assoc.h, or one of those below. What it gives is written if it answers
- * SCTP_ASSOC_DONE, and a length also at SCTP_ASSOC_NO_ROOM and SCTP_CHANNELS_OTHER. At every other code what the pointers lead to stays as it
- * was, but for the buffer of sctp_channels_receive. SCTP_ASSOC_EMPTY_SLOT: either slot is empty; nothing changed.
+ * SCTP_ASSOC_DONE, and a length also at SCTP_ASSOC_NO_ROOM and SCTP_CHANNELS_OTHER. At every other code what the
+ * pointers lead to stays as it was, but for the buffer of sctp_channels_receive. SCTP_ASSOC_EMPTY_SLOT: either slot is
+ * empty; nothing changed.
  * SCTP_ASSOC_NO_MEMORY: memory was refused. What that leaves:
  *   sctp_channels_poll_event               it can be called again and goes on where it was, or the association has
  *                                          failed
