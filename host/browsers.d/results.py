@@ -7,9 +7,9 @@ import machine
 ROLES = ["server", "client"]
 LOSSES = [0, 2]
 PASSED, FAILED, KNOWN, NOT_RUN = "✓", "✗", "k", "–"
-LEGEND = f"""A cell is `yes` if all four runs passed. Else it has a mark for each: this side as server without loss and with
-2 percent, and as client without loss and with 2 percent. {PASSED} is passed, {FAILED} failed, {KNOWN} failed for a known
-reason, {NOT_RUN} not run."""
+LEGEND = f"""A cell is `yes` if all four runs passed. Else it has a mark for each: this side as server without loss and
+with 2 percent, and as client without loss and with 2 percent. {PASSED} is passed, {FAILED} failed, {KNOWN} failed for a
+known reason, {NOT_RUN} not run."""
 
 
 @dataclass(frozen=True)
