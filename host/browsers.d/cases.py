@@ -40,5 +40,5 @@ CASES = [
     Case("end-by-peer", "the end by the peer", program_says="ended: the page (aborted it|closed DTLS)"),
     Case("end-in-order", "the end in order by this side", program_says="ended: it was shut down in order"),
     Case("end-by-abort", "the end by an ABORT of this side, with its reason",
-         program_says="ended: it was aborted here enough"),
+         program_says="ended: it was aborted here"),
 ]
