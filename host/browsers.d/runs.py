@@ -140,6 +140,7 @@ class Run:
         command = [os.path.join(machine.OUT, "webrtc"), "--address", machine.ADDRESS, "--port", str(self.port)]
         command += ["--client"] if self.role == "client" else []
         command += ["--loss", str(self.loss)] if self.loss else []
+        self.seen = 0  # of the program's lines, those that came before the case
         self.program = Process("program", command, self.log)
         until = time.monotonic() + 10
         while not self.program.lines and not self.program.is_over() and time.monotonic() < until:
@@ -180,9 +181,10 @@ class Run:
 
     def take_result(self, process, case, more_seconds):
         """Waits for the result of a case. Answers whether the peer goes on with the next one."""
-        seen = len(self.program.lines)
+        seen = self.seen
         self.log(f"case {case.name}")
         result, why = self.wait_for_result(process, case.seconds + more_seconds)
+        self.seen = len(self.program.lines)  # of the next case, which the peer has begun by now
         if result is None:
             self.tell(self, case, False, why)
             return False
