@@ -352,7 +352,8 @@ static void take_down(const char *why) {
     sctp_assoc_watched_abort(&page.assoc, &page.watch, (const uint8_t *)why, strlen(why));
     serve(UINT64_MAX);
     SSL_shutdown(page.dtls);
-    printf("the connection ended: %s %.*s\n", why, page.watch.reason_length, (char *)page.watch.reason);
+    printf("the connection ended: %s%s%.*s\n", why, page.watch.reason_length > 0 ? ": " : "", page.watch.reason_length,
+           (char *)page.watch.reason);
     SSL_free(page.dtls);
     sctp_channels_free(&page.channels);
     sctp_assoc_free(&page.assoc);
