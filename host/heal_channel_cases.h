@@ -1,0 +1,137 @@
+/* Sequences of two honest ends with data channels, made by hand. Each states what has to hold of it. */
+#ifndef HEAL_CHANNEL_CASES_H
+#define HEAL_CHANNEL_CASES_H
+
+#include "heal_steps.h"
+
+#include "sctp_channels.h"
+
+#define CHANNELS 8 /* identifiers of channels lie below it */
+
+static sctp_channels sides[2];
+static unsigned channel_told[2][SCTP_CHANNELS_EVENT_HANDSHAKE_FAILED + 1][CHANNELS];
+static size_t received[2][CHANNELS];
+static bool closes_at_message; /* B closes a channel at its first message */
+static const sctp_channels_options ordered_reliable = SCTP_CHANNELS_ORDERED_RELIABLE;
+
+static void receive_all(int side, uint16_t channel) {
+    size_t length;
+    bool is_text;
+    while (sctp_channels_receive(&sides[side], &ends[side], channel, bytes, sizeof bytes, &length, &is_text) ==
+           SCTP_ASSOC_DONE) {
+        received[side][channel]++;
+        if (side == B && closes_at_message)
+            CHECK(done(sctp_channels_close(&sides[B], &ends[B], channel)));
+        closes_at_message &= side != B;
+    }
+}
+
+static void take_channel_events(int side) {
+    sctp_channels_event event;
+    while (done(sctp_channels_poll_event(&sides[side], &ends[side], &event))) {
+        CHECK(event.kind <= SCTP_CHANNELS_EVENT_HANDSHAKE_FAILED && event.id < CHANNELS);
+        channel_told[side][event.kind][event.id]++;
+        if (event.kind == SCTP_CHANNELS_EVENT_MESSAGE)
+            receive_all(side, event.id);
+        else
+            say("%c is told event %u of channel %u, reason %u", "AB"[side], event.kind, event.id, event.reason);
+    }
+}
+
+static void join_sides(void) {
+    static const struct run channel_run = {take_channel_events, send_in_case, look_at_nothing};
+    join_for(&channel_run);
+    CHECK(done(sctp_channels_begin(&sides[A], SCTP_CHANNELS_CLIENT)));
+    CHECK(done(sctp_channels_begin(&sides[B], SCTP_CHANNELS_SERVER)));
+    memset(channel_told, 0, sizeof channel_told);
+    memset(received, 0, sizeof received);
+    closes_at_message = false;
+    turn_both();
+}
+
+static void part_sides(void) {
+    for (int side = 0; side < 2; side++)
+        CHECK(sctp_channels_free(&sides[side]) == SCTP_ASSOC_DONE);
+    end_pair();
+}
+
+/* Whether A opens a channel, whose identifier is answered. */
+static bool opens_channel(sctp_channels_options options, uint16_t *id) {
+    bool is_opened = sctp_channels_open(&sides[A], &ends[A], &options, (const uint8_t *)"channel", 7, NULL, 0, id) ==
+                     SCTP_ASSOC_DONE;
+    turn(A);
+    return is_opened;
+}
+
+static bool sends(int side, uint16_t channel, size_t length) {
+    memset(bytes, 7, length);
+    bool is_sent = sctp_channels_send(&sides[side], &ends[side], channel, false, bytes, length) == SCTP_ASSOC_DONE;
+    turn(side);
+    return is_sent;
+}
+
+static bool is_told_closed(int side, uint16_t channel) {
+    return channel_told[side][SCTP_CHANNELS_EVENT_CLOSED][channel] == 1;
+}
+
+/* B closes a channel on which A has much to send. That ends it, and another channel goes on. */
+static void channels_cancelled(void) {
+    uint16_t file, chat;
+    join_sides();
+    CHECK(opens_channel(ordered_reliable, &file) && opens_channel(ordered_reliable, &chat));
+    pass(1000);
+    CHECK(channel_told[A][SCTP_CHANNELS_EVENT_OPENED][file] == 1);
+    closes_at_message = true;
+    for (int i = 0; i < 40; i++)
+        CHECK(sends(A, file, 65536));
+    pass(60000);
+    CHECK(received[B][file] == 1 && !closes_at_message);
+    HOLDS(goes_on() && channel_told[B][SCTP_CHANNELS_EVENT_LOST][0] == 0);
+    HOLDS(is_told_closed(A, file) && is_told_closed(B, file));
+    HOLDS(sends(A, chat, 5));
+    pass(1000);
+    HOLDS(received[B][chat] == 1);
+    part_sides();
+}
+
+static bool loses_second_request_of_b(int from, const uint8_t *datagram, size_t length) {
+    (void)length;
+    return from == B && is_request(datagram) && ++number_seen == 2;
+}
+
+/* B closes A's channel, its second request is lost once, and A opens another channel. */
+static void channels_reused(void) {
+    uint16_t first, second;
+    join_sides();
+    CHECK(opens_channel(ordered_reliable, &first));
+    pass(1000);
+    lose(loses_second_request_of_b);
+    CHECK(done(sctp_channels_close(&sides[B], &ends[B], first)));
+    turn(B);
+    pass(100);
+    HOLDS(is_told_closed(A, first));
+    CHECK(opens_channel(ordered_reliable, &second));
+    pass(10000);
+    HOLDS(channel_told[A][SCTP_CHANNELS_EVENT_OPENED][second] == (first == second ? 2 : 1));
+    HOLDS(sends(A, second, 5));
+    pass(1000);
+    HOLDS(received[B][second] == 1);
+    part_sides();
+}
+
+/* A negotiated channel that the peer did not open is closed, and can be opened anew. */
+static void channels_negotiated(void) {
+    sctp_channels_options negotiated = {.negotiated = true, .id = 4};
+    uint16_t id;
+    join_sides();
+    CHECK(opens_channel(negotiated, &id) && id == 4);
+    pass(1000);
+    CHECK(done(sctp_channels_close(&sides[A], &ends[A], id)));
+    turn(A);
+    pass(60000);
+    HOLDS(is_told_closed(A, id));
+    HOLDS(opens_channel(negotiated, &id));
+    part_sides();
+}
+
+#endif

@@ -1,0 +1,142 @@
+/* How a seed may end, and what of it is open: the cases by hand that do not hold, with the kinds of ends that each of
+ * them explains. */
+#ifndef HEAL_KINDS_H
+#define HEAL_KINDS_H
+
+#include "heal_pair.h"
+
+enum kind {
+    WELL,
+    READ_WRONG, /* what was read was not written so */
+    READ_TWICE,
+    READ_OUT_OF_ORDER,
+    CLOSED,              /* an end closed by a fault that it saw, or by the peer's ABORT */
+    EXHAUSTED_STOPPED,   /* the receive buffer is full of what can never be read, where a stream was stopped .. */
+    EXHAUSTED_SKIPPED,   /* .. where the first message of a stream was given up .. */
+    EXHAUSTED,           /* .. or where neither is so */
+    SELF_CLOSED,         /* a stream ended that nobody had closed since it was opened anew */
+    UNREAD_SKIPPED,      /* a reliable message is not read, where the first of its stream could be given up .. */
+    UNREAD,              /* .. or where it could not */
+    BUFFERED,            /* what was accepted is neither acknowledged nor given up */
+    RESET_AFTER_FAILED,  /* a reset does not end, where an earlier one was given up */
+    RESET_UNUSED,        /* .. or the other end has no such stream */
+    RESET,               /* .. or neither is so */
+    RESET_UNANSWERED,    /* the peer's half of a stream ended, and the own one does not */
+    BLOCKED,             /* a stream cannot be opened, though the last reset of it was complete */
+    HANDSHAKE,           /* a client is neither connected nor told that the handshake failed */
+    HANDSHAKE_TWO,       /* .. of two */
+    HANDSHAKE_SHUT_DOWN, /* one end shut down, and the other one is not connected */
+    HALF_OPEN,           /* one end is connected, and the other one is not told that the handshake failed */
+    SHUTDOWN,            /* a shutdown does not end */
+    SLOW,                /* all came to its end, later than the timers that ran and what was owed explain */
+    UNARMED,             /* DATA is in flight, and no timer runs */
+    SPINNING,            /* timers expire again and again at one moment */
+    IDLE_TIMER,          /* a timer runs, though nothing is waited for */
+    STORM,               /* more happens than a run of this length explains */
+    KINDS
+};
+
+static const char *const kind_names[KINDS] = {
+    [WELL] = "well",
+    [READ_WRONG] = "read_wrong",
+    [READ_TWICE] = "read_twice",
+    [READ_OUT_OF_ORDER] = "read_out_of_order",
+    [CLOSED] = "closed",
+    [EXHAUSTED_STOPPED] = "exhausted_stopped",
+    [EXHAUSTED_SKIPPED] = "exhausted_skipped",
+    [EXHAUSTED] = "exhausted",
+    [SELF_CLOSED] = "self_closed",
+    [UNREAD_SKIPPED] = "unread_skipped",
+    [UNREAD] = "unread",
+    [BUFFERED] = "buffered",
+    [RESET_AFTER_FAILED] = "reset_after_failed",
+    [RESET_UNUSED] = "reset_unused",
+    [RESET] = "reset",
+    [RESET_UNANSWERED] = "reset_unanswered",
+    [BLOCKED] = "blocked",
+    [HANDSHAKE] = "handshake",
+    [HANDSHAKE_TWO] = "handshake_two",
+    [HANDSHAKE_SHUT_DOWN] = "handshake_shut_down",
+    [HALF_OPEN] = "half_open",
+    [SHUTDOWN] = "shutdown",
+    [SLOW] = "slow",
+    [UNARMED] = "unarmed",
+    [SPINNING] = "spinning",
+    [IDLE_TIMER] = "idle_timer",
+    [STORM] = "storm",
+};
+
+#define OF(kind) (UINT32_C(1) << (kind))
+
+/* The cases by hand that are open, and why. A case that holds is taken off: this list only gets shorter, and a kind is
+ * open as long as a case that explains it is. */
+static const struct {
+    const char *name;
+    uint32_t kinds;
+    const char *why;
+} open_cases[] = {
+    {"reused", OF(SELF_CLOSED) | OF(UNREAD) | OF(EXHAUSTED),
+     "An Outgoing SSN Reset Request of the peer is answered by a second request for a half that an earlier one of this "
+     "side has reset; if that comes late, it resets the next use of the stream."},
+    {"crossing", OF(SELF_CLOSED) | OF(UNREAD) | OF(EXHAUSTED),
+     "The same, where both sides ask for the reset of a stream at once."},
+    {"channels_reused", 0, "The same, for the data channel that is opened next on the stream."},
+    {"cancelled", OF(EXHAUSTED_STOPPED),
+     "DATA of a stream whose read half was closed is kept and counts against a_rwnd, and the association is aborted "
+     "once that is used up."},
+    {"channels_cancelled", 0, "The same, where a data channel is closed while the peer sends on it."},
+    {"two_tags", OF(HANDSHAKE_TWO),
+     "An INIT that is sent again has the Verification Tag of the peer, whose INIT came, and not 0 (RFC 4960 section "
+     "8.5.1), and the peer drops it."},
+    {"dead_resets", OF(RESET_AFTER_FAILED),
+     "A request that was given up leaves the Re-configuration Request Sequence Numbers of both sides apart, and the "
+     "peer performs none of the later ones."},
+    {"forgotten_skip", OF(EXHAUSTED_SKIPPED) | OF(UNREAD_SKIPPED) | OF(UNREAD) | OF(EXHAUSTED),
+     "An entry of a FORWARD TSN for a stream of which no DATA came is forgotten, and the ordered messages behind the "
+     "one that it passed over wait for its SSN."},
+    {"unused", OF(RESET_UNUSED) | OF(RESET),
+     "A request for a stream of which no DATA came is performed, and the other half is not reset in answer."},
+    {"unused_abandoned", 0, "The same, where all DATA of the stream was abandoned."},
+    {"channels_negotiated", 0, "The same, for a negotiated data channel that the peer did not open."},
+    {"shut_early", OF(HANDSHAKE_SHUT_DOWN),
+     "A COOKIE ECHO that comes again after a shutdown was begun is not answered, and DATA in the state COOKIE-ECHOED "
+     "is not acknowledged."},
+    {"two_clients", OF(CLOSED) | OF(READ_TWICE),
+     "A copy of an INIT that comes in the state COOKIE-ECHOED sets back the Cumulative TSN Ack Point."},
+    {"retiring", OF(UNREAD) | OF(EXHAUSTED),
+     "Closing a stream of which a reset use is still to be read drops the DATA of the next use, too."},
+    {"reopened", 0,
+     "No SACK tells of the window that a read opens, so the sender waits for the T3-rtx timer that backed off."},
+    {"reopened_limited", 0, "Probes of a closed window that are answered count against the limit of retransmissions."},
+    {"burst", 0, "After T3-rtx expired, marked DATA goes out in one poll after another past the congestion window."},
+    {"burst_full", 0, "DATA that is marked to go out again counts as outstanding against the peer's window."},
+    {"lost_complete", 0,
+     "A SHUTDOWN ACK that comes to a closed end is not answered by a SHUTDOWN COMPLETE (RFC 4960 section 8.4)."},
+    {"no_rto", 0, "With an RTO.Max of 0 ms T3-rtx is due again at the moment at which it expired."},
+    {"heap", 0, "Queues keep the room of the greatest length that they had."},
+};
+
+static uint32_t open_kinds(void) {
+    uint32_t kinds = OF(WELL);
+    for (size_t i = 0; i < COUNT_OF(open_cases); i++)
+        kinds |= open_cases[i].kinds;
+    return kinds;
+}
+
+/* ---- What was found in a seed ---- */
+
+static enum kind found; /* the first that was, or WELL */
+static char found_text[200];
+
+static void find(enum kind kind, const char *format, ...) {
+    va_list values;
+    if (found != WELL)
+        return;
+    found = kind;
+    va_start(values, format);
+    vsnprintf(found_text, sizeof found_text, format, values);
+    va_end(values);
+    say("found: %s, %s", kind_names[kind], found_text);
+}
+
+#endif
