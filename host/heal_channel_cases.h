@@ -20,9 +20,10 @@ static void receive_all(int side, uint16_t channel) {
     while (sctp_channels_receive(&sides[side], &ends[side], channel, bytes, sizeof bytes, &length, &is_text) ==
            SCTP_ASSOC_DONE) {
         received[side][channel]++;
-        if (side == B && closes_at_message)
+        if (side == B && closes_at_message) {
+            closes_at_message = false;
             CHECK(done(sctp_channels_close(&sides[B], &ends[B], channel)));
-        closes_at_message &= side != B;
+        }
     }
 }
 
