@@ -127,9 +127,13 @@ static bool are_seeds_well(int of_class, uint64_t first, uint64_t last, bool tel
 }
 
 static void print_counts(void) {
-    for (int kind = 0; kind < KINDS; kind++)
-        if (kind_counts[kind] > 0)
-            printf("%s%llu %s", kind == WELL ? "" : ", ", (unsigned long long)kind_counts[kind], kind_names[kind]);
+    const char *between = "";
+    for (int kind = 0; kind < KINDS; kind++) {
+        if (kind_counts[kind] == 0)
+            continue;
+        printf("%s%llu %s", between, (unsigned long long)kind_counts[kind], kind_names[kind]);
+        between = ", ";
+    }
 }
 
 static int run_class(char **arguments, int count) {
