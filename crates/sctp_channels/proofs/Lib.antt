@@ -1,3 +1,4 @@
 mod Dropped
 mod Placed
+mod Turned
 mod Unannounced

@@ -5,3 +5,5 @@ pub mod Polling
 pub mod Reading
 pub mod Receiving
 pub mod Sending
+pub mod Steps
+pub mod Turning

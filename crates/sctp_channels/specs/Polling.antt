@@ -37,8 +37,9 @@ stream_event_met t (stream_events.ResetFailed id reason) =
 stream_event_met t (stream_events.BufferedAmountLow id) = told_if_there t id (told.BufferedLow id) t
 stream_event_met t _ = (t, None)
 
--- what an event says of channels, but for those of which more is to be done: `Connected`, `Opened` and `Readable`
+-- what an event says of channels, but for those of which more is to be done: `Opened` and `Readable`
 abbrev pub event_met : List (ℕ × ChannelView) → Event → List (ℕ × ChannelView) × Option ChannelEvent
+event_met t events.Connected = (t, Some told.Connected)
 event_met t (events.HandshakeFailed reason) = ([], Some (told.HandshakeFailed reason))
 event_met t (events.AssociationLost reason) = ([], Some (told.Lost reason))
 event_met t (events.Stream event) = stream_event_met t event

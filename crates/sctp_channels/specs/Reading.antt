@@ -1,5 +1,5 @@
 -- The first message of a stream.
-use Rattle.std.specs.Prelude.{◌≡◌, ◌⊎◌, ◌≢◌, ℕ, Bool, true, false, List, None}
+use Rattle.std.specs.Prelude.{◌≡◌, ◌⊎◌, ◌≢◌, ℕ, nat_lt, Bool, true, false, List, [], length, None, Result, Ok, Err}
 use Rattle.sctp_wire_types.specs.declared.ids.PayloadProtocolIdentifier.{PayloadProtocolIdentifier}
 use Rattle.sctp_wire_types.specs.declared.ids.PayloadProtocolIdentifier.TheVariants as kinds
 use Rattle.sctp_wire_types.specs.declared.error.Error.{Error}
@@ -36,3 +36,37 @@ abbrev pub ReadsOrEnded : ℕ → Driving → List ℕ → ReadAnswer → Drivin
 ReadsOrEnded id d buffer answer e filled =
     Reads (with_message d id) id buffer answer e filled
     ⊎ ((answer ≡ answers.Nothing) × HasEnded id d e × (filled ≡ buffer))
+
+-- what a message is that was read whole into these bytes
+unfoldable pub IsFirst : ReadAnswer → List ℕ → First → Type 0
+IsFirst answers.Nothing bytes first = first ≡ firsts.Other
+IsFirst (answers.Message kind n) bytes first = BeginsWith kind bytes first
+IsFirst (answers.NoRoom n) bytes first = first ≡ firsts.Other
+
+-- a message of so many bytes is read, into a buffer of that length
+unfoldable pub ReadsWhole : ℕ → ℕ → Driving → Result First Error → Driving → Type 0
+ReadsWhole n id d (Ok first) e =
+    (buffer : List ℕ) × (answer : ReadAnswer) × (bytes : List ℕ) × (length buffer ≡ n)
+    × ReadsOrEnded id d buffer answer e bytes × IsFirst answer bytes first
+ReadsWhole n id d (Err error) e = ReadFails d id error e
+
+abbrev pub FirstOfLength : Bool → ℕ → ℕ → Driving → Result First Error → Driving → Type 0
+FirstOfLength true n id d r e = (r ≡ Ok firsts.Other) × (e ≡ d)
+FirstOfLength false n id d r e = ReadsWhole n id d r e
+
+-- What is done behind a read without a buffer: no OPEN is longer than 131,082 bytes, so that a longer message is not
+-- read.
+unfoldable pub FirstBy : ReadAnswer → ℕ → Driving → Result First Error → Driving → Type 0
+FirstBy answers.Nothing id d r e = (r ≡ Ok firsts.Nothing) × (e ≡ d)
+FirstBy (answers.Message kind n) id d r e = (r ≡ Ok firsts.Other) × (e ≡ d)
+FirstBy (answers.NoRoom n) id d r e = FirstOfLength (nat_lt 131082 n) n id d r e
+
+abbrev pub ReadsThenFirst : ℕ → Driving → Result First Error → Driving → Type 0
+ReadsThenFirst id d r e =
+    (answer : ReadAnswer) × (x : Driving) × (bytes : List ℕ) × ReadsOrEnded id d [] answer x bytes
+    × FirstBy answer id x r e
+
+-- the first message of a stream of the peer is read, if there is one
+unfoldable pub ReadsFirst : ℕ → Driving → Result First Error → Driving → Type 0
+ReadsFirst id d (Ok first) e = ReadsThenFirst id d (Ok first) e
+ReadsFirst id d (Err error) e = ReadFails d id error e ⊎ ReadsThenFirst id d (Err error) e

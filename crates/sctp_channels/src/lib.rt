@@ -6,10 +6,9 @@
 //! [`ChannelEvent::Message`] call [`Channels::receive`] until it answers `Nothing`. Then send what `poll_transmit` of
 //! the driver gives.
 //!
-//! What is proved: which bytes, identifiers and payload types channels have, what each call does to the table of
-//! channels, and what a call that makes one call of the driver does to it. That the messages of a channel come to the
-//! peer is proved across a pair for the reliable and ordered channels of the crate `dcep_channel` alone (by the crate
-//! `channel_pair`), and not for these.
+//! What is proved: which bytes, identifiers and payload types channels have, and what each call does to the table of
+//! channels and to the driver. That the messages of a channel come to the peer is proved across a pair for the reliable
+//! and ordered channels of the crate `dcep_channel` alone (by the crate `channel_pair`), and not for these.
 #![tactic(auto)]
 
 mod channels;

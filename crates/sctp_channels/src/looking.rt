@@ -1,14 +1,17 @@
 // What is to be done for one channel, by how far it came.
 ghost use Rattle.std.specs.Prelude.{◌≡◌, ◌⊎◌, false, IfErr, IfOk, length, not, OnErr, OnOk, Some, None, Err, true};
-ghost use Rattle.sctp_assoc.specs.Calls.{RefusesOrLacksMemory, refusal_to_write};
+ghost use Rattle.sctp_assoc.specs.Calls.{Refuses, RefusesOrLacksMemory, refusal_to_write, stream_refusal};
 ghost use Rattle.channel_table.specs.declared.channel.Stage.TheVariants as stages;
 ghost use Rattle.dcep_messages.specs.Codec.{ordered_in};
 ghost use Rattle.std.specs.BTreeMap.{is_at};
 ghost use Rattle.std.specs.Map.{remove_entry};
 ghost use Rattle.std.specs.Ordering.{nat_cmp};
-ghost use Rattle.channel_table.specs.Tables.{stage_at};
+ghost use Rattle.channel_table.specs.Tables.{at_stage, keeping_first, stage_at};
 ghost use Rattle.sctp_channels.specs.Looking.{Acks, AnnouncesNone, Begins, Looks, Unacknowledged, acknowledged};
 ghost use Rattle.sctp_channels.specs.Looking.{begun, goes_on, may_pass, names_stream, with_dcep, with_sending, with_stream};
+ghost use Rattle.sctp_channels.specs.Steps.{AnnouncesChannel, AnsweredBy, AnsweredByDcep, AwaitsAnswer, BeginsChannel};
+ghost use Rattle.sctp_channels.specs.Steps.{Confirms, FailsToBegin, FailsToBeginOn, HasBegun, IsNotOpened, LooksAt};
+ghost use Rattle.sctp_channels.specs.Steps.{MeetsFirst, MeetsStream, ResetsOrNot, goes_after, goes_by, sending_by};
 
 use crate::event::ChannelEvent;
 use crate::reading::{First, is_dcep, may_pass, read, read_first};
@@ -31,13 +34,14 @@ pub(crate) enum Looked {
 }
 
 /// Does what is to be done for the channel of a stream, of which something came.
-#[tactic(auto, using(crate::proofs::Unannounced::acks_unannounced))]
+#[tactic(auto, using(crate::proofs::Unannounced::acks_unannounced), unfolding(crate::specs::Steps::LooksAt))]
 pub(crate) fn look(
     alloc: Global,
     table: &mut Table,
     driver: &mut Driver,
     id: StreamId,
 ) -> Result<Looked, Error>
+    ensures exact { LooksAt id table.old driver.old result table.new driver.new }
     ensures looks { IfOk result (λ looked. Looks table.old looked table.new) }
     ensures acks { IfOk result (λ looked. Acks driver.old table.old looked driver.new) }
     ensures err { OnErr result (table.new ≡ table.old) }
@@ -54,6 +58,7 @@ pub(crate) fn look(
 }
 
 // A stream without a channel: it has to begin with an OPEN.
+#[tactic(auto, unfolding(crate::specs::Steps::MeetsStream))]
 fn meet(
     alloc: Global,
     table: &mut Table,
@@ -61,24 +66,37 @@ fn meet(
     id: StreamId,
 ) -> Result<Looked, Error>
     requires { stage_at table.old id ≡ None }
+    ensures exact { MeetsStream id table.old driver.old result table.new driver.new }
     ensures looks { IfOk result (λ looked. Looks table.old looked table.new) }
     ensures unannounced { IfOk result (λ looked. AnnouncesNone looked) }
     ensures err { OnErr result (table.new ≡ table.old) }
     ensures passes { IfErr result (λ error. may_pass error ≡ true) }
 {
-    match read_first(alloc, driver, id)? {
-        First::Nothing => Ok(Looked::Done),
-        First::Other => Ok(refuse(driver, id)),
+    let first = read_first(alloc, driver, id)?;
+    Ok(meet_first(table, driver, id, first))
+}
+
+#[tactic(auto, unfolding(crate::specs::Steps::MeetsFirst))]
+fn meet_first(table: &mut Table, driver: &mut Driver, id: StreamId, first: First) -> Looked
+    requires { stage_at table.old id ≡ None }
+    ensures exact { MeetsFirst first id table.old driver.old result table.new driver.new }
+    ensures looks { Looks table.old result table.new }
+    ensures unannounced { AnnouncesNone result }
+{
+    match first {
+        First::Nothing => Looked::Done,
+        First::Other => refuse(driver, id),
         First::Open(message) => match table.insert(id, Channel::announced(message)) {
-            Ok(()) => Ok(Looked::Again),
-            Err(_) => Ok(refuse(driver, id)),
+            Ok(()) => Looked::Again,
+            Err(_) => refuse(driver, id),
         },
     }
 }
 
 // Resets a stream that has no channel.
 fn refuse(driver: &mut Driver, id: StreamId) -> Looked
-    ensures { result ≡ Looked.Ends (ChannelEvent.Failed id) }
+    ensures looked { result ≡ Looked.Ends (ChannelEvent.Failed id) }
+    ensures resets { ResetsOrNot id driver.old driver.new }
 {
     let _ = driver.close_stream(id);
     Looked::Ends(ChannelEvent::Failed(id))
@@ -87,8 +105,10 @@ fn refuse(driver: &mut Driver, id: StreamId) -> Looked
 // A channel of this side: its OPEN is written, or its stream opened where it is negotiated, if its stream is one of those
 // that both sides agreed on. It is to be looked at once for itself, so that where it cannot be begun, what came on its
 // stream meanwhile is still looked at behind it.
+#[tactic(auto, unfolding(crate::specs::Steps::BeginsChannel))]
 fn begin(table: &mut Table, driver: &mut Driver, id: StreamId) -> Result<Looked, Error>
     requires { stage_at table.old id ≡ Some stages.Waiting }
+    ensures exact { BeginsChannel id table.old driver.old result table.new driver.new }
     ensures looks { IfOk result (λ looked. Looks table.old looked table.new) }
     ensures unannounced { IfOk result (λ looked. AnnouncesNone looked) }
     ensures err { OnErr result (table.new ≡ table.old) }
@@ -122,8 +142,10 @@ fn fail(table: &mut Table, id: StreamId) -> Looked
     Looked::Ends(ChannelEvent::Failed(id))
 }
 
+#[tactic(auto, unfolding(crate::specs::Steps::HasBegun))]
 fn mark_begun(table: &mut Table, id: StreamId, negotiated: bool) -> Looked
     requires { stage_at table.old id ≡ Some stages.Waiting }
+    ensures exact { HasBegun negotiated id table.old result table.new }
     ensures looks { Looks table.old result table.new }
     ensures unannounced { AnnouncesNone result }
 {
@@ -135,16 +157,21 @@ fn mark_begun(table: &mut Table, id: StreamId, negotiated: bool) -> Looked
     Looked::Again
 }
 
+#[tactic(auto, unfolding(crate::specs::Steps::FailsToBegin))]
 fn begin_stream(channel: &Channel, driver: &mut Driver, id: StreamId) -> Result<(), Error>
-    ensures { OnOk result (Begins driver.old id channel.now driver.new) }
+    ensures ok { OnOk result (Begins driver.old id channel.now driver.new) }
+    ensures err { IfErr result (λ error. FailsToBegin id channel.now driver.old error driver.new) }
 {
     open_stream(driver, id)?;
     begin_on(channel, driver, id)
 }
 
 // On a stream that is there.
+#[tactic(auto, unfolding(crate::specs::Steps::FailsToBeginOn))]
 fn begin_on(channel: &Channel, driver: &mut Driver, id: StreamId) -> Result<(), Error>
-    ensures { OnOk result (driver.new ≡ begun channel.now.negotiated driver.old id channel.now) }
+    ensures ok { OnOk result (driver.new ≡ begun channel.now.negotiated driver.old id channel.now) }
+    ensures err { IfErr result (λ error. FailsToBeginOn channel.now.negotiated id channel.now driver.old error
+        driver.new) }
 {
     if channel.is_negotiated() {
         return set_sending(channel, driver, id);
@@ -155,7 +182,8 @@ fn begin_on(channel: &Channel, driver: &mut Driver, id: StreamId) -> Result<(), 
 
 // Makes the stream, where the peer has not made it.
 fn open_stream(driver: &mut Driver, id: StreamId) -> Result<(), Error>
-    ensures { OnOk result ((driver.new ≡ driver.old) ⊎ (driver.new ≡ with_stream driver.old id)) }
+    ensures ok { OnOk result ((driver.new ≡ driver.old) ⊎ (driver.new ≡ with_stream driver.old id)) }
+    ensures err { IfErr result (λ error. IsNotOpened id driver.old error driver.new) }
 {
     match driver.open_stream(id, PayloadProtocolIdentifier::Binary) {
         Ok(()) => Ok(()),
@@ -177,6 +205,7 @@ fn names_stream(error: Error) -> bool
 // Whether a channel goes on by what was done at its stream: also where the stream is gone or ends. Where it is refused
 // for another reason, as in an association that ends, the channel stays as it is.
 fn goes_on(answer: Result<(), Error>) -> Result<bool, Error>
+    ensures exact { result ≡ goes_after answer }
     ensures ok { IfOk result (λ goes. goes ≡ goes_on answer) }
     ensures err { IfErr result (λ error. (may_pass error ≡ true) × (answer ≡ Err error)) }
 {
@@ -193,31 +222,51 @@ fn goes_on(answer: Result<(), Error>) -> Result<bool, Error>
 }
 
 // A channel whose OPEN was written: the ACK comes, or another message, which says the same.
+#[tactic(auto, unfolding(crate::specs::Steps::AwaitsAnswer))]
 fn await_answer(table: &mut Table, driver: &mut Driver, id: StreamId) -> Result<Looked, Error>
     requires { stage_at table.old id ≡ Some stages.Begun }
+    ensures exact { AwaitsAnswer id table.old driver.old result table.new driver.new }
     ensures looks { IfOk result (λ looked. Looks table.old looked table.new) }
     ensures unannounced { IfOk result (λ looked. AnnouncesNone looked) }
     ensures err { OnErr result (table.new ≡ table.old) }
     ensures passes { IfErr result (λ error. may_pass error ≡ true) }
 {
     let mut byte = [0];
-    match read(driver, id, &mut byte)? {
+    let answer = read(driver, id, &mut byte)?;
+    meet_answer(table, driver, id, answer, byte[0])
+}
+
+// What was read came, into one byte.
+#[tactic(auto, unfolding(crate::specs::Steps::AnsweredBy))]
+fn meet_answer(
+    table: &mut Table,
+    driver: &mut Driver,
+    id: StreamId,
+    answer: ReadAnswer,
+    byte: u8,
+) -> Result<Looked, Error>
+    requires { stage_at table.old id ≡ Some stages.Begun }
+    ensures exact { AnsweredBy answer byte id table.old driver.old result table.new driver.new }
+    ensures looks { IfOk result (λ looked. Looks table.old looked table.new) }
+    ensures unannounced { IfOk result (λ looked. AnnouncesNone looked) }
+    ensures err { OnErr result (table.new ≡ table.old) }
+    ensures passes { IfErr result (λ error. may_pass error ≡ true) }
+{
+    match answer {
         ReadAnswer::Nothing => Ok(Looked::Done),
         ReadAnswer::NoRoom { .. } => confirm(table, driver, id),
         ReadAnswer::Message { payload_type, .. } => {
             if is_dcep(payload_type) {
-                return answer_dcep(table, driver, id, byte[0]);
+                return answer_dcep(table, driver, id, byte);
             }
-            let message = ShortMessage {
-                payload_type,
-                byte: byte[0],
-            };
+            let message = ShortMessage { payload_type, byte };
             confirm_by(table, driver, id, message)
         }
     }
 }
 
 // A DCEP message of one byte came.
+#[tactic(auto, unfolding(crate::specs::Steps::AnsweredByDcep))]
 fn answer_dcep(
     table: &mut Table,
     driver: &mut Driver,
@@ -225,6 +274,7 @@ fn answer_dcep(
     byte: u8,
 ) -> Result<Looked, Error>
     requires { stage_at table.old id ≡ Some stages.Begun }
+    ensures exact { AnsweredByDcep byte id table.old driver.old result table.new driver.new }
     ensures looks { IfOk result (λ looked. Looks table.old looked table.new) }
     ensures unannounced { IfOk result (λ looked. AnnouncesNone looked) }
     ensures err { OnErr result (table.new ≡ table.old) }
@@ -238,8 +288,10 @@ fn answer_dcep(
 }
 
 // The ACK came, or what says the same: from now on messages go as the channel says.
+#[tactic(auto, unfolding(crate::specs::Steps::Confirms))]
 fn confirm(table: &mut Table, driver: &mut Driver, id: StreamId) -> Result<Looked, Error>
     requires { stage_at table.old id ≡ Some stages.Begun }
+    ensures exact { Confirms id table.old driver.old result table.new driver.new (at_stage table.old id stages.Open) }
     ensures looks { IfOk result (λ looked. Looks table.old looked table.new) }
     ensures unannounced { IfOk result (λ looked. AnnouncesNone looked) }
     ensures err { OnErr result (table.new ≡ table.old) }
@@ -248,7 +300,7 @@ fn confirm(table: &mut Table, driver: &mut Driver, id: StreamId) -> Result<Looke
     let Some(channel) = table.get(id) else {
         return Ok(Looked::Done);
     };
-    if !goes_on(set_sending(channel, driver, id))? {
+    if !go_on_sending(channel, driver, id)? {
         return Ok(Looked::Done);
     }
     table.mark_open(id);
@@ -256,6 +308,7 @@ fn confirm(table: &mut Table, driver: &mut Driver, id: StreamId) -> Result<Looke
 }
 
 // The same of a message of one byte, which is kept.
+#[tactic(auto, unfolding(crate::specs::Steps::Confirms))]
 fn confirm_by(
     table: &mut Table,
     driver: &mut Driver,
@@ -263,6 +316,8 @@ fn confirm_by(
     message: ShortMessage,
 ) -> Result<Looked, Error>
     requires { stage_at table.old id ≡ Some stages.Begun }
+    ensures exact { Confirms id table.old driver.old result table.new driver.new
+        (keeping_first (at_stage table.old id stages.Open) id message) }
     ensures looks { IfOk result (λ looked. Looks table.old looked table.new) }
     ensures unannounced { IfOk result (λ looked. AnnouncesNone looked) }
     ensures err { OnErr result (table.new ≡ table.old) }
@@ -271,7 +326,7 @@ fn confirm_by(
     let Some(channel) = table.get(id) else {
         return Ok(Looked::Done);
     };
-    if !goes_on(set_sending(channel, driver, id))? {
+    if !go_on_sending(channel, driver, id)? {
         return Ok(Looked::Done);
     }
     table.mark_open_by(id, message);
@@ -279,8 +334,10 @@ fn confirm_by(
 }
 
 // A channel of the peer: its ACK is written. In an association that ends none can be, and then it is not announced.
+#[tactic(auto, unfolding(crate::specs::Steps::AnnouncesChannel))]
 fn acknowledge(table: &mut Table, driver: &mut Driver, id: StreamId) -> Result<Looked, Error>
     requires { stage_at table.old id ≡ Some stages.Announcing }
+    ensures exact { AnnouncesChannel id table.old driver.old result table.new driver.new }
     ensures looks { IfOk result (λ looked. Looks table.old looked table.new) }
     ensures acks { IfOk result (λ looked. Acks driver.old table.old looked driver.new) }
     ensures err { OnErr result (table.new ≡ table.old) }
@@ -304,8 +361,18 @@ fn write_ack(channel: &Channel, driver: &mut Driver, id: StreamId) -> Result<(),
     set_sending(channel, driver, id)
 }
 
+// The stream sends as its channel says, and whether the channel goes on by that.
+fn go_on_sending(channel: &Channel, driver: &mut Driver, id: StreamId) -> Result<bool, Error>
+    ensures goes { result ≡ goes_by (stream_refusal driver.old.association id) }
+    ensures sends { driver.new ≡ sending_by (stream_refusal driver.old.association id) driver.old id channel.now }
+    ensures passes { IfErr result (λ error. may_pass error ≡ true) }
+{
+    goes_on(set_sending(channel, driver, id))
+}
+
 // The stream sends as its channel says.
 fn set_sending(channel: &Channel, driver: &mut Driver, id: StreamId) -> Result<(), Error>
+    ensures refused { Refuses result (stream_refusal driver.old.association id) }
     ensures ok { OnOk result
         (driver.new ≡ with_sending driver.old id (not (ordered_in channel.now.open_message)) channel.now) }
     ensures err { OnErr result (driver.new ≡ driver.old) }
@@ -320,6 +387,7 @@ fn set_sending(channel: &Channel, driver: &mut Driver, id: StreamId) -> Result<(
 
 // The same in order, which a channel is until it is known that the peer read its OPEN.
 fn set_in_order(channel: &Channel, driver: &mut Driver, id: StreamId) -> Result<(), Error>
+    ensures refused { Refuses result (stream_refusal driver.old.association id) }
     ensures ok { OnOk result (driver.new ≡ with_sending driver.old id false channel.now) }
     ensures err { OnErr result (driver.new ≡ driver.old) }
 {

@@ -1,5 +1,6 @@
 // Events of the driver, and what they say of channels.
-ghost use Rattle.std.specs.Prelude.{◌≡◌, ◌≢◌, ◌⊎◌, ◌<◌, [], ◌∷◌, ◌++◌, IfErr, IfOk, IfSome, None, OnErr, OnOk, Ok, length, true};
+ghost use Rattle.std.specs.Prelude.{◌≡◌, ◌≢◌, ◌⊎◌, ◌<◌, [], ◌∷◌, ◌++◌, IfErr, IfNone, IfOk, IfSome, None, OnErr, OnOk, Ok};
+ghost use Rattle.std.specs.Prelude.{slice_get, true};
 ghost use Rattle.std.specs.VecDeque.{deque_capacity, deque_len};
 ghost use Rattle.std.specs.BTreeMap.{is_at};
 ghost use Rattle.std.specs.Map.{remove_entry};
@@ -13,6 +14,8 @@ ghost use Rattle.sctp_channels.specs.Polling.{AcksTurn, DueAfter, EndsAs, EndsBy
 ghost use Rattle.sctp_channels.specs.Opening.{established};
 ghost use Rattle.sctp_channels.specs.Polling.{TellsNoBeginning, Turns, TurnsAgain, event_met, is_early};
 ghost use Rattle.sctp_channels.specs.Polling.{stream_event_met, told_if_there};
+ghost use Rattle.sctp_channels.specs.Turning.{LooksNext, MeetsEvent, PollsBy, Postpones, TakesEvent, TakesTurn};
+ghost use Rattle.sctp_channels.specs.Turning.{accepted_where, due_by, is_opened, waiting_by};
 
 use crate::channels::Channels;
 use crate::event::ChannelEvent;
@@ -20,7 +23,7 @@ use crate::looking::{Looked, look};
 use channel_table::{ChannelError, Stage, Table};
 use sctp_driver::{Driver, Error, Event, StreamEvent};
 use sctp_wire_types::StreamId;
-use std::alloc::Global;
+use std::alloc::{AllocError, Global};
 use std::collections::VecDeque;
 use std::mem;
 
@@ -41,6 +44,7 @@ impl Channels {
     ///
     /// Errors: `Beneath(ErrNoMemory)`, after which it can be called again and goes on where it was, unless the
     /// association failed; `Beneath(ErrAssociationFailed)`.
+    #[tactic(auto, using(crate::proofs::Turned::turning_steps), unfolding(crate::specs::Turning::PollsBy))]
     pub fn poll_event(&mut self, driver: &mut Driver) -> Result<Option<ChannelEvent>, ChannelError>
         ensures told { IfOk result (λ told. IfSome told (λ event. IsTold event self.new.table)) }
         ensures again { IfOk result (λ told. IfSome told (λ event. LooksAgain event self.new)) }
@@ -49,6 +53,7 @@ impl Channels {
         ensures all { result ≡ Ok None → self.new.due ≡ [] }
         ensures idle { result ≡ Ok None → IsIdle driver.new }
         ensures role { self.new.role ≡ self.old.role }
+        ensures polls { PollsBy result self.old driver.old self.new driver.new }
         ensures only { IfErr result (λ e. (e ≡ ChannelError.Beneath Error.ErrNoMemory)
             ⊎ (e ≡ ChannelError.Beneath Error.ErrAssociationFailed)) }
     {
@@ -63,7 +68,9 @@ impl Channels {
         Err(ChannelError::Beneath(Error::ErrNoMemory))
     }
 
+    #[tactic(auto, unfolding(crate::specs::Turning::TakesTurn))]
     fn turn(&mut self, driver: &mut Driver) -> Result<Turn, Error>
+        ensures takes { TakesTurn self.old driver.old result self.new driver.new }
         ensures turns { IfOk result (λ turn. Turns self.old.table turn self.new.table) }
         ensures acks { IfOk result (λ turn. AcksTurn driver.old self.old.table turn driver.new) }
         ensures again { IfOk result (λ turn. TurnsAgain turn self.new) }
@@ -73,13 +80,23 @@ impl Channels {
         ensures role { self.new.role ≡ self.old.role }
         ensures passes { IfErr result (λ error. may_pass error ≡ true) }
     {
-        match self.due.front().copied() {
+        match self.next_due() {
             Some(id) => self.look_at(driver, id),
             None => self.take_event(driver),
         }
     }
 
+    // The stream that is to be looked at next.
+    fn next_due(&self) -> Option<StreamId>
+        ensures next { result ≡ slice_get self.now.due 0 }
+        ensures none { IfNone result (self.now.due ≡ []) }
+    {
+        self.due.front().copied()
+    }
+
+    #[tactic(auto, unfolding(crate::specs::Turning::LooksNext))]
     fn look_at(&mut self, driver: &mut Driver, id: StreamId) -> Result<Turn, Error>
+        ensures looks { LooksNext id self.old driver.old result self.new driver.new }
         ensures turns { IfOk result (λ turn. Turns self.old.table turn self.new.table) }
         ensures acks { IfOk result (λ turn. AcksTurn driver.old self.old.table turn driver.new) }
         ensures again { IfOk result (λ turn. TurnsAgain turn self.new) }
@@ -121,7 +138,9 @@ impl Channels {
     }
 
     // The stream that is to be looked at next is to wait until the association is established.
+    #[tactic(auto, unfolding(crate::specs::Turning::Postpones))]
     fn postpone(&mut self, id: StreamId) -> Result<Turn, Error>
+        ensures postpones { Postpones id self.old result self.new }
         ensures waits { OnOk result (self.new.waiting ≡ self.old.waiting ++ id ∷ []) }
         ensures silent { IfOk result (λ turn. turn ≡ Turn.Silent) }
         ensures table { self.new.table ≡ self.old.table }
@@ -135,9 +154,10 @@ impl Channels {
         Ok(Turn::Silent)
     }
 
-    #[tactic(auto, using(crate::proofs::Unannounced::acks_none))]
+    #[tactic(auto, using(crate::proofs::Unannounced::acks_none), unfolding(crate::specs::Turning::TakesEvent))]
     fn take_event(&mut self, driver: &mut Driver) -> Result<Turn, Error>
         requires { self.old.due ≡ [] }
+        ensures takes { TakesEvent self.old driver.old result self.new driver.new }
         ensures turns { IfOk result (λ turn. Turns self.old.table turn self.new.table) }
         ensures acks { IfOk result (λ turn. AcksTurn driver.old self.old.table turn driver.new) }
         ensures again { IfOk result (λ turn. TurnsAgain turn self.new) }
@@ -147,10 +167,7 @@ impl Channels {
         ensures role { self.new.role ≡ self.old.role }
         ensures passes { IfErr result (λ error. may_pass error ≡ true) }
     {
-        // No stream is due, so that any place that there is is free.
-        if self.due.capacity() == 0 {
-            self.due.reserve(1)?;
-        }
+        make_room(&mut self.due)?;
         match driver.poll_event()? {
             None => Ok(Turn::Idle),
             Some(event) => Ok(meet_event(
@@ -165,7 +182,20 @@ impl Channels {
     }
 }
 
-// What an event asks for. `Connected` comes where no stream is to be looked at.
+// Makes room for a stream to look at where none is, so that any place that there is is free.
+fn make_room(due: &mut VecDeque<StreamId>) -> Result<(), AllocError>
+    requires { due.old.items ≡ [] }
+    ensures none { due.new.items ≡ [] }
+    ensures room { OnOk result (deque_len due.new < deque_capacity due.new) }
+{
+    if due.capacity() == 0 {
+        due.reserve(1)?;
+    }
+    Ok(())
+}
+
+// What an event asks for where no stream is to be looked at.
+#[tactic(auto, unfolding(crate::specs::Turning::MeetsEvent, crate::specs::Turning::accepted_where))]
 fn meet_event(
     alloc: Global,
     table: &mut Table,
@@ -174,7 +204,12 @@ fn meet_event(
     driver: &mut Driver,
     event: Event,
 ) -> Turn
-    requires { deque_len due.old < deque_capacity due.old }
+    requires room { deque_len due.old < deque_capacity due.old }
+    requires none { due.old.items ≡ [] }
+    ensures meets { MeetsEvent event table.old result table.new }
+    ensures accepts { driver.new ≡ accepted_where (is_opened event) driver.old }
+    ensures waits { waiting.new.items ≡ waiting_by event waiting.old.items }
+    ensures next { due.new.items ≡ due_by event result waiting.old.items }
     ensures turns { Turns table.old result table.new }
     ensures begins_none { TellsNoBeginning result }
     ensures due { DueAfter event result waiting.old.items due.old.items due.new.items }
@@ -213,7 +248,7 @@ fn meet_event(
     }
 }
 
-// What an event says of channels, but for `Connected`, `Opened` and `Readable`.
+// What an event says of channels, but for `Opened` and `Readable`.
 fn told_of(table: &mut Table, event: Event) -> Option<ChannelEvent>
     ensures exact { event_met table.old event ≡ (table.new, result) }
     ensures meets { Meets table.old result table.new }
@@ -230,7 +265,8 @@ fn told_of(table: &mut Table, event: Event) -> Option<ChannelEvent>
             Some(ChannelEvent::Lost(reason))
         }
         Event::Stream(event) => told_of_stream(table, event),
-        Event::Connected | Event::DataChannelStatsFinal(_) | Event::DatagramReceived => None,
+        Event::Connected => Some(ChannelEvent::Connected),
+        Event::DataChannelStatsFinal(_) | Event::DatagramReceived => None,
     }
 }
 

@@ -2,7 +2,8 @@
 ghost use Rattle.std.specs.Prelude.{◌≡◌, IfErr, IfOk, OnErr, true};
 ghost use Rattle.sctp_driver.specs.Messages.{ReadFails};
 ghost use Rattle.sctp_channels.specs.Looking.{may_pass};
-ghost use Rattle.sctp_channels.specs.Reading.{BeginsWith, ReadsOrEnded, is_dcep};
+ghost use Rattle.sctp_channels.specs.Reading.{BeginsWith, FirstBy, IsFirst, ReadsFirst, ReadsOrEnded, ReadsWhole};
+ghost use Rattle.sctp_channels.specs.Reading.{is_dcep};
 
 use channel_table::{MAX_OPEN_LENGTH, OpenMessage};
 use sctp_driver::{Driver, Error, PayloadProtocolIdentifier, ReadAnswer};
@@ -51,11 +52,28 @@ pub(crate) fn read(
 }
 
 /// The first message of a stream. One that is longer than any OPEN is not read.
+#[tactic(auto, unfolding(crate::specs::Reading::ReadsFirst))]
 pub(crate) fn read_first(alloc: Global, driver: &mut Driver, id: StreamId) -> Result<First, Error>
-    ensures { IfErr result (λ error. may_pass error ≡ true) }
+    ensures reads { ReadsFirst id driver.old result driver.new }
+    ensures passes { IfErr result (λ error. may_pass error ≡ true) }
 {
     let mut nothing = [];
-    match read(driver, id, &mut nothing)? {
+    let answer = read(driver, id, &mut nothing)?;
+    first_by(alloc, driver, id, answer)
+}
+
+// The same behind a read without a buffer.
+#[tactic(auto, unfolding(crate::specs::Reading::FirstBy))]
+fn first_by(
+    alloc: Global,
+    driver: &mut Driver,
+    id: StreamId,
+    answer: ReadAnswer,
+) -> Result<First, Error>
+    ensures by { FirstBy answer id driver.old result driver.new }
+    ensures passes { IfErr result (λ error. may_pass error ≡ true) }
+{
+    match answer {
         ReadAnswer::Nothing => Ok(First::Nothing),
         ReadAnswer::Message { .. } => Ok(First::Other),
         ReadAnswer::NoRoom { length } => {
@@ -67,18 +85,29 @@ pub(crate) fn read_first(alloc: Global, driver: &mut Driver, id: StreamId) -> Re
     }
 }
 
+#[tactic(auto, unfolding(crate::specs::Reading::ReadsWhole))]
 fn read_whole(
     alloc: Global,
     driver: &mut Driver,
     id: StreamId,
     length: usize,
 ) -> Result<First, Error>
-    ensures { IfErr result (λ error. may_pass error ≡ true) }
+    ensures reads { ReadsWhole length id driver.old result driver.new }
+    ensures passes { IfErr result (λ error. may_pass error ≡ true) }
 {
     let mut bytes = vec![in alloc; 0; length]?;
-    match read(driver, id, bytes.as_mut_slice())? {
-        ReadAnswer::Message { payload_type, .. } => Ok(first_of(payload_type, bytes)),
-        ReadAnswer::Nothing | ReadAnswer::NoRoom { .. } => Ok(First::Other),
+    let answer = read(driver, id, bytes.as_mut_slice())?;
+    Ok(first_in(answer, bytes))
+}
+
+// What a message is that was read into these bytes.
+#[tactic(auto, unfolding(crate::specs::Reading::IsFirst))]
+fn first_in(answer: ReadAnswer, bytes: Vec<u8>) -> First
+    ensures { IsFirst answer bytes.items result }
+{
+    match answer {
+        ReadAnswer::Message { payload_type, .. } => first_of(payload_type, bytes),
+        ReadAnswer::Nothing | ReadAnswer::NoRoom { .. } => First::Other,
     }
 }
 
