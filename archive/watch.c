@@ -5,6 +5,9 @@
 /* Proved: writes the end, the cause and the reason that a datagram brought, which ended the association. */
 void sctp_assoc_watch_ended_by(sctp_assoc_watch *watch, const uint8_t *datagram, size_t length);
 
+/* Proved: whether the newest event tells that the receive buffer was exhausted. */
+sctp_assoc_code sctp_assoc_tells_exhaustion(sctp_assoc *slot, bool *answer);
+
 /* Whether the association is lost; false if the slot is empty. */
 static bool is_over(sctp_assoc *slot) {
     bool over = false;
@@ -36,7 +39,13 @@ sctp_assoc_code sctp_assoc_watched_handle_datagram(sctp_assoc *slot, sctp_assoc_
     sctp_assoc_code code = sctp_assoc_handle_datagram(slot, now, datagram, length, fate);
     if (code == SCTP_ASSOC_DONE && *fate == SCTP_ASSOC_TAKEN)
         count(&watch->datagrams_received, &watch->bytes_received, length);
-    if (!was_over && is_over(slot))
+    if (was_over || !is_over(slot))
+        return code;
+    bool exhausted = false;
+    sctp_assoc_tells_exhaustion(slot, &exhausted);
+    if (exhausted)
+        end_as(watch, SCTP_ASSOC_END_BUFFER_EXHAUSTED);
+    else
         sctp_assoc_watch_ended_by(watch, datagram, length);
     return code;
 }

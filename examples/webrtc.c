@@ -172,11 +172,11 @@ static void receive_on(uint16_t id) {
 static void on_event(const sctp_channels_event *event) {
     static const char *const ends[] = {"the page did not answer the handshake of SCTP", "it was closed here",
                                        "it was aborted here", "it was shut down in order", "the page aborted it",
-                                       "the page broke a rule of the protocol", "no room is left"};
+                                       "the page broke a rule of the protocol"};
     if (event->kind == SCTP_CHANNELS_EVENT_CONNECTED)
         puts("the page is connected");
     else if (event->kind == SCTP_CHANNELS_EVENT_LOST || event->kind == SCTP_CHANNELS_EVENT_HANDSHAKE_FAILED)
-        page.end = ends[page.watch.end];
+        page.end = event->reason == SCTP_ASSOC_REASON_BUFFER_EXHAUSTED ? "no room is left" : ends[page.watch.end];
     else if (event->kind != SCTP_CHANNELS_EVENT_CLOSED && event->kind != SCTP_CHANNELS_EVENT_FAILED)
         receive_on(event->id); /* it is open, a message came, or there is room again */
     else if (event->id == page.chat)

@@ -41,6 +41,30 @@ static void empty_slot(void) {
     CHECK(!none.at && !none.live);
 }
 
+/* Configurations that are refused, one fault in front of the other and both in front of all else. */
+static void refused_configuration(void) {
+    sctp_assoc slot = SCTP_ASSOC_EMPTY;
+    sctp_assoc_config config = default_config();
+    sctp_assoc_identity named = identity(1);
+    sctp_assoc_token none;
+    CHECK(config.profile == SCTP_ASSOC_PROFILE_RFC);
+    memset(&none, 0, sizeof none);
+    named.initial_tsn = 0;
+    config.rto_max_ms = 0;
+    for (uint32_t profile = 0; profile < 4; profile++) {
+        sctp_assoc_code expected = profile < 2 ? SCTP_ASSOC_BAD_TIMEOUT : SCTP_ASSOC_BAD_PROFILE;
+        config.profile = profile < 3 ? profile : UINT32_MAX;
+        CHECK(sctp_assoc_client(&slot, &config, 0, &named, 0) == expected);
+        CHECK(sctp_assoc_server(&slot, &config, 0, &named, 0) == expected);
+        CHECK(sctp_assoc_joined(&slot, &config, 0, &none, &none) == expected);
+    }
+    config.rto_max_ms = 1;
+    CHECK(sctp_assoc_client(&slot, &config, 0, &named, 0) == SCTP_ASSOC_BAD_PROFILE);
+    config.profile = SCTP_ASSOC_PROFILE_PORT;
+    CHECK(sctp_assoc_client(&slot, &config, 0, &named, 0) == SCTP_ASSOC_BAD_PAYLOAD_SIZE);
+    CHECK(!slot.live && blocks == 0);
+}
+
 /* Associations that are not made leave the slot as it was. */
 static void refused_begin(void) {
     sctp_assoc slot = SCTP_ASSOC_EMPTY;
@@ -233,6 +257,7 @@ static void exhausted(void) {
 int main(void) {
     sctp_assoc_config config = default_config();
     empty_slot();
+    refused_configuration();
     refused_begin();
     repeated_init();
     shake_hands(ends, &config, 0);

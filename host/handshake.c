@@ -178,28 +178,33 @@ struct flight {
     uint8_t datagrams[4][1500];
 };
 
-static void take_off(sctp_assoc *from, struct flight *flight) {
+static void take_off(sctp_assoc *from, uint64_t now, struct flight *flight) {
     size_t length;
     flight->count = 0;
-    while (done(sctp_assoc_poll_transmit(from, 0, spelled, sizeof spelled, &length))) {
+    while (done(sctp_assoc_poll_transmit(from, now, spelled, sizeof spelled, &length))) {
         CHECK(flight->count < 4 && length <= 1500);
         memcpy(flight->datagrams[flight->count], spelled, length);
         flight->lengths[flight->count++] = length;
     }
 }
 
-static void land(sctp_assoc *to, const struct flight *flight) {
+static void land(sctp_assoc *to, uint64_t now, const struct flight *flight) {
     for (size_t i = 0; i < flight->count; i++)
-        CHECK(hand_over(to, 0, flight->datagrams[i], flight->lengths[i]) == SCTP_ASSOC_TAKEN);
+        CHECK(hand_over(to, now, flight->datagrams[i], flight->lengths[i]) == SCTP_ASSOC_TAKEN);
 }
 
 /* Both ends send, and then each gets all packets of the other. */
-static void cross(sctp_assoc ends[2]) {
+static void cross(sctp_assoc ends[2], uint64_t now) {
     static struct flight flights[2];
     for (int i = 0; i < 2; i++)
-        take_off(&ends[i], &flights[i]);
+        take_off(&ends[i], now, &flights[i]);
     for (int i = 0; i < 2; i++)
-        land(&ends[!i], &flights[i]);
+        land(&ends[!i], now, &flights[i]);
+}
+
+static void are_established(sctp_assoc ends[2]) {
+    for (int i = 0; i < 2; i++)
+        CHECK(answers(&ends[i], sctp_assoc_is_established) && deadline(&ends[i]) == 0);
 }
 
 static void two_clients_that_meet_are_established(void) {
@@ -210,18 +215,47 @@ static void two_clients_that_meet_are_established(void) {
     begin_client(&ends[0], 1, 100, 8);
     begin_client(&ends[1], 2, 500, 8);
     for (int i = 0; i < 4; i++)
-        cross(ends);
-    for (int i = 0; i < 2; i++)
-        CHECK(answers(&ends[i], sctp_assoc_is_established) && deadline(&ends[i]) == 0);
+        cross(ends, 0);
+    are_established(ends);
     CHECK(done(sctp_assoc_open_stream(&ends[0], 1, SCTP_ASSOC_PPID_BINARY)));
     CHECK(done(sctp_assoc_write(&ends[0], 1, SCTP_ASSOC_PPID_OF_STREAM, (const uint8_t *)"hi", 2)));
-    cross(ends);
+    cross(ends, 0);
     CHECK(is_told(&ends[1], SCTP_ASSOC_EVENT_CONNECTED, 0) && is_told(&ends[1], SCTP_ASSOC_EVENT_OPENED, 1));
     CHECK(is_told(&ends[1], SCTP_ASSOC_EVENT_DATAGRAM_RECEIVED, 0));
     CHECK(is_told(&ends[1], SCTP_ASSOC_EVENT_READABLE, 1));
     CHECK(done(sctp_assoc_read(&ends[1], 1, read, sizeof read, &length, &type)));
     CHECK(type == SCTP_ASSOC_PPID_BINARY && length == 2 && memcmp(read, "hi", 2) == 0);
     CHECK(last_tsn(&ends[1], 0, 2, DATA_99) == 100);
+    free_both(ends);
+}
+
+/* Each has the other's INIT, and both INIT ACKs are lost. What goes out again is the same INIT, under the verification
+ * tag 0 (RFC 4960 section 8.5.1) and not under that of the peer, which is known by then. */
+static void an_init_goes_again_under_tag_0(void) {
+    static sctp_assoc ends[2];
+    static struct flight inits[2], sent;
+    begin_client(&ends[0], 1, 100, 8);
+    begin_client(&ends[1], 2, 500, 8);
+    for (int i = 0; i < 2; i++)
+        take_off(&ends[i], 0, &inits[i]);
+    for (int i = 0; i < 2; i++)
+        land(&ends[!i], 0, &inits[i]);
+    for (int i = 0; i < 2; i++) {
+        take_off(&ends[i], 0, &sent);
+        CHECK(sent.count == 1 && sent.datagrams[0][12] == 2 && read_number(sent.datagrams[0] + 4, 4) != 0);
+    }
+    for (int i = 0; i < 2; i++) {
+        CHECK(done(sctp_assoc_handle_timeout(&ends[i], 3000 * MS)));
+        take_off(&ends[i], 3000 * MS, &sent);
+        CHECK(sent.count == 1 && sent.datagrams[0][12] == 1 && read_number(sent.datagrams[0] + 4, 4) == 0);
+        CHECK(sent.lengths[0] == inits[i].lengths[0]);
+        CHECK(memcmp(sent.datagrams[0], inits[i].datagrams[0], sent.lengths[0]) == 0);
+    }
+    for (int i = 0; i < 2; i++)
+        land(&ends[!i], 3000 * MS, &inits[i]);
+    for (int i = 0; i < 3; i++)
+        cross(ends, 3000 * MS);
+    are_established(ends);
     free_both(ends);
 }
 
@@ -236,6 +270,7 @@ int main(void) {
     a_client_gives_up_after_its_last_init();
     of_an_init_ack_between_other_ports_the_tag_counts();
     two_clients_that_meet_are_established();
+    an_init_goes_again_under_tag_0();
     puts("handshake: ok");
     return 0;
 }

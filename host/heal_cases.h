@@ -204,7 +204,7 @@ static void reopened(void) {
     static const uint64_t pauses[] = {5000, 10000, 20000, 200000};
     for (size_t i = 0; i < COUNT_OF(pauses); i++) {
         pause_reader(pauses[i]);
-        HOLDS(is_acknowledged_within(A, STREAM, 1000));
+        HOLDS(is_acknowledged_within(A, STREAM, 500));
         pass(60000);
         CHECK(read_counts[B][STREAM] == 4);
         end_pair();
@@ -285,15 +285,21 @@ static void bottleneck(void) {
     }
 }
 
-/* A timer that expired is not due again at that moment, also without any timeout. */
+/* A timer that expired is not due again at that moment, also with the least timeouts; without any no end is made. */
 static void no_rto(void) {
+    sctp_assoc_token token;
     config.rto_initial_ms = config.rto_min_ms = config.rto_max_ms = 0;
+    CHECK(done(sctp_assoc_make_token(&config, 1, 100, &token)));
+    HOLDS(sctp_assoc_joined(&ends[A], &config, PAYLOAD_SIZE, &token, &token) == SCTP_ASSOC_BAD_TIMEOUT);
+    config.rto_initial_ms = config.rto_min_ms = config.rto_max_ms = 1;
     join();
     is_black = true;
     CHECK(opens(A, STREAM) && writes(A, STREAM, 5));
-    for (int i = 0; i < 1000 && due_at(A) <= now; i++)
+    for (int i = 0; i < 20; i++) {
+        now = due_at(A);
         turn(A);
-    HOLDS(due_at(A) > now);
+        HOLDS(due_at(A) > now);
+    }
     end_pair();
 }
 

@@ -11,8 +11,8 @@ enum kind {
     READ_TWICE,
     READ_OUT_OF_ORDER,
     CLOSED,              /* an end closed by a fault that it saw, or by the peer's ABORT */
-    EXHAUSTED_STOPPED,   /* the receive buffer is full of what can never be read, where a stream was stopped .. */
-    EXHAUSTED_SKIPPED,   /* .. where the first message of a stream was given up .. */
+    EXHAUSTED_SKIPPED,   /* the receive buffer is full of what can never be read, where messages could be given up .. */
+    EXHAUSTED_STOPPED,   /* .. where a stream was stopped, and none was reset before .. */
     EXHAUSTED,           /* .. or where neither is so */
     SELF_CLOSED,         /* a stream ended that nobody had closed since it was opened anew */
     UNREAD_SKIPPED,      /* a reliable message is not read, where the first of its stream could be given up .. */
@@ -42,8 +42,8 @@ static const char *const kind_names[KINDS] = {
     [READ_TWICE] = "read_twice",
     [READ_OUT_OF_ORDER] = "read_out_of_order",
     [CLOSED] = "closed",
-    [EXHAUSTED_STOPPED] = "exhausted_stopped",
     [EXHAUSTED_SKIPPED] = "exhausted_skipped",
+    [EXHAUSTED_STOPPED] = "exhausted_stopped",
     [EXHAUSTED] = "exhausted",
     [SELF_CLOSED] = "self_closed",
     [UNREAD_SKIPPED] = "unread_skipped",
@@ -81,13 +81,6 @@ static const struct {
     {"crossing", OF(SELF_CLOSED) | OF(UNREAD) | OF(EXHAUSTED),
      "The same, where both sides ask for the reset of a stream at once."},
     {"channels_reused", 0, "The same, for the data channel that is opened next on the stream."},
-    {"cancelled", OF(EXHAUSTED_STOPPED),
-     "DATA of a stream whose read half was closed is kept and counts against a_rwnd, and the association is aborted "
-     "once that is used up."},
-    {"channels_cancelled", 0, "The same, where a data channel is closed while the peer sends on it."},
-    {"two_tags", OF(HANDSHAKE_TWO),
-     "An INIT that is sent again has the Verification Tag of the peer, whose INIT came, and not 0 (RFC 4960 section "
-     "8.5.1), and the peer drops it."},
     {"dead_resets", OF(RESET_AFTER_FAILED),
      "A request that was given up leaves the Re-configuration Request Sequence Numbers of both sides apart, and the "
      "peer performs none of the later ones."},
@@ -106,13 +99,13 @@ static const struct {
     {"retiring", OF(UNREAD) | OF(EXHAUSTED),
      "Closing a stream of which a reset use is still to be read drops the DATA of the next use, too."},
     {"reopened", 0,
-     "No SACK tells of the window that a read opens, so the sender waits for the T3-rtx timer that backed off."},
+     "Once T3-rtx has expired, the probe that is in flight fills a congestion window of one packet, and a SACK that "
+     "opens the peer's window lets nothing go before T3-rtx, which backed off, expires again."},
     {"reopened_limited", 0, "Probes of a closed window that are answered count against the limit of retransmissions."},
     {"burst", 0, "After T3-rtx expired, marked DATA goes out in one poll after another past the congestion window."},
     {"burst_full", 0, "DATA that is marked to go out again counts as outstanding against the peer's window."},
     {"lost_complete", 0,
      "A SHUTDOWN ACK that comes to a closed end is not answered by a SHUTDOWN COMPLETE (RFC 4960 section 8.4)."},
-    {"no_rto", 0, "With an RTO.Max of 0 ms T3-rtx is due again at the moment at which it expired."},
     {"heap", 0, "Queues keep the room of the greatest length that they had."},
 };
 

@@ -44,7 +44,7 @@ static bool is_verbose;
 
 /* ---- What is printed of each step ---- */
 
-static void say(const char *format, ...) {
+static inline void say(const char *format, ...) {
     va_list values;
     if (!is_verbose)
         return;
@@ -55,7 +55,7 @@ static void say(const char *format, ...) {
     putchar('\n');
 }
 
-static uint32_t number_at(const uint8_t *at, int width) {
+static inline uint32_t number_at(const uint8_t *at, int width) {
     uint32_t value = 0;
     for (int i = 0; i < width; i++)
         value = value << 8 | at[i];
@@ -63,12 +63,12 @@ static uint32_t number_at(const uint8_t *at, int width) {
 }
 
 /* The streams that a reset request or a FORWARD TSN names, from here to there. */
-static void print_streams(const uint8_t *from, const uint8_t *to, int step) {
+static inline void print_streams(const uint8_t *from, const uint8_t *to, int step) {
     for (const uint8_t *at = from; at + step <= to; at += step)
         printf(" s%u", number_at(at, 2));
 }
 
-static void print_chunk(const uint8_t *chunk, uint32_t length) {
+static inline void print_chunk(const uint8_t *chunk, uint32_t length) {
     static const char *const names[] = {"DATA",          "INIT",       "INIT-ACK", "SACK",         "HEARTBEAT",
                                         "HEARTBEAT-ACK", "ABORT",      "SHUTDOWN", "SHUTDOWN-ACK", "ERROR",
                                         "COOKIE-ECHO",   "COOKIE-ACK", "ECNE",     "CWR",          "SHUTDOWN-COMPLETE"};
@@ -91,7 +91,7 @@ static void print_chunk(const uint8_t *chunk, uint32_t length) {
     }
 }
 
-static void show(const char *what, int from, const uint8_t *datagram, size_t length) {
+static inline void show(const char *what, int from, const uint8_t *datagram, size_t length) {
     if (!is_verbose)
         return;
     printf("%10.3f %s of %c:", (double)now / 1e9, what, "AB"[from]);
@@ -104,7 +104,7 @@ static void show(const char *what, int from, const uint8_t *datagram, size_t len
 
 /* ---- The way between the ends ---- */
 
-static void put_on_way(int to, uint64_t at, const uint8_t *bytes, size_t length) {
+static inline void put_on_way(int to, uint64_t at, const uint8_t *bytes, size_t length) {
     struct datagram *put = malloc(sizeof *put + length), *before = last_on_way;
     CHECK(put != NULL);
     put->at = at, put->to = to, put->length = length;
@@ -117,7 +117,7 @@ static void put_on_way(int to, uint64_t at, const uint8_t *bytes, size_t length)
     *(put->after ? &put->after->before : &last_on_way) = put;
 }
 
-static struct datagram *take_first(void) {
+static inline struct datagram *take_first(void) {
     struct datagram *taken = first_on_way;
     first_on_way = taken->after;
     *(first_on_way ? &first_on_way->before : &last_on_way) = NULL;
@@ -127,7 +127,7 @@ static struct datagram *take_first(void) {
 /* ---- The loop of an end ---- */
 
 /* Notes whether an end failed, which only memory that was refused may bring, and answers the code. */
-static sctp_assoc_code noted(int end, sctp_assoc_code code) {
+static inline sctp_assoc_code noted(int end, sctp_assoc_code code) {
     if (code == SCTP_ASSOC_NO_MEMORY || code == SCTP_ASSOC_FAILED) {
         CHECK(may_be_refused);
         CHECK(sctp_assoc_is_failed(&ends[end], &is_failed[end]) == SCTP_ASSOC_DONE);
@@ -137,18 +137,18 @@ static sctp_assoc_code noted(int end, sctp_assoc_code code) {
 }
 
 /* Whether a call of the loop was done. */
-static bool went(int end, sctp_assoc_code code) {
+static inline bool went(int end, sctp_assoc_code code) {
     noted(end, code);
     return code != SCTP_ASSOC_NO_MEMORY && code != SCTP_ASSOC_FAILED && done(code);
 }
 
-static void expire(int end) {
+static inline void expire(int end) {
     expiries_at_once[end] = last_expiry[end] == now ? expiries_at_once[end] + 1 : 1;
     last_expiry[end] = now;
     went(end, sctp_assoc_handle_timeout(&ends[end], now));
 }
 
-static void send_all(int end) {
+static inline void send_all(int end) {
     static uint8_t datagram[SCTP_ASSOC_MAX_DATAGRAM];
     size_t length, count = 0;
     while (went(end,
@@ -158,7 +158,7 @@ static void send_all(int end) {
     }
 }
 
-static void turn(int end) {
+static inline void turn(int end) {
     uint64_t due;
     if (is_failed[end])
         return;
@@ -170,19 +170,19 @@ static void turn(int end) {
     run->look(end);
 }
 
-static void turn_both(void) {
+static inline void turn_both(void) {
     turn(A);
     turn(B);
 }
 
 /* When the timer of an end expires next. */
-static uint64_t due_at(int end) {
+static inline uint64_t due_at(int end) {
     uint64_t due;
     return !is_failed[end] && done(sctp_assoc_poll_timeout(&ends[end], &due)) ? due : NEVER;
 }
 
 /* The moment of the next timer or datagram, unless another one comes first. */
-static uint64_t next_moment(uint64_t other) {
+static inline uint64_t next_moment(uint64_t other) {
     uint64_t next = other;
     for (int end = 0; end < 2; end++) {
         uint64_t due = due_at(end);
@@ -194,7 +194,7 @@ static uint64_t next_moment(uint64_t other) {
     return next > now ? next : now;
 }
 
-static void deliver_due(void) {
+static inline void deliver_due(void) {
     while (first_on_way && first_on_way->at <= now) {
         struct datagram *came = take_first();
         int end = came->to;
@@ -210,7 +210,7 @@ static void deliver_due(void) {
 }
 
 /* Lives until that moment. */
-static void live_until(uint64_t until) {
+static inline void live_until(uint64_t until) {
     for (;;) {
         now = next_moment(until);
         if (now >= until)
@@ -222,7 +222,7 @@ static void live_until(uint64_t until) {
 
 /* ---- The beginning and the end of a pair ---- */
 
-static void begin_pair(const struct run *begun) {
+static inline void begin_pair(const struct run *begun) {
     run = begun;
     now = SECOND;
     may_be_refused = false;
@@ -234,7 +234,7 @@ static void begin_pair(const struct run *begun) {
     }
 }
 
-static void end_pair(void) {
+static inline void end_pair(void) {
     while (first_on_way)
         free(take_first());
     free_both(ends);

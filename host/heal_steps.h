@@ -18,7 +18,7 @@ static uint64_t leaves_at[2]; /* when what an end sent last has left it */
 static size_t read_counts[2][CASE_STREAMS];
 static unsigned told_counts[2][SCTP_ASSOC_EVENT_OTHER][CASE_STREAMS];
 
-static void does_not_hold(const char *file, int line, const char *stated) {
+static inline void does_not_hold(const char *file, int line, const char *stated) {
     if (!*not_so)
         snprintf(not_so, sizeof not_so, "%s:%d: %s", file, line, stated);
 }
@@ -26,11 +26,11 @@ static void does_not_hold(const char *file, int line, const char *stated) {
 /* ---- The loop ---- */
 
 /* How often an end was told of an event of the stream. */
-static unsigned told(int end, uint32_t kind, uint16_t stream) {
+static inline unsigned told(int end, uint32_t kind, uint16_t stream) {
     return told_counts[end][kind][stream];
 }
 
-static void read_all(int end) {
+static inline void read_all(int end) {
     size_t length;
     uint32_t type;
     for (uint16_t stream = 0; stream < CASE_STREAMS; stream++)
@@ -38,7 +38,7 @@ static void read_all(int end) {
             read_counts[end][stream]++;
 }
 
-static void take_case_events(int end) {
+static inline void take_case_events(int end) {
     sctp_assoc_event event;
     uint16_t accepted;
     while (done(sctp_assoc_watched_poll_event(&ends[end], &watches[end], &event))) {
@@ -53,7 +53,7 @@ static void take_case_events(int end) {
         read_all(end);
 }
 
-static void send_in_case(int from, const uint8_t *datagram, size_t length) {
+static inline void send_in_case(int from, const uint8_t *datagram, size_t length) {
     bool is_lost = is_black || (loses && loses(from, datagram, length));
     uint64_t leaves = leaves_at[from] > now ? leaves_at[from] : now;
     show(is_lost ? "is lost" : "goes", from, datagram, length);
@@ -61,13 +61,13 @@ static void send_in_case(int from, const uint8_t *datagram, size_t length) {
         put_on_way(!from, leaves + CASE_DELAY, datagram, length);
 }
 
-static void look_at_nothing(int end) {
+static inline void look_at_nothing(int end) {
     (void)end;
 }
 
 /* ---- Beginning and end ---- */
 
-static void begin_case(const struct run *case_run) {
+static inline void begin_case(const struct run *case_run) {
     begin_pair(case_run);
     loses = NULL;
     is_black = false;
@@ -79,7 +79,7 @@ static void begin_case(const struct run *case_run) {
     memset(told_counts, 0, sizeof told_counts);
 }
 
-static void join_for(const struct run *case_run) {
+static inline void join_for(const struct run *case_run) {
     sctp_assoc_token tokens[2];
     begin_case(case_run);
     for (int end = 0; end < 2; end++)
@@ -91,13 +91,13 @@ static void join_for(const struct run *case_run) {
 static const struct run case_run = {take_case_events, send_in_case, look_at_nothing};
 
 /* Two ends that tokens join. */
-static void join(void) {
+static inline void join(void) {
     join_for(&case_run);
     turn_both();
 }
 
 /* A client and a server, or two clients, before their handshake. */
-static void meet(bool are_both_clients) {
+static inline void meet(bool are_both_clients) {
     sctp_assoc_identity identities[2] = {identity(1), identity(2)};
     begin_case(&case_run);
     CHECK(done(sctp_assoc_client(&ends[A], &config, PAYLOAD_SIZE, &identities[A], now)));
@@ -107,75 +107,75 @@ static void meet(bool are_both_clients) {
 
 /* ---- What an application does ---- */
 
-static void pass(uint64_t ms) {
+static inline void pass(uint64_t ms) {
     live_until(now + ms * MS);
 }
 
-static bool opens(int end, uint16_t stream) {
+static inline bool opens(int end, uint16_t stream) {
     return sctp_assoc_open_stream(&ends[end], stream, SCTP_ASSOC_PPID_BINARY) == SCTP_ASSOC_DONE;
 }
 
-static bool accepts(int end, uint16_t stream, size_t length) {
+static inline bool accepts(int end, uint16_t stream, size_t length) {
     memset(bytes, 7, length);
     return sctp_assoc_write(&ends[end], stream, SCTP_ASSOC_PPID_OF_STREAM, bytes, length) == SCTP_ASSOC_DONE;
 }
 
 /* Writes a message, which goes out as far as the windows allow. */
-static bool writes(int end, uint16_t stream, size_t length) {
+static inline bool writes(int end, uint16_t stream, size_t length) {
     bool is_accepted = accepts(end, stream, length);
     turn(end);
     return is_accepted;
 }
 
 /* Whether so many messages of this length were all written. */
-static bool writes_many(int end, uint16_t stream, size_t length, unsigned count) {
+static inline bool writes_many(int end, uint16_t stream, size_t length, unsigned count) {
     while (count > 0 && writes(end, stream, length))
         count--;
     return count == 0;
 }
 
-static bool closes(int end, uint16_t stream) {
+static inline bool closes(int end, uint16_t stream) {
     bool is_closed = sctp_assoc_close_stream(&ends[end], stream) == SCTP_ASSOC_DONE;
     turn(end);
     return is_closed;
 }
 
 /* Messages that are written from here on go out once, or as often as it takes. */
-static void set_reliable(int end, uint16_t stream, bool is_reliable) {
+static inline void set_reliable(int end, uint16_t stream, bool is_reliable) {
     CHECK(done(sctp_assoc_set_reliability(&ends[end], stream, false,
                                           is_reliable ? SCTP_ASSOC_RELIABLE : SCTP_ASSOC_REXMIT, 0)));
 }
 
 /* ---- What is so of an end ---- */
 
-static bool is_established(int end) {
+static inline bool is_established(int end) {
     bool answer = false;
     CHECK(done(sctp_assoc_is_established(&ends[end], &answer)));
     return answer;
 }
 
-static bool goes_on(void) {
+static inline bool goes_on(void) {
     return watches[A].end == SCTP_ASSOC_END_NONE && watches[B].end == SCTP_ASSOC_END_NONE;
 }
 
-static bool are_shut_down(void) {
+static inline bool are_shut_down(void) {
     return watches[A].end == SCTP_ASSOC_END_SHUT_DOWN && watches[B].end == SCTP_ASSOC_END_SHUT_DOWN;
 }
 
-static bool is_acknowledged(int end, uint16_t stream) {
+static inline bool is_acknowledged(int end, uint16_t stream) {
     size_t buffered;
     return sctp_assoc_buffered_amount(&ends[end], stream, &buffered) == SCTP_ASSOC_DONE && buffered == 0;
 }
 
 /* Lives until all is acknowledged that an end wrote on the stream, and so long at most. */
-static bool is_acknowledged_within(int end, uint16_t stream, uint64_t ms) {
+static inline bool is_acknowledged_within(int end, uint16_t stream, uint64_t ms) {
     for (uint64_t until = now + ms * MS; now < until && !is_acknowledged(end, stream);)
         pass(10);
     return is_acknowledged(end, stream);
 }
 
 /* Both ends are told so often that a reset of the stream is complete. */
-static bool are_told_complete(uint16_t stream, unsigned times) {
+static inline bool are_told_complete(uint16_t stream, unsigned times) {
     return told(A, SCTP_ASSOC_EVENT_RESET_COMPLETE, stream) == times &&
            told(B, SCTP_ASSOC_EVENT_RESET_COMPLETE, stream) == times;
 }
@@ -184,36 +184,36 @@ static bool are_told_complete(uint16_t stream, unsigned times) {
 
 static unsigned number_lost, number_seen; /* of what a loss counts, since a case set it */
 
-static uint8_t first_chunk(const uint8_t *datagram) {
+static inline uint8_t first_chunk(const uint8_t *datagram) {
     return datagram[12];
 }
 
-static bool loses_first_data(int from, const uint8_t *datagram, size_t length) {
+static inline bool loses_first_data(int from, const uint8_t *datagram, size_t length) {
     (void)length;
     return from == A && first_chunk(datagram) == 0 && number_lost++ == 0;
 }
 
 /* An Outgoing SSN Reset Request (RFC 6525 section 4.1). */
-static bool is_request(const uint8_t *datagram) {
+static inline bool is_request(const uint8_t *datagram) {
     return first_chunk(datagram) == 130 && datagram[17] == 13;
 }
 
-static bool loses_second_request(int from, const uint8_t *datagram, size_t length) {
+static inline bool loses_second_request(int from, const uint8_t *datagram, size_t length) {
     (void)length;
     return from == A && is_request(datagram) && ++number_seen == 2;
 }
 
-static bool loses_cookie_acks(int from, const uint8_t *datagram, size_t length) {
+static inline bool loses_cookie_acks(int from, const uint8_t *datagram, size_t length) {
     (void)length;
     return from == B && first_chunk(datagram) == 11;
 }
 
-static bool loses_two_init_acks(int from, const uint8_t *datagram, size_t length) {
+static inline bool loses_two_init_acks(int from, const uint8_t *datagram, size_t length) {
     (void)from, (void)length;
     return first_chunk(datagram) == 2 && number_lost++ < 2;
 }
 
-static bool loses_first_complete(int from, const uint8_t *datagram, size_t length) {
+static inline bool loses_first_complete(int from, const uint8_t *datagram, size_t length) {
     (void)from, (void)length;
     return first_chunk(datagram) == 14 && number_lost++ == 0;
 }
@@ -221,7 +221,7 @@ static bool loses_first_complete(int from, const uint8_t *datagram, size_t lengt
 /* A link of so many datagrams a second, with a queue for so many of each end. */
 static uint64_t link_rate, link_room;
 
-static bool overflows_link(int from, const uint8_t *datagram, size_t length) {
+static inline bool overflows_link(int from, const uint8_t *datagram, size_t length) {
     uint64_t time = SECOND / link_rate, begins = leaves_at[from] > now ? leaves_at[from] : now;
     (void)datagram, (void)length;
     if ((begins - now) / time >= link_room)
@@ -231,7 +231,7 @@ static bool overflows_link(int from, const uint8_t *datagram, size_t length) {
 }
 
 /* From here on this is lost, counted anew; NULL for nothing. */
-static void lose(bool (*which)(int from, const uint8_t *datagram, size_t length)) {
+static inline void lose(bool (*which)(int from, const uint8_t *datagram, size_t length)) {
     loses = which;
     number_lost = number_seen = 0;
 }

@@ -86,14 +86,17 @@ static enum kind what_waits(void) {
 
 /* Why a receive buffer may be full of what can never be read. */
 static enum kind kind_of_exhaustion(int reader) {
-    bool has_stopped = false, has_loose = false;
+    bool has_stopped = false, has_loose = false, has_reset = false;
     for (int place = 0; place < STREAMS; place++) {
-        has_stopped |= applications[reader].streams[place].is_stopping;
-        has_loose |= applications[!reader].streams[place].has_loose;
+        const struct stream *own = &applications[reader].streams[place];
+        const struct stream *theirs = &applications[!reader].streams[place];
+        has_stopped |= own->is_stopping;
+        has_loose |= theirs->has_loose;
+        has_reset |= own->complete_at > 0 || theirs->complete_at > 0 || (theirs->is_finished && !own->is_stopping);
     }
-    if (has_stopped)
-        return EXHAUSTED_STOPPED;
-    return has_loose && !set.is_first_reliable ? EXHAUSTED_SKIPPED : EXHAUSTED;
+    if (has_loose && !set.is_first_reliable)
+        return EXHAUSTED_SKIPPED;
+    return has_stopped && !has_reset ? EXHAUSTED_STOPPED : EXHAUSTED;
 }
 
 static enum kind kind_of_end(int end) {

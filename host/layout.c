@@ -19,7 +19,7 @@ static void slot(void) {
 }
 
 static void config(void) {
-    sctp_assoc_config filled = {0, 0, 0, 0, 0, 0, 0, 0, 0, 0, 0, 0};
+    sctp_assoc_config filled = {0, 0, 0, 0, 0, 0, 0, 0, 0, 0, 0, 0, 0};
     (void)filled;
     STRUCT(sctp_assoc_config);
     FIELD(sctp_assoc_config, max_receive_buffer_size);
@@ -29,6 +29,7 @@ static void config(void) {
     FIELD(sctp_assoc_config, max_num_inbound_streams);
     FIELD(sctp_assoc_config, local_port);
     FIELD(sctp_assoc_config, remote_port);
+    FIELD(sctp_assoc_config, profile);
     FIELD(sctp_assoc_config, rto_initial_ms);
     FIELD(sctp_assoc_config, rto_min_ms);
     FIELD(sctp_assoc_config, rto_max_ms);

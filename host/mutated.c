@@ -198,8 +198,13 @@ static void check_memory(void) {
     most_heap_bytes = heap_bytes;
 }
 
-/* Whether a chunk is there by which this reason can come: one that may be a fault (docs/ARCHITECTURE.md, One datagram),
- * or that ends a shutdown. Of SACKs without gap ack blocks only those are faults that acknowledge what was not sent. */
+static bool is_plain(void) {
+    return !is_forged[0] && !is_forged[1];
+}
+
+/* Whether a chunk is there by which this reason can come: one that ends a shutdown, or, in a pair with forged datagrams
+ * alone, one that may be a fault (docs/ARCHITECTURE.md, One datagram) or fill the receive buffer. Of SACKs without gap
+ * ack blocks only those are faults that acknowledge what was not sent. */
 static bool has_cause(int end, const struct datagram *packet, bool is_closing) {
     uint32_t first_tsn = identity(tags[end]).initial_tsn;
     bool has_any = false;
@@ -212,9 +217,11 @@ static bool has_cause(int end, const struct datagram *packet, bool is_closing) {
         bool is_no_fault = kind == 4 || kind == 7 || kind == 10 || kind == 11 || kind == 192 || kind == 194;
         is_closing |= kind == 7;
         if (lost_reason[end] == SCTP_ASSOC_REASON_BUFFER_EXHAUSTED)
-            has_any |= can_exhaust;
+            has_any |= can_exhaust && !is_plain();
+        else if (ends_shutdown)
+            has_any |= is_closing;
         else
-            has_any |= !is_no_fault && !is_plain_sack && (!ends_shutdown || is_closing);
+            has_any |= !is_no_fault && !is_plain_sack && !is_plain();
     }
     return has_any;
 }
@@ -242,7 +249,7 @@ static void hand_in(int end, const struct datagram *came, bool is_honest) {
     look(end, &after);
     check_memory();
     if (is_lost[end]) {
-        CHECK(has_cause(end, came, before.is_closing) && (is_ending || is_forged[0] || is_forged[1]));
+        CHECK(has_cause(end, came, before.is_closing) && (is_ending || !is_plain()));
         closed++;
     }
 }
@@ -280,10 +287,6 @@ static void begin_pair(void) {
         begin(end, joins, &config);
     for (int end = 0; end < 2; end++)
         drain(end);
-}
-
-static bool is_plain(void) {
-    return !is_forged[0] && !is_forged[1];
 }
 
 /* A code that a call gives in a pair without forged datagrams, or one by which it refuses. */

@@ -1,5 +1,6 @@
 /* The timers of an association (RFC 4960 sections 6.3 and 8): what measured round trips make of the retransmission
- * timeout, how it backs off, which expiry is one too many, and when the timer begins anew. */
+ * timeout, how it backs off, which expiry is one too many, when the timer begins anew, and that none of the timeouts
+ * that are configured is 0. */
 #include "support.h"
 
 #define STREAM 1
@@ -107,8 +108,8 @@ static void measurements_are_smoothed(void) {
 static const struct {
     uint64_t first, retries, timeout;
 } timeouts[] = {
-    {1000, 3, 8000}, {1000, 6, 60000}, {1000, 31, 60000}, {1, 0, 1},      {1, 1, 2},      {1, 2, 4},      {1, 15, 32768},
-    {1, 16, 60000},  {1, 30, 60000},   {1, 31, 60000},    {1, 63, 60000}, {1, 64, 60000}, {0, 5, 0},
+    {1000, 3, 8000}, {1000, 6, 60000}, {1000, 31, 60000}, {1, 0, 1},      {1, 1, 2},      {1, 2, 4},
+    {1, 15, 32768},  {1, 16, 60000},   {1, 30, 60000},    {1, 31, 60000}, {1, 63, 60000}, {1, 64, 60000},
 };
 
 static void timeouts_double_up_to_a_greatest_one(void) {
@@ -187,12 +188,40 @@ static void an_exempt_expiry_adds_no_retry(void) {
     free_both(ends);
 }
 
+/* ---- Timeouts of 0 ---- */
+
+/* No side is made with this configuration, of which a timeout is 0. */
+static void makes_no_side(const sctp_assoc_config *config) {
+    sctp_assoc slot = SCTP_ASSOC_EMPTY;
+    sctp_assoc_identity named = identity(1);
+    sctp_assoc_token token;
+    CHECK(done(sctp_assoc_make_token(config, 1, 100, &token)));
+    CHECK(sctp_assoc_client(&slot, config, PAYLOAD_SIZE, &named, 0) == SCTP_ASSOC_BAD_TIMEOUT);
+    CHECK(sctp_assoc_server(&slot, config, PAYLOAD_SIZE, &named, 0) == SCTP_ASSOC_BAD_TIMEOUT);
+    CHECK(sctp_assoc_joined(&slot, config, PAYLOAD_SIZE, &token, &token) == SCTP_ASSOC_BAD_TIMEOUT);
+    CHECK(!slot.live && blocks == 0);
+}
+
+/* With any of the three a timer would be due again as soon as it expired. */
+static void timeouts_of_0_are_refused(void) {
+    static const char *const names[] = {"rto_initial_ms", "rto_min_ms", "rto_max_ms"};
+    for (size_t i = 0; i < COUNT_OF(names); i++) {
+        sctp_assoc_config config = default_config();
+        uint64_t *const fields[] = {&config.rto_initial_ms, &config.rto_min_ms, &config.rto_max_ms};
+        tried = names[i];
+        *fields[i] = 0;
+        makes_no_side(&config);
+    }
+    tried = "";
+}
+
 int main(void) {
     measurements_are_smoothed();
     timeouts_double_up_to_a_greatest_one();
     a_stale_timer_starts_again();
     expiries_pass_the_limit();
     an_exempt_expiry_adds_no_retry();
+    timeouts_of_0_are_refused();
     puts("timeouts: ok");
     return 0;
 }

@@ -250,8 +250,22 @@ static void by_faults(void) {
     }
 }
 
-/* A message that doesn't fit into the receive buffer can never be read. The event tells it, and the peer gets an ABORT
- * with the cause Out of Resource, which has no value (RFC 4960 section 3.3.10.4). */
+/* The server's receive buffer was exhausted. The call that left it so notes it, if it is a watched one, and else the
+ * event that tells it. The peer gets an ABORT with the cause Out of Resource, which has no value (RFC 4960 section
+ * 3.3.10.4). */
+static void ended_exhausted(bool is_noted_at_once) {
+    uint32_t noted_first = is_noted_at_once ? SCTP_ASSOC_END_BUFFER_EXHAUSTED : SCTP_ASSOC_END_NONE;
+    CHECK(is_drained(1) && watches[1].end == noted_first);
+    CHECK(is_told(1, SCTP_ASSOC_EVENT_LOST) && event.reason == SCTP_ASSOC_REASON_BUFFER_EXHAUSTED);
+    CHECK(watches[1].end == SCTP_ASSOC_END_BUFFER_EXHAUSTED);
+    CHECK(watches[1].cause == 0 && watches[1].reason_length == 0);
+    carry();
+    ended(0, SCTP_ASSOC_END_ABORT_CAME);
+    CHECK(watches[0].cause == 4 && watches[0].reason_length == 0);
+    free_both(ends);
+}
+
+/* A message that doesn't fit into the receive buffer can never be read. A datagram fills it. */
 static void by_exhaustion(void) {
     config.max_receive_buffer_size = 1500;
     begin();
@@ -260,12 +274,26 @@ static void by_exhaustion(void) {
         carry();
         wait(1000);
     }
-    CHECK(is_told(1, SCTP_ASSOC_EVENT_LOST) && event.reason == SCTP_ASSOC_REASON_BUFFER_EXHAUSTED);
-    CHECK(watches[1].end == SCTP_ASSOC_END_BUFFER_EXHAUSTED && watches[1].reason_length == 0);
+    ended_exhausted(true);
+    config = default_config();
+}
+
+/* The same where beside it a message could be read, until it was, or its stream was stopped. */
+static void by_exhaustion_behind(bool is_stop) {
+    uint32_t type;
+    config.max_receive_buffer_size = 1500;
+    begin();
+    write_bytes(100);
+    CHECK(done(sctp_assoc_open_stream(&ends[0], STREAM + 1, SCTP_ASSOC_PPID_BINARY)));
+    CHECK(done(sctp_assoc_write(&ends[0], STREAM + 1, SCTP_ASSOC_PPID_OF_STREAM, bytes, 6000)));
     carry();
-    ended(0, SCTP_ASSOC_END_ABORT_CAME);
-    CHECK(watches[0].cause == 4 && watches[0].reason_length == 0);
-    free_both(ends);
+    wait(5000);
+    CHECK(!is_drained(1) && watches[1].end == SCTP_ASSOC_END_NONE);
+    if (is_stop)
+        CHECK(done(sctp_assoc_stop(&ends[1], STREAM)));
+    else
+        CHECK(done(sctp_assoc_read(&ends[1], STREAM, bytes, sizeof bytes, &length, &type)) && length == 100);
+    ended_exhausted(false);
     config = default_config();
 }
 
@@ -363,6 +391,8 @@ int main(void) {
     TRY(by_abort(300));
     TRY(by_faults());
     TRY(by_exhaustion());
+    TRY(by_exhaustion_behind(false));
+    TRY(by_exhaustion_behind(true));
     TRY(tells_path());
     TRY(empty_slot());
     TRY(refused_abort());

@@ -14,8 +14,9 @@
  *        sctp_assoc_read until it answers SCTP_ASSOC_NOTHING, or the stream is gone. At SCTP_ASSOC_EVENT_OPENED call
  *        sctp_assoc_accept_stream.
  *      - Call sctp_assoc_poll_transmit until it answers SCTP_ASSOC_NOTHING, and send each datagram.
- *      A poll for datagrams can queue events, and what you write at an event leaves datagrams. Do this step also after
- *      each datagram that you handed in and after each write, since no timer runs for what waits to go out.
+ *      A poll for datagrams can queue events, and what you write or read at an event leaves datagrams. Do this step
+ *      also after each datagram that you handed in and after each write and read, since no timer runs for what waits
+ *      to go out.
  *   4. Sleep until the moment of sctp_assoc_poll_timeout, or until a datagram comes.
  *
  * To end, call sctp_assoc_shutdown and go on with the loop until sctp_assoc_is_drained; or, at once, sctp_assoc_abort,
@@ -115,11 +116,18 @@ typedef uint32_t sctp_assoc_code;
 #define SCTP_ASSOC_EMPTY_MESSAGE 28         /* a message has one byte at least */
 #define SCTP_ASSOC_NO_RANDOM 60             /* the system gives no random bytes */
 #define SCTP_ASSOC_BAD_INIT 61              /* the bytes are no INIT chunk, or end within a parameter of it */
+#define SCTP_ASSOC_BAD_TIMEOUT 62           /* rto_initial_ms, rto_min_ms or rto_max_ms is 0 */
+#define SCTP_ASSOC_BAD_PROFILE 63           /* profile is neither SCTP_ASSOC_PROFILE_RFC nor _PORT */
 
 /* ---- Configuration ---- */
 
 /* Stands for no limit in max_init_retransmits and max_data_retransmits. */
 #define SCTP_ASSOC_NO_LIMIT SIZE_MAX
+
+/* The rules that an association keeps where the RFCs and the Rust crate sctp-proto 0.10.8 part. Each side has its own,
+ * of which the peer is told nothing. */
+#define SCTP_ASSOC_PROFILE_RFC 0  /* those of RFC 4960, RFC 3758, RFC 6525 and RFC 8831 */
+#define SCTP_ASSOC_PROFILE_PORT 1 /* those of the crate, which this library is a port of */
 
 typedef struct sctp_assoc_config {
     uint32_t max_receive_buffer_size;  /* bytes; the window that is offered. A peer refuses one below 1500 */
@@ -129,7 +137,8 @@ typedef struct sctp_assoc_config {
     uint16_t max_num_inbound_streams;  /* offered, 1 to 65,535; a peer that uses more streams is not refused */
     uint16_t local_port;               /* SCTP port, not 0; a server takes both from the INIT */
     uint16_t remote_port;
-    uint64_t rto_initial_ms;           /* retransmission timeouts, ms (RFC 4960 section 6.3.1) */
+    uint32_t profile;                  /* SCTP_ASSOC_PROFILE_.. */
+    uint64_t rto_initial_ms;           /* retransmission timeouts, ms, none of them 0 (RFC 4960 section 6.3.1) */
     uint64_t rto_min_ms;
     uint64_t rto_max_ms;
     size_t max_init_retransmits;       /* how often INIT and COOKIE ECHO go out again; SCTP_ASSOC_NO_LIMIT */
@@ -137,8 +146,8 @@ typedef struct sctp_assoc_config {
                                         * that, so bound the wait for an acknowledgement; SCTP_ASSOC_NO_LIMIT */
 } sctp_assoc_config;
 
-/* Writes the defaults: buffer 1,048,576, messages 65,536, streams 65,535, ports 5000, timeouts 3000, 1000 and 60,000,
- * 8 retransmissions of INIT, no limit for DATA. Answers SCTP_ASSOC_DONE. */
+/* Writes the defaults: buffer 1,048,576, messages 65,536, streams 65,535, ports 5000, the profile of the RFCs, timeouts
+ * 3000, 1000 and 60,000, 8 retransmissions of INIT, no limit for DATA. Answers SCTP_ASSOC_DONE. */
 sctp_assoc_code sctp_assoc_default_config(sctp_assoc_config *config);
 
 /* What names one side. Take all three from a random source that nobody can guess. */
@@ -186,7 +195,8 @@ sctp_assoc_code sctp_assoc_token_from_init(const uint8_t *init, size_t length, s
  * bytes and IPv6, less below DTLS; UDP carries no more than 65,479). A datagram with DATA has up to 28 bytes more, and
  * up to 3 besides if it is no multiple of 4. Some other datagrams get longer: see sctp_assoc_poll_transmit.
  *
- * Codes: DONE, NO_MEMORY, BAD_PAYLOAD_SIZE, and BAD_INITIAL_TSN or BAD_TOKEN. At all but DONE the slot stays as it was.
+ * Codes: DONE, NO_MEMORY, and refusals in this order: BAD_PROFILE, BAD_TIMEOUT, BAD_PAYLOAD_SIZE, and BAD_INITIAL_TSN
+ * or BAD_TOKEN. At all but DONE the slot stays as it was.
  */
 
 /* A client, whose INIT waits for sctp_assoc_poll_transmit; its timer runs from `now` (RFC 4960 section 5.1). */
@@ -299,7 +309,8 @@ sctp_assoc_code sctp_assoc_handle_timeout(sctp_assoc *slot, uint64_t now);
 #define SCTP_ASSOC_REASON_CLOSED 3              /* of LOST: the end of a shutdown of either side, sctp_assoc_close, an
                                                  * ABORT of either side or another fault of the peer; a watch tells
                                                  * which (SCTP_ASSOC_END_..) */
-#define SCTP_ASSOC_REASON_BUFFER_EXHAUSTED 4    /* of LOST: the receive buffer is full of what can never be read */
+#define SCTP_ASSOC_REASON_BUFFER_EXHAUSTED 4    /* of LOST: the receive buffer is full of what can never be read; by
+                                                 * SCTP_ASSOC_PROFILE_PORT also of what came on stopped streams */
 #define SCTP_ASSOC_REASON_OTHER 5               /* not told so far */
 #define SCTP_ASSOC_REASON_RESET_DENIED 6        /* of RESET_FAILED: the peer denied it (RFC 6525 section 4.4) */
 #define SCTP_ASSOC_REASON_RESET_FAILED 7        /* of RESET_FAILED: the peer reported an error, or didn't answer */
@@ -414,7 +425,12 @@ sctp_assoc_code sctp_assoc_write(sctp_assoc *slot, uint16_t stream, uint32_t pay
  * protocol identifier. At NO_ROOM the message stays, and `length` says how long it is. A message of length 0 comes only
  * from a peer that sends DATA without a byte; it cannot be written back (EMPTY_MESSAGE). If the peer ended its half,
  * the stream may end with its last message, and the next read answers NO_STREAM. Codes: DONE, EMPTY_SLOT, NOTHING,
- * NO_ROOM, FAILED, NO_STREAM, STREAM_CLOSED, NO_MEMORY (the message stays, or the association has failed). */
+ * NO_ROOM, FAILED, NO_STREAM, STREAM_CLOSED, NO_MEMORY (the message stays, or the association has failed).
+ *
+ * By SCTP_ASSOC_PROFILE_RFC a read that opens the receive window, also one that answers NO_ROOM, makes an
+ * acknowledgement due at once, for which the peer may wait: so poll for datagrams after reads. The window is open where
+ * two packets may come, of 2 * (max_payload_size + 28) bytes, or half of max_receive_buffer_size if that is less. By
+ * SCTP_ASSOC_PROFILE_PORT no read makes one due. */
 sctp_assoc_code sctp_assoc_read(sctp_assoc *slot, uint16_t stream, uint8_t *buffer, size_t room, size_t *length,
                                 uint32_t *payload_type);
 
@@ -425,12 +441,18 @@ sctp_assoc_code sctp_assoc_finish(sctp_assoc *slot, uint16_t stream);
 /* Closes the read half of a stream and asks for a reset of it (RFC 6525, RFC 8831 section 6.7). What was accepted goes
  * out first; then the peer is asked to reset its half, too. Nothing of the stream can be read or written any more, and
  * a message that didn't fit a buffer is dropped. Its end is told by SCTP_ASSOC_EVENT_STREAM_ENDED, _FINISHED and after
- * that _RESET_COMPLETE, at the peer, too. If the read half is closed already, nothing changes. Codes: DONE,
- * EMPTY_SLOT, FAILED, NO_STREAM, CANNOT_RESET, NO_MEMORY (the association has failed). */
+ * that _RESET_COMPLETE, at the peer, too. What the peer sent before a reset of its own is dropped, too, which may open
+ * the receive window as a read does. If the read half is closed already, nothing changes. Codes: DONE, EMPTY_SLOT,
+ * FAILED, NO_STREAM, CANNOT_RESET, NO_MEMORY (the association has failed).
+ *
+ * By SCTP_ASSOC_PROFILE_RFC all that is unread of the stream is so dropped, and what still comes of it until it ends is
+ * acknowledged and dropped, too: so none of it takes room in the receive buffer, however much is under way. By
+ * SCTP_ASSOC_PROFILE_PORT it takes room until the stream ends, and may leave the buffer exhausted, which ends the
+ * association. */
 sctp_assoc_code sctp_assoc_stop(sctp_assoc *slot, uint16_t stream);
 
-/* Closes both halves of a stream, first as sctp_assoc_finish and then as sctp_assoc_stop does. Codes: those of
- * sctp_assoc_stop. */
+/* Closes both halves of a stream, first as sctp_assoc_finish and then as sctp_assoc_stop does, which says what becomes
+ * of what is unread or under way. Codes: those of sctp_assoc_stop. */
 sctp_assoc_code sctp_assoc_close_stream(sctp_assoc *slot, uint16_t stream);
 
 /* How long a message is sent again (RFC 3758 section 4.1); any other number is SCTP_ASSOC_RELIABLE. */
@@ -488,7 +510,9 @@ sctp_assoc_code sctp_assoc_set_high_mark(sctp_assoc *slot, uint16_t stream, size
  *
  * A watched call makes the call whose name it has, answers its code and leaves what that leaves. Make these five in
  * place of those, all through the life of the association: what goes past the watch isn't counted, and an end that
- * another call brings isn't noted. Who wants no watch makes the calls without one, which cost nothing more for this.
+ * another call brings isn't noted. Only that a read or a stop left the receive buffer exhausted is noted all the same,
+ * once sctp_assoc_watched_poll_event gives SCTP_ASSOC_EVENT_LOST. Who wants no watch makes the calls without one, which
+ * cost nothing more for this.
  */
 
 /* Why the association ended. Of `end` of a watch; NONE until it has ended. */

@@ -7,8 +7,9 @@
  * The loop is that of sctp_assoc.h but for the events that its step 3 takes: call sctp_channels_poll_event until it
  * answers SCTP_ASSOC_NOTHING, in place of sctp_assoc_poll_event and sctp_assoc_accept_stream. At
  * SCTP_CHANNELS_EVENT_MESSAGE call sctp_channels_receive until it answers SCTP_ASSOC_NOTHING, or the channel is gone.
- * What these calls write, as OPENs and ACKs, goes out by sctp_assoc_poll_transmit like messages do, so do that step
- * after them, too: take events and poll for datagrams until neither brings anything.
+ * What these calls write, as OPENs and ACKs, goes out by sctp_assoc_poll_transmit like messages do, and what they read
+ * may open the receive window as sctp_assoc_read does. So do that step after them, too: take events and poll for
+ * datagrams until neither brings anything.
  *
  * What C owes is what the head of sctp_assoc.h says, for both slots. Besides, a slot of channels stays with one
  * association from the first call that gets both, and streams of that association which have a channel are left to
@@ -104,9 +105,11 @@ sctp_assoc_code sctp_channels_open(sctp_channels *slot, sctp_assoc *assoc, const
                                    size_t protocol_length, uint16_t *id);
 
 /* Ends a channel: its stream is reset (RFC 8831 section 6.7) after what was accepted went out, and messages that came
- * are not received any more. SCTP_CHANNELS_EVENT_CLOSED tells the end. A channel whose OPEN was not written yet is gone
- * at once, and nothing is told; one that ends goes on to. Codes: DONE, EMPTY_SLOT, NO_CHANNEL, and as of
- * sctp_assoc_close_stream FAILED, NO_STREAM, CANNOT_RESET, NO_MEMORY (the association has failed). */
+ * are not received any more, nor is what the peer still sends: by SCTP_ASSOC_PROFILE_RFC it is dropped and takes no
+ * room in the receive buffer, as sctp_assoc_stop says. SCTP_CHANNELS_EVENT_CLOSED tells the end. A channel whose OPEN
+ * was not written yet is gone at once, and nothing is told; one that ends goes on to. Codes: DONE, EMPTY_SLOT,
+ * NO_CHANNEL, and as of sctp_assoc_close_stream FAILED, NO_STREAM, CANNOT_RESET, NO_MEMORY (the association has
+ * failed). */
 sctp_assoc_code sctp_channels_close(sctp_channels *slot, sctp_assoc *assoc, uint16_t id);
 
 /* ---- Events ---- */
@@ -125,8 +128,9 @@ sctp_assoc_code sctp_channels_close(sctp_channels *slot, sctp_assoc *assoc, uint
                                                 * being reset, or this side's channel `id` could not be begun. There is
                                                 * no such channel */
 #define SCTP_CHANNELS_EVENT_LOST 8             /* the association ended; `reason`. All channels are gone. A watch beside
-                                                * it does not see the events that are taken here: at the reason
-                                                * SCTP_ASSOC_REASON_BUFFER_EXHAUSTED its end is a fault */
+                                                * it does not see the events that are taken here: if it was one of
+                                                * these calls that left the receive buffer exhausted, and no datagram,
+                                                * the watch notes no end */
 #define SCTP_CHANNELS_EVENT_HANDSHAKE_FAILED 9 /* its handshake failed; `reason`. All channels are gone */
 
 /* 12 bytes. */

@@ -1,7 +1,7 @@
 // Lines of a session.
 use bytes::Bytes;
 use hex::FromHexError;
-use sctp_assoc::{Instant, PayloadProtocolIdentifier, ReliabilityType};
+use sctp_assoc::{Instant, PayloadProtocolIdentifier, Profile, ReliabilityType};
 use sctp_pair::{Side2, Step};
 use std::alloc::{AllocError, Global};
 
@@ -19,6 +19,8 @@ pub enum Line {
 #[derive(Clone, Copy, Debug)]
 pub struct Beginning {
     pub by: JoinedBy,
+    /// The rules that both sides keep.
+    pub profile: Profile,
     /// Greatest payload of one DATA chunk, in bytes.
     pub max_payload_size: u32,
     /// First TSNs.
@@ -33,6 +35,15 @@ pub enum JoinedBy {
     Tokens,
     /// A is a client and B a server, before their handshake.
     Handshake,
+}
+
+/// The profile that a line in front of the first step names; None where it names none.
+pub fn profile_of(line: &[u8]) -> Option<Profile> {
+    match str::from_utf8(line) {
+        Ok("profile port") => Some(Profile::Port),
+        Ok("profile rfc") => Some(Profile::Rfc),
+        _ => None,
+    }
 }
 
 /// Reads a line without its newline; None where it is no step. Fields are separated by one space.
@@ -67,6 +78,8 @@ fn plain_line(fields: &[&str]) -> Option<Line> {
 fn begin(by: JoinedBy, size: &str, tsn_a: &str, tsn_b: &str) -> Option<Line> {
     Some(Line::Begin(Beginning {
         by,
+        // A line in front of it may name another one.
+        profile: Profile::Port,
         max_payload_size: number_u32(size)?,
         tsn_a: number_u32(tsn_a)?,
         tsn_b: number_u32(tsn_b)?,

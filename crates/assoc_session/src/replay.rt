@@ -1,9 +1,10 @@
 // A session: lines in, replies out.
 ghost use Rattle.std.specs.Prelude.{◌≡◌, ◌⊎◌};
 
-use crate::line::{Beginning, Line, parse};
+use crate::line::{Beginning, Line, parse, profile_of};
 use crate::reply::{flag, show, show_refusal};
 use crate::setting::begun;
+use sctp_assoc::Profile;
 use sctp_pair::{Pair, Reply, Side2, Step};
 use std::alloc::{AllocError, Global};
 use std::io;
@@ -75,16 +76,38 @@ fn replay_lines<R: BufRead, W: Write>(
     if !next_line(reader, &mut line)? {
         return Ok(());
     }
-    let beginning = beginning_of(alloc, line.as_slice())?;
-    begin(alloc, reader, writer, beginning, &mut line)
+    match profile_of(line.as_slice()) {
+        Some(profile) => {
+            writeln!(writer, "ok")?;
+            if !next_line(reader, &mut line)? {
+                return Ok(());
+            }
+            begin_under(alloc, reader, writer, profile, &mut line, 2)
+        }
+        None => begin_under(alloc, reader, writer, Profile::Port, &mut line, 1),
+    }
 }
 
-// What the first line asks for.
-fn beginning_of(alloc: Global, line: &[u8]) -> Result<Beginning, Stop> {
+// Carries out the line that makes the pair, which has this number, and those behind it.
+fn begin_under<R: BufRead, W: Write>(
+    alloc: Global,
+    reader: &mut R,
+    writer: &mut W,
+    profile: Profile,
+    line: &mut Vec<u8>,
+    number: u64,
+) -> Result<(), Stop> {
+    let mut beginning = beginning_of(alloc, line.as_slice(), number)?;
+    beginning.profile = profile;
+    begin(alloc, reader, writer, beginning, line, number)
+}
+
+// What the line that makes the pair asks for.
+fn beginning_of(alloc: Global, line: &[u8], number: u64) -> Result<Beginning, Stop> {
     let line = parse(alloc, line)?;
     match &line {
         Some(Line::Begin(beginning)) => Ok(*beginning),
-        _ => Err(Stop::BadStep(1)),
+        _ => Err(Stop::BadStep(number)),
     }
 }
 
@@ -95,23 +118,25 @@ fn begin<R: BufRead, W: Write>(
     writer: &mut W,
     beginning: Beginning,
     line: &mut Vec<u8>,
+    number: u64,
 ) -> Result<(), Stop> {
     match begun(alloc, beginning) {
-        Ok(mut pair) => go_on(alloc, reader, writer, &mut pair, line),
+        Ok(mut pair) => go_on(alloc, reader, writer, &mut pair, line, number),
         Err(error) => write_refusal(alloc, writer, error.number()),
     }
 }
 
-// The reply to the first line, and the lines behind it. `line` is room for one.
+// The reply to the line that made the pair, which has this number, and the lines behind it. `line` is room for one.
 fn go_on<R: BufRead, W: Write>(
     alloc: Global,
     reader: &mut R,
     writer: &mut W,
     pair: &mut Pair,
     line: &mut Vec<u8>,
+    number: u64,
 ) -> Result<(), Stop> {
     writeln!(writer, "ok")?;
-    for number in 2..u64::MAX {
+    for number in number.saturating_add(1)..u64::MAX {
         if !next_line(reader, line)? {
             break;
         }

@@ -13,9 +13,9 @@ const TAG_B: u32 = 2;
 /// The State Cookie of either side.
 const COOKIE: [u8; 32] = [67; 32];
 
-/// Two associations, each with the default configuration; a client's INIT is due at the moment 0.
+/// Two associations, each with the default configuration but for its profile; a client's INIT is due at the moment 0.
 pub fn begun(alloc: Global, beginning: Beginning) -> Result<Pair, Error> {
-    let config = TransportConfig::default();
+    let config = TransportConfig::default().with_profile(Some(beginning.profile));
     match beginning.by {
         JoinedBy::Tokens => snapped_under(
             alloc,

@@ -1,6 +1,6 @@
 // A client and a server behind their handshake and a message: what a run asks of a side, and a packet of A.
 use assoc_session::{Beginning, JoinedBy, Line, begun, parse};
-use sctp_assoc::{Error, Side};
+use sctp_assoc::{Error, Profile, Side};
 use sctp_pair::{Pair, Reply, Side2, Step};
 use std::alloc::{AllocError, Global};
 use std::test::Fail;
@@ -27,6 +27,7 @@ fn strangers(alloc: Global) -> Result<Pair, Error> {
         alloc,
         Beginning {
             by: JoinedBy::Handshake,
+            profile: Profile::Port,
             max_payload_size: 1200,
             tsn_a: 100,
             tsn_b: 500,

@@ -1,9 +1,10 @@
 -- A close does to the two directions what its acts say.
-use Rattle.std.proofs.Common.{◌≡◌, refl, Bool, true, false, [], ◌∷◌, if◌then◌else◌}
+use Rattle.std.proofs.Common.{◌≡◌, refl, ℕ, Bool, true, false, List, [], ◌∷◌, if◌then◌else◌}
 use Rattle.sctp_streams.specs.declared.event.AssociationError.{AssociationError}
 use Rattle.sctp_streams.specs.declared.event.AssociationError.TheVariants as reasons
 use Rattle.sctp_directions.specs.Acts.{Act, History}
-use Rattle.sctp_assoc.specs.Closing.{closed_by, closed_open, exhausted, is_closed_state}
+use Rattle.sctp_assoc.specs.Calls.{eased, tells_window, told_if}
+use Rattle.sctp_assoc.specs.Closing.{closed_by, closed_open, exhausted, is_closed_state, is_exhausted, relieved}
 use Rattle.sctp_assoc.specs.Happened.{acts_of_close}
 use Rattle.sctp_assoc.specs.Leads.{Binds, Leads}
 use Rattle.sctp_assoc.specs.Shown.{Shown}
@@ -27,3 +28,16 @@ pub relieved_leads : (exhausts : Bool) (b : Shown) (h : History) → Binds b h
     → Leads (if exhausts then acts_of_close b else []) b h (if exhausts then exhausted b else b) h
 relieved_leads true b h binds = exhausted_leads b h binds
 relieved_leads false b h binds = leads_nowhere b b h binds refl refl
+
+-- a window that opened is told behind what was done
+pub told_leads : (tells : Bool) (acts : List Act) (a b : Shown) (h : History) → Leads acts a h b h
+    → Leads acts a h (told_if tells b) h
+told_leads true acts a b h leads = leads_beside acts a b (told_if true b) h h refl refl leads
+told_leads false acts a b h leads = leads
+
+-- the same where that was a stop
+pub eased_leads : (before : ℕ) (b : Shown) (h : History) → Binds b h
+    → Leads (if is_exhausted b then acts_of_close b else []) b h (eased before b) h
+eased_leads before b h binds =
+    told_leads (tells_window before (relieved b)) (if is_exhausted b then acts_of_close b else []) b (relieved b) h
+    (relieved_leads (is_exhausted b) b h binds)

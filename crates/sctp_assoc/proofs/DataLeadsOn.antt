@@ -14,12 +14,14 @@ use Rattle.sctp_directions.specs.Acts.{Act, History, Parts, offset_in, with_take
 use Rattle.sctp_assoc.specs.declared.inbound.Flow.{Flow}
 use Rattle.sctp_assoc.specs.declared.inbound.Flow.TheVariants as flows
 use Rattle.sctp_assoc.specs.Chunks.{asks, asks_or_faults, counted_data, deferred, deferred_unless}
-use Rattle.sctp_assoc.specs.Chunks.{deferred_where_admitted, on_data, on_new_data, stream_found, taken_in, taken_unless}
-use Rattle.sctp_assoc.specs.Chunks.{taken_where_admitted, then_skips, told, with_message, with_new_stream}
+use Rattle.sctp_assoc.specs.Chunks.{deferred_where_admitted, goes_unread, left_or_handed_over, left_unread, on_data}
+use Rattle.sctp_assoc.specs.Chunks.{on_new_data, stream_found, taken_in, taken_unless, taken_where_admitted}
+use Rattle.sctp_assoc.specs.Chunks.{then_skips, told, with_message, with_new_stream}
 use Rattle.sctp_assoc.specs.Closing.{is_exhausted}
 use Rattle.sctp_assoc.specs.Happened.{acts_of_data, acts_of_deferring, acts_of_found, acts_of_hidden}
 use Rattle.sctp_assoc.specs.Happened.{acts_of_skips_behind, acts_of_stream, acts_of_taking}
-use Rattle.sctp_assoc.specs.Happened.{acts_of_taking_where_admitted, acts_unless_faulty, acts_unless_refused}
+use Rattle.sctp_assoc.specs.Happened.{acts_if_left, acts_of_taking_where_admitted, acts_unless_faulty}
+use Rattle.sctp_assoc.specs.Happened.{acts_unless_refused}
 use Rattle.sctp_assoc.specs.Leads.{Binds, Leads, parts}
 use Rattle.sctp_assoc.specs.ResetActs.{acts_of_settling}
 use Rattle.sctp_assoc.specs.Resets.{settled}
@@ -86,11 +88,27 @@ skips_lead : (x : Shown × Option Error) (id : ℕ) (h : History) → Binds x.0 
 skips_lead (a, None) id h binds = skipping_leads id a h binds
 skips_lead (a, Some fault) id h binds = leads_nowhere a a h binds refl refl
 
--- what DATA may be: taken in, or kept apart
+-- what DATA may be: taken in, or kept apart,
 deferred_leads : (a : Shown) (piece : ChunkPayloadData) (h : History) → Binds a h
     → is_new_to a.receiver piece.tsn ≡ true
     → Leads (Act.Deferred piece ∷ []) a h (deferred_unless None a piece).0 (with_taken h (offset_in h piece.tsn))
 deferred_leads a piece h binds new = record {
+  can = (new_tsn h a.streams a.receiver piece.tsn binds.peer_last_tsn binds.held new, tt);
+  there = refl;
+  binds = record {
+    first = binds.first;
+    peer_last_tsn =
+        last_tsn_follows h a.streams a.receiver piece.tsn binds.peer_last_tsn binds.held new a.streams;
+    held = held_follows h a.streams a.receiver piece.tsn binds.peer_last_tsn binds.held new a.streams;
+    marked = binds.marked;
+  };
+}
+
+-- or received and left, since nobody reads its stream any more
+left_leads : (a : Shown) (piece : ChunkPayloadData) (h : History) → Binds a h
+    → is_new_to a.receiver piece.tsn ≡ true
+    → Leads (Act.Deferred piece ∷ []) a h (left_unread a piece) (with_taken h (offset_in h piece.tsn))
+left_leads a piece h binds new = record {
   can = (new_tsn h a.streams a.receiver piece.tsn binds.peer_last_tsn binds.held new, tt);
   there = refl;
   binds = record {
@@ -110,11 +128,16 @@ module _ (a : Shown) (piece : ChunkPayloadData) (h : History) (binds : Binds a h
   taking_leads_unless (Some fault) = (h, leads_nowhere a a h binds refl refl)
   taking_leads_unless None = (with_taken h (offset_in h piece.tsn), took_leads a piece h binds new _ refl)
 
-  taking_leads : (k : History) × Leads (acts_of_taking a piece) a h (taken_in a piece).0 k
-  unfolding taken_in
-  taking_leads =
+  taking_leads_if_left : (left : Bool)
+      → (k : History) × Leads (acts_if_left left a piece) a h (left_or_handed_over left a piece).0 k
+  taking_leads_if_left true = (with_taken h (offset_in h piece.tsn), left_leads a piece h binds new)
+  taking_leads_if_left false =
       taking_leads_unless
       (refusal_in a.streams piece.stream_identifier piece a.receiver.max_receive_message_size)
+
+  taking_leads : (k : History) × Leads (acts_of_taking a piece) a h (taken_in a piece).0 k
+  unfolding taken_in
+  taking_leads = taking_leads_if_left (goes_unread a piece)
 
   taking_with_skips_leads : (k : History)
       × Leads (acts_of_taking a piece ++ acts_of_skips_behind (taken_in a piece) piece.stream_identifier) a h

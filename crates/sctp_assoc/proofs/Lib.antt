@@ -43,4 +43,5 @@ pub mod StopsLeadOn
 pub mod StreamReads
 pub mod StreamsFound
 pub mod StreamsWait
+pub mod UnreadData
 pub mod WhatCame

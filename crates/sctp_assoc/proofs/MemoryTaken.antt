@@ -19,7 +19,7 @@ use Rattle.sctp_streams.specs.Streams.{StreamMap, generation_left, refusal_at}
 use Rattle.sctp_streams.specs.Streams.{refusal_in, stream_at}
 use Rattle.sctp_inbound.specs.declared.receiver.AckTrigger.{AckTrigger}
 use Rattle.sctp_inbound.specs.declared.receiver.Receiver.{Receiver}
-use Rattle.sctp_inbound.specs.Receiver.{is_new_to}
+use Rattle.sctp_inbound.specs.Receiver.{admits, is_new_to}
 use Rattle.sctp_generations.specs.Deferred.{is_above}
 use Rattle.sctp_generations.specs.Generations.{has_retiring, has_skips}
 use Rattle.sctp_generations.specs.Retiring.{RetiringMap, is_retiring}
@@ -36,7 +36,7 @@ use Rattle.sctp_assoc.specs.declared.inbound.Flow.{Flow}
 use Rattle.sctp_assoc.specs.declared.inbound.Flow.TheVariants as flows
 use Rattle.sctp_assoc.specs.Calls.{is_established}
 use Rattle.sctp_assoc.specs.Closing.{is_closed_state}
-use Rattle.sctp_assoc.specs.Chunks.{counted_data, on_chunk, stream_found}
+use Rattle.sctp_assoc.specs.Chunks.{counted_data, goes_unread, on_chunk, refusal_unless_left, stream_found}
 use Rattle.sctp_assoc.specs.Memory.{chunk_takes_memory, chunks_take_memory, data_takes_memory, keeps_message}
 use Rattle.sctp_assoc.specs.Memory.{is_taken_in, makes_stream, new_data_takes_memory, resets_take_memory}
 use Rattle.sctp_assoc.specs.Memory.{takes_memory_after, taking_takes_memory}
@@ -45,7 +45,7 @@ use Rattle.sctp_assoc.specs.Gather.{ack_polled, both_of, bundled, data_bundled, 
 use Rattle.sctp_assoc.specs.Gather.{fast_gives, fast_polled, fast_sent, fell_in_poll, is_due, late_abandoned}
 use Rattle.sctp_assoc.specs.Gather.{marks_give, marks_polled, marks_sent, new_gives, new_sent, requests_give}
 use Rattle.sctp_assoc.specs.Gather.{data_after, requests_polled}
-use Rattle.sctp_assoc.specs.Shown.{Shown, uses_forward_tsn}
+use Rattle.sctp_assoc.specs.Shown.{Shown, all_waiting, uses_forward_tsn}
 use Rattle.sctp_assoc.specs.Skipping.{skip_takes_memory, some_takes_memory, with_skip}
 use Rattle.sctp_assoc.proofs.ContinuedShutdown.{continued_is_established}
 use Rattle.sctp_assoc.proofs.PartsOfPolls.{ack_sender, requests_leave}
@@ -136,6 +136,12 @@ skips_take : (a : Shown) (piece : ChunkPayloadData) → has_skips a.resets.gener
     → data_takes_memory a piece ≡ true
 skips_take a piece some = or_right (new_data_takes_memory a piece) (resets_take_memory a) (or_right _ _ some)
 
+-- that DATA was counted is nothing for why it is refused
+counted_refusal : (unread : Bool) (a : Shown) (piece : ChunkPayloadData)
+    → refusal_unless_left unread (counted_data a) piece ≡ refusal_unless_left unread a piece
+counted_refusal true a piece = refl
+counted_refusal false a piece = refl
+
 -- new DATA that comes to a stream that was found and takes memory there
 pub taking_takes : (a b : Shown) (piece : ChunkPayloadData)
     → is_new_to a.receiver piece.tsn ≡ true
@@ -147,7 +153,10 @@ taking_takes a b piece next found takes =
     let left = generation_left a.streams in
     ⊎_elim (λ (here : is_taken_in b piece ≡ true).
     let kept : (makes_stream a piece.stream_identifier || keeps_message a piece) ≡ true =
-    found_takes (counted_data a) b piece found here there left refl refl in
+    subst (λ (refusal : Option Error). (makes_stream a piece.stream_identifier
+    || (there && (admits a.receiver piece.tsn (all_waiting a) && not (is_some refusal)))) ≡ true)
+    (counted_refusal (goes_unread a piece) a piece)
+    (found_takes (counted_data a) b piece found here there left refl refl) in
     or_left (new_data_takes_memory a piece) (resets_take_memory a) (and_from _ _ next kept))
     (λ (some : has_skips b.resets.generations ≡ true).
     skips_take a piece

@@ -8,15 +8,15 @@ use Rattle.sctp_resets.specs.Channels.{channels}
 use Rattle.sctp_resets.specs.Concerned.{StayBeside}
 use Rattle.sctp_resets.specs.Resets.{Resetting, is_retiring, read_out}
 use Rattle.sctp_directions.specs.Acts.{Act, History}
-use Rattle.sctp_assoc.specs.Calls.{after_read, drained_behind, read_from_stream}
-use Rattle.sctp_assoc.specs.Closing.{exhausted, is_closed_state, is_exhausted}
+use Rattle.sctp_assoc.specs.Calls.{after_read, credit_in, drained_behind, eased, read_from_stream, tells_window}
+use Rattle.sctp_assoc.specs.Closing.{exhausted, is_closed_state, is_exhausted, relieved}
 use Rattle.sctp_assoc.specs.Happened.{acts_of_close, acts_of_read}
 use Rattle.sctp_assoc.specs.Leads.{Binds, Leads, LeadsOn}
 use Rattle.sctp_assoc.specs.ResetActs.{acts_of_draining, spans_end_if}
 use Rattle.sctp_assoc.specs.Resets.{with_resetting}
 use Rattle.sctp_assoc.specs.Shown.{Shown}
 use Rattle.sctp_assoc.proofs.BesideOne.{can_end}
-use Rattle.sctp_assoc.proofs.ClosesLeadOn.{relieved_leads}
+use Rattle.sctp_assoc.proofs.ClosesLeadOn.{relieved_leads, told_leads}
 use Rattle.sctp_assoc.proofs.Leading.{leads_by, leads_nowhere, leads_on, past_itself}
 use Rattle.sctp_resets.proofs.OthersStay.{read_out_stays}
 use Rattle.sctp_assoc.proofs.StreamReads.{drained_plainly}
@@ -79,6 +79,15 @@ relief_leads a id streams h binds =
     Leads (if exhausts then (if is_closed_state state then [] else Act.Ended ∷ []) else []) b h left h)
     (drained_state a id streams) (relieved_leads exhausts b h binds)
 
+-- the same where a window that opened is told behind it
+easing_leads : (a : Shown) (id : ℕ) (streams : StreamMap) (h : History) → Binds (drained_behind a id streams) h
+    → Leads (if is_exhausted (drained_behind a id streams) then acts_of_close a else []) (drained_behind a id streams) h
+    (eased (credit_in a) (drained_behind a id streams)) h
+easing_leads a id streams h binds =
+    let b : Shown = drained_behind a id streams in
+    told_leads (tells_window (credit_in a) (relieved b)) (if is_exhausted b then acts_of_close a else []) b (relieved b) h
+    (relief_leads a id streams h binds)
+
 after_read_leads : (x : StreamMap × Option ReceivedMessage) (a : Shown) (id : ℕ) (h : History)
     → Leads (Act.WasRead id ∷ []) a h (record a { streams = x.0 }) h
     → Leads (Act.WasRead id ∷ (acts_of_draining a id x.0
@@ -93,7 +102,7 @@ after_read_leads (streams, Some message) a id h one =
     let closes : List Act = if is_exhausted (drained_behind a id streams) then acts_of_close a else [] in
     let two = draining_leads a id streams h one.binds in
     leads_on (Act.WasRead id ∷ []) (acts_of_draining a id streams ++ closes) one
-    (leads_on (acts_of_draining a id streams) closes two (relief_leads a id streams h two.binds))
+    (leads_on (acts_of_draining a id streams) closes two (easing_leads a id streams h two.binds))
 
 pub read_leads_on : (a b : Shown) (id : ℕ) (message : Option ReceivedMessage) → read_from_stream a id ≡ (b, message)
     → LeadsOn (acts_of_read a id) a b

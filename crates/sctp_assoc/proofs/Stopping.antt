@@ -4,6 +4,7 @@ use Rattle.std.proofs.Common.{if◌then◌else◌}
 use Rattle.std.proofs.Common.{Option, Some, None}
 use Rattle.std.specs.Ordering.{nat_cmp}
 use Rattle.std.specs.BTreeMap.{is_at}
+use Rattle.sctp_wire_types.specs.Config.{is_rfc}
 use Rattle.sctp_wire_types.specs.declared.error.Error.{Error}
 use Rattle.sctp_wire_types.specs.declared.error.Error.TheVariants as errors
 use Rattle.sctp_streams.specs.declared.halves.RecvSendState.{RecvSendState}
@@ -13,7 +14,7 @@ use Rattle.sctp_streams.specs.Stream.{StreamView, is_read_half_open, with_settin
 use Rattle.sctp_streams.specs.Streams.{StreamMap, change_at, stream_at}
 use Rattle.sctp_resets.specs.Resets.{Beside, ResetsView, is_retiring, stopped_reading, waiting_for}
 use Rattle.sctp_assoc.specs.Calls.{RefusesStop, adjusted, holds_at, is_established, stop_refusal, stop_refusal_at}
-use Rattle.sctp_assoc.specs.Calls.{stop_takes_memory, stopped_open, without_read_half_of}
+use Rattle.sctp_assoc.specs.Calls.{stop_takes_memory, stopped_open, unread_dropped, without_read_half_of}
 use Rattle.sctp_assoc.specs.Closing.{is_exhausted}
 use Rattle.sctp_assoc.specs.Resets.{with_beside}
 use Rattle.sctp_assoc.specs.declared.effects.Answers.{Answers}
@@ -52,15 +53,16 @@ beside_answers : (a : Shown) (b : Beside) → answers_of (with_beside a b) ≡ a
 beside_answers a (r, m, told) = refl
 
 -- a stop leaves what the questions about the state answer
-stopped_if : (retires : Bool) (a : Shown) (b : Beside) (r : ResetsView)
-    → answers_of (if retires then with_beside a b else record a { resets = r }) ≡ answers_of a
-stopped_if true a b r = beside_answers a b
-stopped_if false a b r = refl
+stopped_if : (retires : Bool) (a : Shown) (b : Beside) (m : StreamMap) (r : ResetsView)
+    → answers_of (if retires then with_beside a b else record a { streams = m; resets = r }) ≡ answers_of a
+stopped_if true a b m r = beside_answers a b
+stopped_if false a b m r = refl
 
 stopped_answers : (a : Shown) (id : ℕ) → answers_of (stopped_open a id) ≡ answers_of a
 stopped_answers a id =
     let b = without_read_half_of a id in
-    stopped_if (is_retiring a.resets id) b (stopped_reading id b.resets b.streams b.events) (waiting_for b.resets id)
+    stopped_if (is_retiring a.resets id) b (stopped_reading id b.resets b.streams b.events)
+    (unread_dropped (is_rfc a.profile) b.streams id) (waiting_for b.resets id)
 
 -- a stop that leaves the receive buffer exhausted may find no memory for the close
 pub stop_fails : (a s b : Shown) (id : ℕ) (error : Error) → stop_refusal a id ≡ None

@@ -23,9 +23,10 @@ use Rattle.sctp_resets.specs.Channels.{channels}
 use Rattle.sctp_resets.specs.Draining.{Reading, passed_times}
 use Rattle.sctp_resets.specs.Resets.{is_retiring, with_read}
 use Rattle.sctp_assoc.specs.Calls.{LeavesTheOthers, after_read, drained_behind, read_exhausts, read_from_stream}
-use Rattle.sctp_assoc.specs.Calls.{RefusesOrLacksMemory, read_refusal, read_takes_memory, ready_messages, ready_of}
+use Rattle.sctp_assoc.specs.Calls.{RefusesOrLacksMemory, credit_in, eased, eased_if, read_refusal, read_takes_memory}
+use Rattle.sctp_assoc.specs.Calls.{ready_messages, ready_of, tells_window, told_if}
 use Rattle.sctp_assoc.specs.Resets.{with_resetting}
-use Rattle.sctp_assoc.specs.Closing.{exhausted, is_exhausted, relieved, relieved_if}
+use Rattle.sctp_assoc.specs.Closing.{exhausted, is_exhausted, relieved}
 use Rattle.sctp_assoc.specs.Shown.{HasFailed, Shown, answers_of}
 
 -- what is written at a key that is found is found there
@@ -83,6 +84,17 @@ relieved_streams : (e : Bool) (b : Shown) → (e ≡ true) ⊎ ((if e then exhau
 relieved_streams true b = inl refl
 relieved_streams false b = inr refl
 
+told_streams : (tells : Bool) (b : Shown) → (told_if tells b).streams ≡ b.streams
+told_streams true b = refl
+told_streams false b = refl
+
+eased_streams : (before : ℕ) (b : Shown) → (is_exhausted b ≡ true) ⊎ ((eased before b).streams ≡ b.streams)
+eased_streams before b = ⊎_elim
+    (λ (exhausts : is_exhausted b ≡ true). inl exhausts)
+    (λ (same : (relieved b).streams ≡ b.streams).
+    inr (told_streams (tells_window before (relieved b)) (relieved b) ∙ same))
+    (relieved_streams (is_exhausted b) b)
+
 -- where no generation of a stream ended, a read of it ends none
 no_generation_ends : (o : Option (List ℕ)) (first limit id : ℕ) (in_progress : Option ℕ) (r : Reading)
     → is_some o ≡ false → passed_times (count_of o) first limit id in_progress r ≡ r
@@ -139,17 +151,19 @@ nothing_is_read a id e none =
 -- A read of a stream of which no generation ended takes its next message out, and closes where that exhausts the buffer.
 
 read_where_none_ended : (a : Shown) (id : ℕ) (x : StreamMap × Option ReceivedMessage) → is_retiring a.resets id ≡ false
-    → after_read a id x ≡ (relieved_if (is_some x.1) (record a { streams = x.0 }), x.1)
+    → after_read a id x ≡ (eased_if (is_some x.1) (credit_in a) (record a { streams = x.0 }), x.1)
 read_where_none_ended a id (streams, None) none = ap (λ (z : Shown). (z, None)) (drained_plainly a id streams none)
 read_where_none_ended a id (streams, Some message) none =
-    ap (λ (z : Shown). (relieved z, Some message)) (drained_plainly a id streams none)
+    ap (λ (z : Shown). (eased (credit_in a) z, Some message)) (drained_plainly a id streams none)
 
 pub read_without_end : (a b : Shown) (id : ℕ) (streams : StreamMap) (message : Option ReceivedMessage)
     → is_retiring a.resets id ≡ false → read_in a.streams id ≡ (streams, message)
-    → b ≡ relieved_if (is_some message) (record a { streams = streams }) → read_from_stream a id ≡ (b, message)
+    → b ≡ eased_if (is_some message) (credit_in a) (record a { streams = streams })
+    → read_from_stream a id ≡ (b, message)
 read_without_end a b id streams message none e left =
     read_where_none_ended a id (read_in a.streams id) none
-    ∙ ap (λ (x : StreamMap × Option ReceivedMessage). (relieved_if (is_some x.1) (record a { streams = x.0 }), x.1)) e
+    ∙ ap (λ (x : StreamMap × Option ReceivedMessage).
+    (eased_if (is_some x.1) (credit_in a) (record a { streams = x.0 }), x.1)) e
     ∙ ap (λ (z : Shown). (z, message)) (sym left)
 
 both_true : (p q : Bool) → p ≡ true → q ≡ true → (p && q) ≡ true
@@ -181,7 +195,7 @@ streams_left a id (streams, Some message) none = ⊎_elim
     (λ (exhausts : is_exhausted (drained_behind a id streams) ≡ true). inl exhausts)
     (λ (same : (after_read a id (streams, Some message)).0.streams ≡ (drained_behind a id streams).streams).
     inr (same ∙ ap (λ (z : Shown). z.streams) (drained_plainly a id streams none)))
-    (relieved_streams (is_exhausted (drained_behind a id streams)) (drained_behind a id streams))
+    (eased_streams (credit_in a) (drained_behind a id streams))
 
 leaves_if : (a b : Shown) (id : ℕ) (message : Option ReceivedMessage) (retires : Bool)
     → is_retiring a.resets id ≡ retires → read_from_stream a id ≡ (b, message) → LeavesTheOthers a id b

@@ -11,7 +11,8 @@ use Rattle.sctp_generations.specs.Generations.{GenerationsView, has_skips}
 use Rattle.sctp_resets.specs.Resets.{with_skips_done}
 use Rattle.sctp_resets.specs.Skips.{Skipping}
 use Rattle.sctp_resets.specs.Skips as skips
-use Rattle.sctp_assoc.specs.Chunks.{taken_in, taken_unless, taken_where_admitted, then_skips, told, with_message}
+use Rattle.sctp_assoc.specs.Chunks.{goes_unread, left_or_handed_over, taken_in, taken_unless, taken_where_admitted}
+use Rattle.sctp_assoc.specs.Chunks.{then_skips, told, with_message}
 use Rattle.sctp_assoc.specs.Resets.{skips_applied_of, with_beside}
 use Rattle.sctp_assoc.specs.Shown.{Shown, all_waiting}
 
@@ -68,10 +69,15 @@ unless_resets : (refusal : Option Error) (a : Shown) (piece : ChunkPayloadData)
 unless_resets (Some fault) a piece = refl
 unless_resets None a piece = message_resets a piece (pushed_in a.streams piece.stream_identifier piece)
 
+left_resets : (left : Bool) (a : Shown) (piece : ChunkPayloadData)
+    → (left_or_handed_over left a piece).0.resets ≡ a.resets
+left_resets true a piece = refl
+left_resets false a piece =
+    unless_resets (refusal_in a.streams piece.stream_identifier piece a.receiver.max_receive_message_size) a piece
+
 taken_resets : (a : Shown) (piece : ChunkPayloadData) → (taken_in a piece).0.resets ≡ a.resets
 unfolding taken_in
-taken_resets a piece =
-    unless_resets (refusal_in a.streams piece.stream_identifier piece a.receiver.max_receive_message_size) a piece
+taken_resets a piece = left_resets (goes_unread a piece) a piece
 
 pub took_resets : (a b : Shown) (piece : ChunkPayloadData) (fault : Option Error) → taken_in a piece ≡ (b, fault)
     → b.resets ≡ a.resets

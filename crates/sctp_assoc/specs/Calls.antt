@@ -1,8 +1,8 @@
 -- What the calls of an application do to an association.
 use Rattle.std.specs.Prelude.{◌≡◌, ◌⊎◌, ℕ, Bool, true, false, List, [], ◌∷◌, ◌++◌, ◌&&◌, ◌||◌, ◌==◌}
-use Rattle.std.specs.Prelude.{if◌then◌else◌, length}
-use Rattle.std.specs.Prelude.{not, slice_get}
-use Rattle.std.specs.Prelude.{drop, nat_lt, is_some, Option, Some, None, Result, Ok, Err}
+use Rattle.std.specs.Prelude.{◌*◌, if◌then◌else◌, length, min, not, slice_get}
+use Rattle.std.specs.Prelude.{drop, nat_le, nat_lt, is_some, Option, Some, None, Result, Ok, Err}
+use Rattle.sctp_wire_types.specs.Config.{is_rfc}
 use Rattle.sctp_wire_types.specs.declared.error.Error.{Error}
 use Rattle.sctp_wire_types.specs.declared.error.Error.TheVariants as errors
 use Rattle.sctp_wire_types.specs.declared.event.StreamEvent.{StreamEvent}
@@ -13,7 +13,7 @@ use Rattle.sctp_parts.specs.declared.state.AssociationState.{AssociationState}
 use Rattle.sctp_parts.specs.declared.state.AssociationState.TheVariants as states
 use Rattle.sctp_parts.specs.declared.timer.Timer.TheVariants as names
 use Rattle.sctp_parts.specs.State.{is_closing}
-use Rattle.sctp_parts.specs.Timers.{least_moment, after_expiry, expiry_of, with_moment, started}
+use Rattle.sctp_parts.specs.Timers.{least_moment, after_expiry, expiry_of, with_moment, started, with_stopped}
 use Rattle.sctp_parts.specs.Stats.{one_more}
 use Rattle.sctp_streams.specs.declared.event.AssociationError.TheVariants as reasons
 use Rattle.sctp_streams.specs.declared.event.Event.{Event}
@@ -27,16 +27,16 @@ use Rattle.sctp_outbound_queue.specs.Waiting.{Waiting}
 use Rattle.sctp_receive_queues.specs.Messages.{ReceivedMessage}
 use Rattle.sctp_receive_queues.specs.Reassembly.{ready}
 use Rattle.sctp_streams.specs.Stream.{StreamView, accepted_by, is_read_half_open, is_write_half_open, reaches_high_mark}
-use Rattle.sctp_streams.specs.Stream.{with_halves, with_setting, without_read_half}
+use Rattle.sctp_streams.specs.Stream.{with_halves, with_setting, without_read_half, without_unread}
 use Rattle.sctp_streams.specs.Streams.{StreamMap, changed_stream, generation_left, made, read_in, stream_at}
-use Rattle.sctp_inbound.specs.Receiver.{acknowledged_at_once}
+use Rattle.sctp_inbound.specs.Receiver.{acknowledged_at_once, credit_of}
 use Rattle.sctp_directions.specs.Acts.{message_of, type_on}
 use Rattle.sctp_resets.specs.Channels.{channels}
 use Rattle.sctp_resets.specs.Resets.{ResetsView, event_told, is_blocked, is_retiring, read_out, stopped_reading}
 use Rattle.sctp_resets.specs.Resets.{waiting_for}
 use Rattle.sctp_assoc.specs.Closing.{is_exhausted, relieved}
 use Rattle.sctp_assoc.specs.Resets.{with_beside, with_resetting}
-use Rattle.sctp_assoc.specs.Shown.{HasFailed, Shown, answers_of, uses_forward_tsn}
+use Rattle.sctp_assoc.specs.Shown.{HasFailed, Shown, all_waiting, answers_of, uses_forward_tsn}
 
 -- a call with a Result is refused on a failed association before anything else
 abbrev pub usable : Shown → Result (Unit {0}) Error
@@ -179,11 +179,43 @@ drained_behind a id streams =
     (read_out a.sender.queue.next_message_id a.receiver.max_receive_message_size id a.resets
     (channels streams a.events a.to_accept))
 
+-- The application reads, and the receive window opens.
+
+-- the bytes that may still come
+abbrev pub credit_in : Shown → ℕ
+credit_in a = credit_of a.receiver (all_waiting a)
+
+-- twice the credit at which a window is open: two packets, or half of the receive buffer where that is less
+abbrev pub twice_open : Shown → ℕ
+twice_open a = min (4 * a.sender.mtu) a.receiver.buffer_size
+
+-- By the rules of the RFCs a window that opens is told at once, since the peer may wait for that alone (RFC 4960 section
+-- 6.2 lets a receiver do so): twice the credit was less than `twice_open` says before, and no longer is.
+unfoldable pub tells_window : ℕ → Shown → Bool
+tells_window before a =
+    is_rfc a.profile && nat_lt (2 * before) (twice_open a) && nat_le (twice_open a) (2 * credit_in a)
+    && exchanges_data a.state
+
+-- a window is told by an acknowledgement that goes out with the next poll
+abbrev pub told_if : Bool → Shown → Shown
+told_if true a = record a { receiver = acknowledged_at_once a.receiver; timers = with_stopped names.Ack a.timers }
+told_if false a = a
+
+-- What is left by a read that gave a message, or by a stop: a receive buffer that is exhausted closes, and a window that
+-- opened is told. This was the credit before the call.
+abbrev pub eased : ℕ → Shown → Shown
+eased before a = told_if (tells_window before (relieved a)) (relieved a)
+
+-- so it is where the read gave a message; else nothing changes
+abbrev pub eased_if : Bool → ℕ → Shown → Shown
+eased_if gave before a = if gave then eased before a else a
+
 abbrev pub after_read : Shown → ℕ → StreamMap × Option ReceivedMessage → Shown × Option ReceivedMessage
 after_read a id (streams, None) = (drained_behind a id streams, None)
-after_read a id (streams, Some message) = (relieved (drained_behind a id streams), Some message)
+after_read a id (streams, Some message) = (eased (credit_in a) (drained_behind a id streams), Some message)
 
--- what a read leaves and gives; one that gives a message may leave a buffer that is exhausted, and that closes
+-- what a read leaves and gives; one that gives a message may leave a buffer that is exhausted, and that closes, or open
+-- the window
 abbrev pub read_from_stream : Shown → ℕ → Shown × Option ReceivedMessage
 read_from_stream a id = after_read a id (read_in a.streams id)
 
@@ -224,7 +256,8 @@ abbrev pub write_refusal : Shown → ℕ → ℕ → Option Error
 write_refusal a id size =
     if a.failed then Some errors.ErrAssociationFailed else write_refusal_at a (stream_at a.streams id) id size
 
--- a call of a stream by its identifier is refused as the call that lends the stream is, else for a reason of its own
+-- a call that has two reasons to be refused is refused for the first one, as one of a stream by its identifier is
+-- refused as the call that lends the stream
 abbrev pub first_refusal : Option Error → Option Error → Option Error
 first_refusal None own = own
 first_refusal (Some e) own = Some e
@@ -407,18 +440,23 @@ abbrev pub without_read_half_of : Shown → ℕ → Shown
 without_read_half_of a id =
     record a { streams = changed_stream (λ s. with_halves s (without_read_half s.halves)) a.streams id }
 
+-- what waits to be read of a stream is dropped, where it is to be
+abbrev pub unread_dropped : Bool → StreamMap → ℕ → StreamMap
+unread_dropped drops m id = if drops then changed_stream without_unread m id else m
+
 -- The read half closes. A stream whose generation ended is read no more; another one is to be reset (RFC 6525 section
--- 5.1).
+-- 5.1), and by the rules of the RFCs what waits of it is dropped, since it can never be delivered. The port keeps that
+-- until the stream ends.
 abbrev pub stopped_open : Shown → ℕ → Shown
 stopped_open a id =
     (let b = without_read_half_of a id in
     if is_retiring a.resets id then with_beside b (stopped_reading id b.resets b.streams b.events) else
-    record b { resets = waiting_for b.resets id })
+    record b { streams = unread_dropped (is_rfc b.profile) b.streams id; resets = waiting_for b.resets id })
 
 -- so it is where the read half is open; else nothing changes
 abbrev pub stopped : Shown → ℕ → Shown
 stopped a id =
-    if holds_of (λ s. is_read_half_open s.halves) a id then relieved (stopped_open a id) else a
+    if holds_of (λ s. is_read_half_open s.halves) a id then eased (credit_in a) (stopped_open a id) else a
 
 -- it may leave the association failed where the read half is open
 abbrev pub stop_takes_memory : Shown → ℕ → Bool

@@ -1,6 +1,8 @@
 -- What the chunks of a packet do to an association (RFC 4960 sections 3.3 and 6.2).
 use Rattle.std.specs.Prelude.{ℕ, Bool, true, false, List, [], ◌∷◌, ◌++◌, ◌&&◌, if◌then◌else◌, not, is_some, length}
 use Rattle.std.specs.Prelude.{Option, Some, None, Result, Ok, Err}
+use Rattle.sctp_wire_types.specs.Config.{is_rfc}
+use Rattle.sctp_wire_types.specs.declared.config.Profile.{Profile}
 use Rattle.sctp_wire_types.specs.declared.error.Error.{Error}
 use Rattle.sctp_wire_types.specs.declared.error.Error.TheVariants as errors
 use Rattle.sctp_wire_types.specs.declared.chunk.Chunk.{Chunk}
@@ -16,6 +18,7 @@ use Rattle.sctp_parts.specs.Stats.{one_more}
 use Rattle.sctp_streams.specs.declared.event.AssociationError.TheVariants as reasons
 use Rattle.sctp_streams.specs.declared.event.Event.TheVariants.{DatagramReceived}
 use Rattle.sctp_streams.specs.declared.event.Event.TheVariants as events
+use Rattle.sctp_streams.specs.Stream.{is_read_half_open}
 use Rattle.sctp_streams.specs.Streams.{StreamMap, stream_at, made, generation_left, refusal_in}
 use Rattle.sctp_streams.specs.Streams.{pushed_in, is_readable_in}
 use Rattle.sctp_streams.specs.LowMarks.{low_told}
@@ -31,9 +34,11 @@ use Rattle.sctp_outbound.specs.declared.sender.SackOutcome.{SackOutcome}
 use Rattle.sctp_outbound.specs.declared.sender.SackOutcome.TheVariants as outcomes
 use Rattle.sctp_outbound.specs.Sender.{sack_outcome, t3_after_sack}
 use Rattle.sctp_resets.specs.Resets.{is_hidden, refusal_of, with_deferred}
+use Rattle.sctp_assoc.specs.declared.inbound.Found.{Found}
+use Rattle.sctp_assoc.specs.declared.inbound.Found.TheVariants as founds
 use Rattle.sctp_assoc.specs.declared.inbound.Flow.{Flow}
 use Rattle.sctp_assoc.specs.declared.inbound.Flow.TheVariants as flows
-use Rattle.sctp_assoc.specs.Calls.{sends_data}
+use Rattle.sctp_assoc.specs.Calls.{holds_at, sends_data}
 use Rattle.sctp_assoc.specs.Closing.{closed_by, exhausted, is_exhausted}
 use Rattle.sctp_assoc.specs.Handshake.{on_cookie_ack, on_cookie_echo, on_heartbeat, on_init, on_init_ack}
 use Rattle.sctp_assoc.specs.Resets.{on_reconfig, settled, skips_applied_of}
@@ -59,6 +64,28 @@ stream_found a id =
     if is_some (stream_at a.streams id) then (a, true) else
     if not (generation_left a.streams) then (a, false) else (with_new_stream a id, true)
 
+-- the stream to which DATA comes is live
+abbrev pub is_there : Found → Bool
+is_there founds.Absent = false
+is_there founds.Read = true
+is_there founds.Left = true
+
+-- and nobody reads it any more
+abbrev pub is_left : Found → Bool
+is_left founds.Absent = false
+is_left founds.Read = false
+is_left founds.Left = true
+
+-- By the rules of the RFCs nobody reads a live stream any more whose read half is closed: its DATA is received and
+-- acknowledged (RFC 4960 section 6.2), and no application is left to which it could be delivered. The port delivers to
+-- such a stream all the same.
+unfoldable pub nobody_reads : Profile → StreamMap → ℕ → Bool
+nobody_reads profile m id = is_rfc profile && holds_at (λ s. not (is_read_half_open s.halves)) (stream_at m id)
+
+-- DATA comes to such a stream
+abbrev pub goes_unread : Shown → ChunkPayloadData → Bool
+goes_unread a piece = nobody_reads a.profile a.streams piece.stream_identifier
+
 -- what is queued where DATA came: DatagramReceived, and Readable where it was kept and its stream can be read
 abbrev pub told : Shown → ℕ → Bool → Shown
 told a id kept =
@@ -77,9 +104,33 @@ taken_unless None a piece = (with_message a piece (pushed_in a.streams piece.str
 
 -- a piece goes to its stream, and its TSN is held and the last TSN in order moves over all that follow it; or the
 -- stream refuses it, as one of a message that is longer than the limit
-unfoldable pub taken_in : Shown → ChunkPayloadData → Shown × Option Error
-taken_in a piece =
+abbrev pub handed_over : Shown → ChunkPayloadData → Shown × Option Error
+handed_over a piece =
     taken_unless (refusal_in a.streams piece.stream_identifier piece a.receiver.max_receive_message_size) a piece
+
+-- the TSN of a piece that nobody reads is held likewise, and its bytes are dropped
+abbrev pub left_unread : Shown → ChunkPayloadData → Shown
+left_unread a piece = record a {
+  receiver = taken_to a.receiver piece.tsn;
+  events = a.events ++ DatagramReceived ∷ [];
+}
+
+abbrev pub left_or_handed_over : Bool → Shown → ChunkPayloadData → Shown × Option Error
+left_or_handed_over true a piece = (left_unread a piece, None)
+left_or_handed_over false a piece = handed_over a piece
+
+-- a piece is taken in: what nobody reads is left, and other DATA goes to its stream, which may refuse it
+unfoldable pub taken_in : Shown → ChunkPayloadData → Shown × Option Error
+taken_in a piece = left_or_handed_over (goes_unread a piece) a piece
+
+abbrev pub refusal_unless_left : Bool → Shown → ChunkPayloadData → Option Error
+refusal_unless_left true a piece = None
+refusal_unless_left false a piece =
+    refusal_in a.streams piece.stream_identifier piece a.receiver.max_receive_message_size
+
+-- why a piece is not taken in: its stream refuses it. What nobody reads is not refused
+abbrev pub intake_refusal : Shown → ChunkPayloadData → Option Error
+intake_refusal a piece = refusal_unless_left (goes_unread a piece) a piece
 
 abbrev pub deferred_unless : Option Error → Shown → ChunkPayloadData → Shown × Option Error
 deferred_unless (Some fault) a piece = (a, Some fault)

@@ -1,13 +1,14 @@
 -- How an association closes: by a fault, by its application, or since nothing that waits in its receive buffer can ever
 -- be read.
 use Rattle.std.specs.Prelude.{Bool, true, false, [], ◌∷◌, ◌++◌, ◌&&◌, ◌==◌, if◌then◌else◌, not, map}
-use Rattle.std.specs.Prelude.{nat_lt}
+use Rattle.std.specs.Prelude.{◌-◌, length, nat_lt, slice_get, Option, Some, None}
 use Rattle.sctp_wire_types.specs.declared.chunk.Chunk.{Chunk}
 use Rattle.sctp_wire_types.specs.declared.chunk.Chunk.TheVariants as chunks
 use Rattle.sctp_parts.specs.declared.state.AssociationState.{AssociationState}
 use Rattle.sctp_parts.specs.declared.state.AssociationState.TheVariants as states
 use Rattle.sctp_streams.specs.declared.event.AssociationError.{AssociationError}
 use Rattle.sctp_streams.specs.declared.event.AssociationError.TheVariants as reasons
+use Rattle.sctp_streams.specs.declared.event.Event.{Event}
 use Rattle.sctp_streams.specs.declared.event.Event.TheVariants.{AssociationLost, DataChannelStatsFinal}
 use Rattle.sctp_streams.specs.Streams.{last_stats, some_gives_messages, without_streams}
 use Rattle.sctp_inbound.specs.Held.{has_gap}
@@ -62,6 +63,15 @@ exhausted a = queued (closed_by a reasons.ReceiveBufferExhausted) out_of_resourc
 abbrev pub relieved : Shown → Shown
 relieved a = if is_exhausted a then exhausted a else a
 
--- so it is behind a read that gave a message
-abbrev pub relieved_if : Bool → Shown → Shown
-relieved_if gave a = if gave then relieved a else a
+-- the event tells that the receive buffer was exhausted
+abbrev pub is_exhaustion : Event → Bool
+is_exhaustion (AssociationLost reasons.ReceiveBufferExhausted) = true
+is_exhaustion event = false
+
+abbrev pub is_exhaustion_at : Option Event → Bool
+is_exhaustion_at None = false
+is_exhaustion_at (Some event) = is_exhaustion event
+
+-- that is the newest of the events that wait
+abbrev pub tells_exhaustion : Shown → Bool
+tells_exhaustion a = is_exhaustion_at (slice_get a.events (length a.events - 1))

@@ -1,7 +1,8 @@
 -- An association as it begins: two tokens establish it, or it is to be established by a handshake (RFC 4960 section
--- 5.1).
+-- 5.1). It keeps the rules of the port where its configuration names none.
 use Rattle.std.specs.Prelude.{ℕ, false, List, [], ◌∷◌, ◌+◌, ◌-◌, ◌%◌, ◌^◌, ◌==◌, ◌||◌, if◌then◌else◌, nat_lt, is_err}
 use Rattle.std.specs.Prelude.{Option, Some, None}
+use Rattle.std.specs.Option.{unwrap_or}
 use Rattle.std.specs.declared.net.ip_addr.IpAddr.{IpAddr}
 use Rattle.std.specs.declared.net.socket_addr.SocketAddr.{SocketAddr}
 use Rattle.sctp_wire_types.specs.declared.error.Error.{Error}
@@ -9,6 +10,7 @@ use Rattle.sctp_wire_types.specs.declared.error.Error.TheVariants as errors
 use Rattle.sctp_wire_types.specs.declared.chunk.ChunkInit.{ChunkInit}
 use Rattle.sctp_wire_types.specs.declared.ids.Side.{Side}
 use Rattle.sctp_wire_types.specs.declared.ids.Side.TheVariants as sides
+use Rattle.sctp_wire_types.specs.declared.config.Profile.TheVariants as profiles
 use Rattle.sctp_wire_types.specs.Config.{Settings}
 use Rattle.sctp_wire_types.specs.Checks.{checked_init}
 use Rattle.sctp_parts.specs.declared.state.AssociationState.{AssociationState}
@@ -51,6 +53,7 @@ fresh_association config size remote_addr local_ip side state handshake peer_las
   lost = false;
   failed = false;
   max_send_message_size = config.max_send_message_size;
+  profile = unwrap_or config.profile profiles.Port;
   handshake = handshake;
   receiver = fresh_receiver config.max_receive_buffer_size config.max_receive_message_size peer_last_tsn;
   sender = fresh_sender size handshake.my_initial_tsn window;

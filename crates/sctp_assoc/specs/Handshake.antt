@@ -12,14 +12,15 @@ use Rattle.sctp_parts.specs.Timers.{after_expiry, expiry_of, started, with_momen
 use Rattle.sctp_streams.specs.declared.event.Event.TheVariants.{Connected}
 use Rattle.sctp_inbound.specs.declared.handshake.Offer.{Offer}
 use Rattle.sctp_inbound.specs.declared.receiver.AckTrigger.{AckTrigger}
-use Rattle.sctp_inbound.specs.Handshake.{comes_back, established, has_issued, learned_by_init, learned_by_init_ack}
+use Rattle.sctp_inbound.specs.Handshake.{comes_back, established, has_issued, header_of, learned_by_init}
+use Rattle.sctp_inbound.specs.Handshake.{learned_by_init_ack}
 use Rattle.sctp_inbound.specs.Greeting.{first_cookie, heartbeat_ack_of, information_of, init_ack_of, init_of}
 use Rattle.sctp_inbound.specs.Receiver.{receiver_from}
 use Rattle.sctp_outbound.specs.Sender.{with_first_window}
 use Rattle.sctp_resets.specs.Resets.{met_peer}
 use Rattle.sctp_assoc.specs.declared.inbound.Flow.{Flow}
 use Rattle.sctp_assoc.specs.declared.inbound.Flow.TheVariants as flows
-use Rattle.sctp_assoc.specs.Control.{queued}
+use Rattle.sctp_assoc.specs.Control.{queued, queued_under, untagged}
 use Rattle.sctp_assoc.specs.Calls.{is_beginning, is_cookie_echoed, is_cookie_wait, is_established}
 use Rattle.sctp_assoc.specs.Shown.{Shown}
 
@@ -126,9 +127,11 @@ on_heartbeat a heartbeat trigger = (information_returned (information_of heartbe
 
 -- the timers of the handshake
 
+-- whatever this side knows of the peer, a packet with INIT has the verification tag 0 (RFC 4960 section 8.5.1)
 abbrev pub init_queued : Option Offer → Shown → Shown
 init_queued None a = a
-init_queued (Some offer) a = queued a (chunks.Init (init_of a.handshake offer))
+init_queued (Some offer) a =
+    queued_under (untagged (header_of a.handshake)) a (chunks.Init (init_of a.handshake offer))
 
 -- INIT goes out, and the timer of that runs
 unfoldable pub sends_init : Shown → ℕ → Shown

@@ -50,8 +50,8 @@ use Rattle.sctp_streams.specs.declared.setting.Setting.TheVariants as settings
 use Rattle.sctp_assoc.specs.Calls.{adjusted, exchanges_data, holds_of, is_beginning, is_cookie_wait}
 use Rattle.sctp_assoc.specs.Calls.{read_exhausts, sends_data, stopped_open}
 use Rattle.sctp_assoc.specs.Closing.{is_closed_state, is_exhausted}
-use Rattle.sctp_assoc.specs.Chunks.{counted_data, deferred_where_admitted, on_chunk, stream_found, taken_in}
-use Rattle.sctp_assoc.specs.Chunks.{taken_where_admitted}
+use Rattle.sctp_assoc.specs.Chunks.{counted_data, deferred_where_admitted, goes_unread, on_chunk, stream_found}
+use Rattle.sctp_assoc.specs.Chunks.{taken_in, taken_where_admitted}
 use Rattle.sctp_assoc.specs.ResetActs.{acts_of_draining, acts_of_keeping, acts_of_kept_skips, acts_of_reconfig}
 use Rattle.sctp_assoc.specs.ResetActs.{acts_of_settling}
 use Rattle.std.specs.List.{AllByRecursion, filter, flat_map, position_or_len}
@@ -86,11 +86,16 @@ abbrev pub acts_unless_refused : Option Error → Act → List Act
 acts_unless_refused (Some fault) act = []
 acts_unless_refused None act = act ∷ []
 
--- new DATA, with its stream there and credit left or filling a gap, is taken in unless its stream refuses it
-abbrev pub acts_of_taking : Shown → ChunkPayloadData → List Act
-acts_of_taking a piece =
+abbrev pub acts_if_left : Bool → Shown → ChunkPayloadData → List Act
+acts_if_left true a piece = Act.Deferred piece ∷ []
+acts_if_left false a piece =
     acts_unless_refused (refusal_in a.streams piece.stream_identifier piece a.receiver.max_receive_message_size)
     (Act.Took piece)
+
+-- new DATA, with its stream there and credit left or filling a gap, is taken in unless its stream refuses it; where
+-- nobody reads the stream, without going to it
+abbrev pub acts_of_taking : Shown → ChunkPayloadData → List Act
+acts_of_taking a piece = acts_if_left (goes_unread a piece) a piece
 
 abbrev pub acts_of_skips_behind : Shown × Option Error → ℕ → List Act
 acts_of_skips_behind (a, None) id = acts_of_kept_skips id a

@@ -10,7 +10,7 @@ use Rattle.sctp_wire_types.specs.declared.packet.CommonHeader.{CommonHeader}
 use Rattle.sctp_wire_types.specs.declared.chunk.GapAckBlock.{GapAckBlock}
 use Rattle.sctp_wire_types.specs.Checks.{checked_chunk}
 use Rattle.sctp_wire.specs.declared.packet.Packet.{Packet}
-use Rattle.sctp_streams.specs.Streams.{generation_left, refusal_in, stream_at}
+use Rattle.sctp_streams.specs.Streams.{generation_left, stream_at}
 use Rattle.sctp_streams.specs.LowMarks.{low_told}
 use Rattle.sctp_inbound.specs.declared.receiver.AckTrigger.{AckTrigger}
 use Rattle.sctp_inbound.specs.declared.receiver.AckTrigger.TheVariants as triggers
@@ -25,7 +25,7 @@ use Rattle.sctp_assoc.specs.declared.inbound.Flow.{Flow}
 use Rattle.sctp_assoc.specs.declared.inbound.Flow.TheVariants as flows
 use Rattle.sctp_assoc.specs.Calls.{is_beginning, is_cookie_echoed, is_cookie_wait, is_established, sends_data}
 use Rattle.sctp_assoc.specs.Closing.{is_closed_state}
-use Rattle.sctp_assoc.specs.Chunks.{after_sack, on_chunk}
+use Rattle.sctp_assoc.specs.Chunks.{after_sack, intake_refusal, on_chunk}
 use Rattle.sctp_assoc.specs.Shown.{Shown, all_waiting}
 use Rattle.sctp_assoc.specs.Skipping.{forward_takes_memory, skips_of}
 
@@ -38,11 +38,10 @@ abbrev pub resets_take_memory : Shown → Bool
 resets_take_memory a =
     has_retiring a.resets.generations || is_some a.resets.peer.in_progress || has_skips a.resets.generations
 
--- a piece is taken in where credit is left or it fills a gap, and its stream does not refuse it
+-- a piece is taken in where credit is left or it fills a gap, and its stream does not refuse it; what nobody reads is
+-- not refused
 abbrev pub is_taken_in : Shown → ChunkPayloadData → Bool
-is_taken_in a piece =
-    admits a.receiver piece.tsn (all_waiting a)
-    && not (is_some (refusal_in a.streams piece.stream_identifier piece a.receiver.max_receive_message_size))
+is_taken_in a piece = admits a.receiver piece.tsn (all_waiting a) && not (is_some (intake_refusal a piece))
 
 -- that takes memory, and so do the skips that were kept for the generation of its stream
 abbrev pub taking_takes_memory : Shown → ChunkPayloadData → Bool

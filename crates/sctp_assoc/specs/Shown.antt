@@ -2,6 +2,7 @@
 use Rattle.std.specs.Prelude.{◌≡◌, ℕ, ◌+◌, ◌-◌, ◌^◌, Bool, true, List, Option, min}
 use Rattle.std.specs.declared.net.ip_addr.IpAddr.{IpAddr}
 use Rattle.std.specs.declared.net.socket_addr.SocketAddr.{SocketAddr}
+use Rattle.sctp_wire_types.specs.declared.config.Profile.{Profile}
 use Rattle.sctp_wire_types.specs.declared.error.Error.{Error}
 use Rattle.sctp_wire_types.specs.declared.ids.Side.{Side}
 use Rattle.sctp_parts.specs.declared.shared.EndpointEvent.{EndpointEvent}
@@ -31,6 +32,8 @@ pub record Shown : Type 0 where
   -- an earlier call found no memory in its middle
   pub failed : Bool
   pub max_send_message_size : ℕ
+  -- the rules that it keeps where the port and the RFCs part
+  pub profile : Profile
   pub handshake : Handshake
   pub receiver : Receiver
   pub sender : Sender

@@ -40,7 +40,7 @@ use sctp_parts::timer::{Timer, TimerTable};
 use sctp_resets::Resets;
 use sctp_wire_queues::{
     AssociationError, ChunkInit, Error, Event, Events, Instant, Payload, PayloadProtocolIdentifier,
-    ServerConfig, Side, StreamEvent, StreamId, Streams, Transmit, TransportConfig,
+    Profile, ServerConfig, Side, StreamEvent, StreamId, Streams, Transmit, TransportConfig,
 };
 use std::alloc::{AllocError, Global};
 use std::collections::VecDeque;
@@ -68,6 +68,8 @@ pub struct Association {
     /// An earlier call found no memory in its middle.
     pub(crate) failed: bool,
     pub(crate) max_send_message_size: u32,
+    /// The rules that it keeps where `sctp-proto` and the RFCs part.
+    pub(crate) profile: Profile,
     pub(crate) handshake: Handshake,
     pub(crate) receiver: Receiver,
     pub(crate) sender: Sender,
@@ -104,6 +106,7 @@ impl Drop for Association {
             lost: _lost,
             failed: _failed,
             max_send_message_size: _max_send_message_size,
+            profile: _profile,
             handshake: _handshake,
             receiver: _receiver,
             sender: _sender,
@@ -136,6 +139,7 @@ impl Model for Association {
       lost = a.lost;
       failed = a.failed;
       max_send_message_size = a.max_send_message_size;
+      profile = a.profile;
       handshake = a.handshake;
       receiver = a.receiver;
       sender = a.sender;
@@ -166,6 +170,8 @@ impl Association {
     /// bytes more, and padding. `local_aid` is this side's verification tag (a peer refuses 0), `initial_tsn` its
     /// first TSN and `cookie` its State Cookie: nobody else should be able to guess them. The addresses are copied
     /// and never looked at.
+    ///
+    /// It keeps the rules of the port where `config` names no profile.
     ///
     /// Refused, in this order: `ErrBadPayloadSize`, `ErrBadInitialTsn` for the `initial_tsn` 0, `ErrNoMemory`.
     #[tactic(auto, using(crate::proofs::FreshHistory::created_binds))]
@@ -294,6 +300,7 @@ impl Association {
             lost: false,
             failed: false,
             max_send_message_size: config.max_send_message_size(),
+            profile: config.profile().unwrap_or(Profile::Port),
             handshake,
             receiver: Receiver::new(
                 alloc,
@@ -424,7 +431,7 @@ impl Association {
     /// runs from the first such call after the write, and those of which a piece would go out again too often (RFC
     /// 3758 section 3.5); `poll` tells of streams that this takes to their low mark, in the order in which they fall.
     /// DATA chunks are bundled in packets of at most `mtu` bytes (RFC 4960 section 6.10); a packet of one alone may be
-    /// up to 3 bytes longer. Call it last in each turn of the loop, and after writes.
+    /// up to 3 bytes longer. Call it last in each turn of the loop, and after writes and reads.
     ///
     /// Errors: `ErrAssociationFailed`, and `ErrNoMemory` only where there is something to give or to give up. After
     /// the latter the association is failed, and the packets of this call are lost.
@@ -575,7 +582,7 @@ impl Association {
         if expiry.expired {
             self.timers.set(Timer::Ack, None);
             self.stats.inc_ack_timeouts();
-            self.receiver.on_ack_timeout();
+            self.receiver.acknowledge_at_once();
         }
     }
 

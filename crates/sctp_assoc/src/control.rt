@@ -1,6 +1,6 @@
 // The packets that go out in front of DATA: those of the handshake, and answers.
 ghost use Rattle.std.specs.Prelude.{◌≡◌, OnOk};
-ghost use Rattle.sctp_assoc.specs.Control.{queued};
+ghost use Rattle.sctp_assoc.specs.Control.{queued, queued_under};
 
 use crate::Association;
 use sctp_wire_queues::{Chunk, CommonHeader};
@@ -28,6 +28,17 @@ impl Association {
         ensures { OnOk result (self.new ≡ queued self.old chunk) }
     {
         let header = self.handshake.header();
+        self.queue_under(header, chunk)
+    }
+
+    // The same under this header.
+    pub(crate) fn queue_under(
+        &mut self,
+        header: CommonHeader,
+        chunk: Chunk,
+    ) -> Result<(), AllocError>
+        ensures { OnOk result (self.new ≡ queued_under header self.old chunk) }
+    {
         self.control
             .push(Control::Packet(ControlPacket { header, chunk }))?;
         Ok(())

@@ -172,7 +172,9 @@ impl Association {
     {
         if let Some(offer) = self.handshake.offer {
             let init = self.handshake.init(self.alloc, offer)?;
-            self.queue_control(Chunk::Init(init))?;
+            let mut header = self.handshake.header();
+            header.verification_tag = 0;
+            self.queue_under(header, Chunk::Init(init))?;
         }
         let rto = self.rto.get_rto();
         self.timers.start(Timer::T1Init, now, rto);

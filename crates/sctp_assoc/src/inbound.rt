@@ -1,18 +1,19 @@
 // One datagram, chunk by chunk.
 ghost use Rattle.std.specs.Prelude.{◌≡◌, ◌≢◌, ◌⊎◌, ◌∷◌, [], true, false, is_ok, OnErr, OnOk, IfOk, Ok, None};
-ghost use Rattle.std.specs.Prelude.{if◌then◌else◌};
+ghost use Rattle.std.specs.Prelude.{if◌then◌else◌, is_some};
 ghost use Rattle.sctp_wire.specs.ChunkLists.{chunks_in};
 ghost use Rattle.sctp_wire.specs.Packets.{checked, finished};
 ghost use Rattle.sctp_inbound.specs.Receiver.{admits, asked, is_new_to};
-ghost use Rattle.sctp_streams.specs.Streams.{refusal_in};
+ghost use Rattle.sctp_streams.specs.Streams.{refusal_in, stream_at};
 ghost use Rattle.sctp_assoc.specs.Inbound.{packet_read, taken_packet};
 ghost use Rattle.sctp_assoc.specs.Memory.{chunk_takes_memory, chunks_take_memory, data_takes_memory, makes_stream};
 ghost use Rattle.sctp_assoc.specs.Memory.{packet_takes_memory, sack_takes_memory, taking_takes_memory, takes_memory};
 ghost use Rattle.sctp_assoc.specs.Memory.{takes_memory_after};
 ghost use Rattle.sctp_assoc.specs.Chunks.{after_chunks, after_packet, dispatched, on_chunk, on_data, on_sack};
 ghost use Rattle.sctp_assoc.specs.Chunks.{asks, asks_or_faults, deferred, deferred_where_admitted, stream_found};
+ghost use Rattle.sctp_assoc.specs.Chunks.{goes_unread, handed_over, intake_refusal, is_left, is_there, left_unread};
 ghost use Rattle.sctp_assoc.specs.Chunks.{ended, goes_on};
-ghost use Rattle.sctp_assoc.specs.Chunks.{taken_in, taken_where_admitted};
+ghost use Rattle.sctp_assoc.specs.Chunks.{nobody_reads, taken_in, taken_where_admitted};
 ghost use Rattle.sctp_assoc.specs.Resets.{settled, settling_takes_memory};
 ghost use Rattle.sctp_assoc.specs.Shown.{all_waiting};
 ghost use Rattle.sctp_assoc.specs.Closing.{is_exhausted};
@@ -38,6 +39,33 @@ pub enum Flow {
     Closed,
     /// The receive buffer is exhausted: that ends the packet and closes an open association, and the peer is told.
     Exhausted,
+}
+
+/// How the stream stands to which new DATA comes.
+#[derive(Clone, Copy, Debug)]
+pub(crate) enum Found {
+    /// It is not live.
+    Absent,
+    /// It is live, and what comes is delivered to it.
+    Read,
+    /// It is live, and by the rules of the RFCs nobody reads it any more.
+    Left,
+}
+
+impl Found {
+    // Whether it is live.
+    fn is_there(self) -> bool
+        ensures { result ≡ is_there self }
+    {
+        !matches!(self, Found::Absent)
+    }
+
+    // Whether it is live and nobody reads it any more.
+    fn is_left(self) -> bool
+        ensures { result ≡ is_left self }
+    {
+        matches!(self, Found::Left)
+    }
 }
 
 impl Association {
@@ -236,10 +264,11 @@ impl Association {
             let fault = self.defer_where_admitted(piece)?;
             return self.ask_or_fault(fault, trigger, immediate);
         }
-        if !self.has_stream(piece.stream_identifier)? {
+        let found = self.find_stream(piece.stream_identifier)?;
+        if !found.is_there() {
             return Ok(Flow::Next(trigger));
         }
-        let fault = self.take_where_admitted(piece)?;
+        let fault = self.take_where_admitted(piece, found.is_left())?;
         self.ask_or_fault(fault, trigger, immediate)
     }
 
@@ -271,10 +300,15 @@ impl Association {
 
     // Takes in new DATA of the generation that is read, where credit is left or it fills a gap, and applies the skips
     // that were kept for that generation; answers why its stream refuses it, if it does. Nearly all DATA comes here, so
-    // this function is put into its caller, as `take_in` is.
+    // this function is put into its caller, as `take_in` and `hand_over` are.
     #[inline(always)]
-    fn take_where_admitted(&mut self, piece: ChunkPayloadData) -> Result<Option<Error>, AllocError>
-        requires { is_new_to self.old.receiver piece.tsn ≡ true }
+    fn take_where_admitted(
+        &mut self,
+        piece: ChunkPayloadData,
+        left: bool,
+    ) -> Result<Option<Error>, AllocError>
+        requires new { is_new_to self.old.receiver piece.tsn ≡ true }
+        requires left { left ≡ goes_unread self.old piece }
         ensures exact { IfOk result (λ fault. taken_where_admitted self.old piece ≡ (self.new, fault)) }
         ensures grows { OnErr result (taking_takes_memory self.old piece ≡ true) }
     {
@@ -282,7 +316,7 @@ impl Association {
             return Ok(None);
         }
         let id = piece.stream_identifier;
-        let fault = self.take_in(piece)?;
+        let fault = self.take_in(piece, left)?;
         if fault.is_none() {
             self.apply_skips_of(id)?;
         }
@@ -312,15 +346,50 @@ impl Association {
         Flow::Next(self.receiver.ask(trigger, immediate))
     }
 
-    // Makes the stream where it is missing, for the application to accept; false where no generation is left for it.
+    // How the stream stands, which is made where it is missing; absent is it then only where no generation is left.
     #[tactic(auto, unfolding(crate::specs::Chunks::stream_found))]
-    fn has_stream(&mut self, id: u16) -> Result<bool, AllocError>
-        ensures exact { IfOk result (λ found. stream_found self.old id ≡ (self.new, found)) }
+    fn find_stream(&mut self, id: u16) -> Result<Found, AllocError>
+        ensures exact { IfOk result (λ found. stream_found self.old id ≡ (self.new, is_there found)) }
+        ensures left { IfOk result (λ found. is_left found ≡ nobody_reads self.old.profile self.old.streams id) }
         ensures grows { OnErr result (makes_stream self.old id ≡ true) }
     {
-        if self.streams.contains(id) {
-            return Ok(true);
+        match self.found(id) {
+            Found::Absent => {
+                if self.make_stream(id)? {
+                    Ok(Found::Read)
+                } else {
+                    Ok(Found::Absent)
+                }
+            }
+            Found::Read => Ok(Found::Read),
+            Found::Left => Ok(Found::Left),
         }
+    }
+
+    // How the stream of an identifier stands, as it is.
+    #[tactic(auto, unfolding(crate::specs::Chunks::nobody_reads))]
+    fn found(&self, id: u16) -> Found
+        ensures there { is_there result ≡ is_some (stream_at self.now.streams id) }
+        ensures left { is_left result ≡ nobody_reads self.now.profile self.now.streams id }
+    {
+        let is_by_rfcs = self.is_by_rfcs();
+        let Some(stream) = self.streams.get(id) else {
+            return Found::Absent;
+        };
+        if is_by_rfcs && !stream.is_read_half_open() {
+            Found::Left
+        } else {
+            Found::Read
+        }
+    }
+
+    // Makes the stream that is missing, for the application to accept; false where no generation is left for it.
+    #[tactic(auto, unfolding(crate::specs::Chunks::stream_found))]
+    fn make_stream(&mut self, id: u16) -> Result<bool, AllocError>
+        requires { is_some (stream_at self.old.streams id) ≡ false }
+        ensures exact { IfOk result (λ made. stream_found self.old id ≡ (self.new, made)) }
+        ensures grows { OnErr result (makes_stream self.old id ≡ true) }
+    {
         let first_message_id = self.sender.queue.next_message_id();
         let payload_type = PayloadProtocolIdentifier::Unknown;
         match self
@@ -350,14 +419,43 @@ impl Association {
         Ok(None)
     }
 
+    // Takes in a new piece: it is left where nobody reads its stream, and else handed over to that; answers why the
+    // stream refuses it, if it does.
+    #[inline(always)]
+    #[tactic(auto, unfolding(crate::specs::Chunks::taken_in))]
+    fn take_in(&mut self, piece: ChunkPayloadData, left: bool) -> Result<Option<Error>, AllocError>
+        requires new { is_new_to self.old.receiver piece.tsn ≡ true }
+        requires left { left ≡ goes_unread self.old piece }
+        ensures exact { IfOk result (λ fault. taken_in self.old piece ≡ (self.new, fault)) }
+        ensures grows { OnErr result (intake_refusal self.old piece ≡ None) }
+    {
+        if left {
+            self.leave_unread(piece)?;
+            return Ok(None);
+        }
+        self.hand_over(piece)
+    }
+
+    // A piece of a stream that nobody reads any more is held as having come, and its bytes are dropped.
+    #[cold]
+    #[inline(never)]
+    fn leave_unread(&mut self, piece: ChunkPayloadData) -> Result<(), AllocError>
+        requires { is_new_to self.old.receiver piece.tsn ≡ true }
+        ensures { OnOk result (self.new ≡ left_unread self.old piece) }
+    {
+        self.receiver.take(piece.tsn)?;
+        self.tell(Event::DatagramReceived)?;
+        Ok(())
+    }
+
     // Hands a new piece to its stream and then moves the last TSN in order; answers why the stream refuses it, if it
     // does: a message that is longer than the limit is a refusal. What the stream refuses isn't held, and lacks no
     // memory.
     #[inline(always)]
-    #[tactic(auto, using(crate::proofs::MemoryTaken::not_for_memory), unfolding(crate::specs::Chunks::taken_in))]
-    fn take_in(&mut self, piece: ChunkPayloadData) -> Result<Option<Error>, AllocError>
+    #[tactic(auto, using(crate::proofs::MemoryTaken::not_for_memory))]
+    fn hand_over(&mut self, piece: ChunkPayloadData) -> Result<Option<Error>, AllocError>
         requires { is_new_to self.old.receiver piece.tsn ≡ true }
-        ensures exact { IfOk result (λ fault. taken_in self.old piece ≡ (self.new, fault)) }
+        ensures exact { IfOk result (λ fault. handed_over self.old piece ≡ (self.new, fault)) }
         ensures grows { OnErr result (refusal_in self.old.streams piece.stream_identifier piece
             self.old.receiver.max_receive_message_size ≡ None) }
     {

@@ -41,7 +41,7 @@
 //!    it gives messages up and ends a shutdown; call `poll` again after it.
 //! 5. Sleep until the moment that `poll_timeout` answers, or until a datagram comes.
 //!
-//! A new client begins with step 4, because its INIT waits there. After a write outside the loop, go on with step 4.
+//! A new client begins with step 4, because its INIT waits there. After a write or a read outside the loop, go on with step 4.
 //!
 //! This order is advice. Every call is safe in every state and at every moment, and refuses by name what it cannot do.
 //!
@@ -112,8 +112,8 @@ pub use sctp_parts::stats::AssociationStats;
 pub use sctp_parts::timer::{Timer, TimerTable, calculate_next_timeout};
 pub use sctp_wire_queues::{
     AssociationError, ChunkInit, Chunks, DataChannelStats, EcnCodepoint, Error, Event, Instant,
-    List, Param, PartialDecode, Payload, PayloadProtocolIdentifier, ReliabilityType, ServerConfig,
-    Side, StreamEvent, StreamId, StreamResetError, Transmit, TransportConfig,
+    List, Param, PartialDecode, Payload, PayloadProtocolIdentifier, Profile, ReliabilityType,
+    ServerConfig, Side, StreamEvent, StreamId, StreamResetError, Transmit, TransportConfig,
 };
 pub use shared::AssociationEvent;
 pub use stream::Stream;

@@ -1,13 +1,15 @@
 // Values of an association that may be read at any time.
 ghost use Rattle.std.specs.Prelude.{◌≡◌, ◌*◌};
 ghost use Rattle.std.specs.Duration.{as_nanos};
+ghost use Rattle.sctp_wire_types.specs.Config.{is_rfc};
 ghost use Rattle.sctp_outbound_queue.specs.Outbound.{outstanding_of};
+ghost use Rattle.sctp_assoc.specs.Closing.{tells_exhaustion};
 ghost use Rattle.sctp_outbound.specs.Sender.{cumulative_tsn_ack_point_of, window_left, marks};
 
 use crate::Association;
 use sctp_parts::state::AssociationState;
 use sctp_parts::stats::AssociationStats;
-use sctp_wire_queues::Side;
+use sctp_wire_queues::{AssociationError, Event, Profile, Side};
 use std::net::{IpAddr, SocketAddr};
 use std::time::Duration;
 
@@ -27,12 +29,43 @@ impl Association {
         self.stats
     }
 
+    /// The rules that it keeps where `sctp-proto` and the RFCs part: those of its configuration, or of the port where
+    /// that names none.
+    pub fn profile(&self) -> Profile
+        ensures { result ≡ self.now.profile }
+    {
+        self.profile
+    }
+
+    // Whether it keeps the rules of the RFCs.
+    pub(crate) fn is_by_rfcs(&self) -> bool
+        ensures { result ≡ is_rfc self.now.profile }
+    {
+        matches!(self.profile, Profile::Rfc)
+    }
+
     /// Which side this is: a client's handshake begins with its INIT. With tokens the side with the lesser tag is the
     /// server, and with equal tags both are.
     pub fn side(&self) -> Side
         ensures { result ≡ self.now.side }
     {
         self.side
+    }
+
+    /// Whether the newest event that nobody asked for yet tells that the receive buffer was exhausted, which closed the
+    /// association.
+    pub fn tells_exhaustion(&self) -> bool
+        ensures { result ≡ tells_exhaustion self.now }
+    {
+        match self.events.as_queue().back() {
+            Some(event) => matches!(
+                event,
+                Event::AssociationLost {
+                    reason: AssociationError::ReceiveBufferExhausted
+                }
+            ),
+            None => false,
+        }
     }
 
     /// The peer's address, as it was handed in. It stands in each `Transmit` that is given out, and is never looked at.

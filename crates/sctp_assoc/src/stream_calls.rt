@@ -1,6 +1,7 @@
 // What an association does for the calls of its streams.
 ghost use Rattle.std.specs.Prelude.{◌≡◌, ◌↔◌, ◌∷◌, [], length, slice_get, IsNone, IfErr, IfOk, OnErr, OnOk, true};
 ghost use Rattle.std.specs.Prelude.{Some, false};
+ghost use Rattle.sctp_wire_types.specs.Config.{is_rfc};
 ghost use Rattle.sctp_streams.specs.Stream.{is_read_half_open};
 ghost use Rattle.sctp_streams.specs.declared.setting.Setting.TheVariants as settings;
 ghost use Rattle.sctp_streams.specs.Streams.{is_readable_in, stream_at};
@@ -9,18 +10,20 @@ ghost use Rattle.sctp_directions.specs.Acts.{Act};
 ghost use Rattle.sctp_assoc.specs.Happened.{acts_of_close_stream, acts_of_read, acts_of_stop};
 ghost use Rattle.sctp_assoc.specs.Leads.{LeadsOn};
 ghost use Rattle.sctp_assoc.specs.Calls.{LeavesTheOthers, Refuses, RefusesOrLacksMemory, RefusesRead, adjusted};
-ghost use Rattle.sctp_assoc.specs.Calls.{RefusesStop, drained_behind, gone_refusal, holds_of, is_writable};
+ghost use Rattle.sctp_assoc.specs.Calls.{RefusesStop, credit_in, drained_behind, eased, eased_if, gone_refusal};
+ghost use Rattle.sctp_assoc.specs.Calls.{holds_of, is_writable, tells_window, told_if};
 ghost use Rattle.sctp_assoc.specs.Calls.{read_from_stream, read_refusal, read_takes_memory, ready_messages};
-ghost use Rattle.sctp_assoc.specs.Calls.{stop_refusal, stopped, stopped_open};
+ghost use Rattle.sctp_assoc.specs.Calls.{stop_refusal, stopped, stopped_open, unread_dropped};
 ghost use Rattle.sctp_assoc.specs.Calls.{with_queued, write_refusal, written};
-ghost use Rattle.sctp_assoc.specs.Closing.{exhausted, is_exhausted, relieved, relieved_if};
+ghost use Rattle.sctp_assoc.specs.Closing.{exhausted, is_exhausted, relieved};
 ghost use Rattle.sctp_assoc.specs.Shown.{HasFailed, answers_of};
 
 use crate::Association;
 use bytes::Bytes;
 use sctp_parts::state::AssociationState;
+use sctp_parts::timer::Timer;
 use sctp_wire_queues::{
-    Attributes, Chunks, Error, Event, PayloadProtocolIdentifier, PendingMessage, Setting,
+    Attributes, Chunks, Error, Event, PayloadProtocolIdentifier, PendingMessage, Profile, Setting,
     StreamEvent, StreamId, StreamState, cut,
 };
 use std::alloc::AllocError;
@@ -57,7 +60,7 @@ impl Association {
     }
 
     // Takes the next message out where no generation of the stream ended, and closes where that leaves the receive
-    // buffer exhausted.
+    // buffer exhausted, or tells the window where that opened it.
     #[tactic(auto, using(crate::proofs::StreamReads::plain_read_takes_memory))]
     fn read_plainly(&mut self, id: StreamId) -> Result<Option<Chunks>, Error>
         requires { is_retiring self.old.resets id ≡ false }
@@ -65,8 +68,9 @@ impl Association {
         ensures err { IfErr result (λ e. (e ≡ Error.ErrNoMemory) × (read_takes_memory self.old id ≡ true)
             × HasFailed (answers_of self.old) self.new) }
     {
+        let credit = self.credit();
         let message = self.streams.read(id);
-        self.relieve_if(message.is_some())?;
+        self.ease_if(message.is_some(), credit)?;
         Ok(message)
     }
 
@@ -78,6 +82,7 @@ impl Association {
         ensures err { IfErr result (λ e. (e ≡ Error.ErrNoMemory) × (read_takes_memory self.old id ≡ true)
             × HasFailed (answers_of self.old) self.new) }
     {
+        let credit = self.credit();
         let message = self.streams.read(id);
         let before = self.answers();
         if self.read_out(id).is_err() {
@@ -85,7 +90,7 @@ impl Association {
             return Err(Error::ErrNoMemory);
         }
         if message.is_some() {
-            self.relieve()?;
+            self.ease(credit)?;
         }
         Ok(message)
     }
@@ -119,16 +124,59 @@ impl Association {
         }
     }
 
-    // After a read that gave a message: closes where the receive buffer is exhausted.
-    fn relieve_if(&mut self, gave: bool) -> Result<(), Error>
-        ensures ok { OnOk result (self.new ≡ relieved_if gave self.old) }
+    // The same as `ease` after a read that gave a message; else nothing.
+    fn ease_if(&mut self, gave: bool, before: u32) -> Result<(), Error>
+        ensures ok { OnOk result (self.new ≡ eased_if gave before self.old) }
         ensures err { IfErr result (λ e. (e ≡ Error.ErrNoMemory) × (gave ≡ true) × (is_exhausted self.old ≡ true)
             × HasFailed (answers_of self.old) self.new) }
     {
         if gave {
-            return self.relieve();
+            return self.ease(before);
         }
         Ok(())
+    }
+
+    // Behind a read that gave a message, or a stop: closes where the receive buffer is exhausted, and tells the window
+    // where it opened. `before` was the credit before the call.
+    fn ease(&mut self, before: u32) -> Result<(), Error>
+        ensures ok { OnOk result (self.new ≡ eased before self.old) }
+        ensures err { IfErr result (λ e. (e ≡ Error.ErrNoMemory) × (is_exhausted self.old ≡ true)
+            × HasFailed (answers_of self.old) self.new) }
+    {
+        self.relieve()?;
+        self.tell_window(before);
+        Ok(())
+    }
+
+    // An acknowledgement goes out with the next poll where the window opened.
+    fn tell_window(&mut self, before: u32)
+        ensures { self.new ≡ told_if (tells_window before self.old) self.old }
+    {
+        if self.tells_window(before) {
+            self.receiver.acknowledge_at_once();
+            self.timers.stop(Timer::Ack);
+        }
+    }
+
+    // Whether the peer is told at once of a window that opened: by the RFCs, while DATA may come, where the credit was
+    // below the lesser of two packets and half of the buffer, and no longer is.
+    #[tactic(auto, unfolding(crate::specs::Calls::tells_window))]
+    fn tells_window(&self, before: u32) -> bool
+        ensures { result ≡ tells_window before self.now }
+    {
+        let packets = 4 * u64::from(self.sender.mtu);
+        let twice_open = packets.min(u64::from(self.receiver.buffer_size));
+        matches!(self.profile, Profile::Rfc)
+            && 2 * u64::from(before) < twice_open
+            && twice_open <= 2 * u64::from(self.credit())
+            && self.exchanges_data()
+    }
+
+    // The bytes that may still come.
+    fn credit(&self) -> u32
+        ensures { result ≡ credit_in self.now }
+    {
+        self.receiver.credit(self.waiting_bytes())
     }
 
     // Closes where the receive buffer is exhausted.
@@ -324,12 +372,13 @@ impl Association {
         if !self.is_stream_readable(id) {
             return Ok(());
         }
+        let credit = self.credit();
         let before = self.answers();
         if self.stop_open(id).is_err() {
             self.fail(before);
             return Err(Error::ErrNoMemory);
         }
-        self.relieve()
+        self.ease(credit)
     }
 
     // Refuses to stop a stream for any reason but memory.
@@ -356,7 +405,19 @@ impl Association {
             self.resets
                 .stop_reading(id, &mut self.streams, &mut self.events)
         } else {
+            self.drop_unread(id);
             self.resets.wait_for(id)
+        }
+    }
+
+    // By the rules of the RFCs what waits of a stream that is read no more is dropped.
+    fn drop_unread(&mut self, id: StreamId)
+        ensures { self.new ≡ record self.old {
+          streams = unread_dropped (is_rfc self.old.profile) self.old.streams id;
+        } }
+    {
+        if self.is_by_rfcs() {
+            self.streams.drop_unread(self.alloc, id);
         }
     }
 

@@ -9,6 +9,7 @@ long_code : (e : Error) → refusal_code e ≡ 27 → e ≡ errors.ErrOutboundPa
 long_code errors.ErrBadPayloadSize same = absurd (omega (arith, same))
 long_code errors.ErrBadInitialTsn same = absurd (omega (arith, same))
 long_code errors.ErrBadToken same = absurd (omega (arith, same))
+long_code errors.ErrBadTimeout same = absurd (omega (arith, same))
 long_code errors.ErrNoMemory same = absurd (omega (arith, same))
 long_code errors.ErrAssociationFailed same = absurd (omega (arith, same))
 long_code errors.ErrStreamAlreadyExist same = absurd (omega (arith, same))

@@ -28,6 +28,7 @@ pub never_done : (e : Error) → refusal_code e ≢ 0
 never_done errors.ErrBadPayloadSize = λ same. omega (arith, same)
 never_done errors.ErrBadInitialTsn = λ same. omega (arith, same)
 never_done errors.ErrBadToken = λ same. omega (arith, same)
+never_done errors.ErrBadTimeout = λ same. omega (arith, same)
 never_done errors.ErrNoMemory = λ same. omega (arith, same)
 never_done errors.ErrAssociationFailed = λ same. omega (arith, same)
 never_done errors.ErrStreamAlreadyExist = λ same. omega (arith, same)
@@ -59,6 +60,7 @@ memory_code : (e : Error) → refusal_code e ≡ 2 → e ≡ errors.ErrNoMemory
 memory_code errors.ErrBadPayloadSize same = absurd (omega (arith, same))
 memory_code errors.ErrBadInitialTsn same = absurd (omega (arith, same))
 memory_code errors.ErrBadToken same = absurd (omega (arith, same))
+memory_code errors.ErrBadTimeout same = absurd (omega (arith, same))
 memory_code errors.ErrNoMemory same = refl
 memory_code errors.ErrAssociationFailed same = absurd (omega (arith, same))
 memory_code errors.ErrStreamAlreadyExist same = absurd (omega (arith, same))
@@ -90,6 +92,7 @@ failed_code : (e : Error) → refusal_code e ≡ 10 → e ≡ errors.ErrAssociat
 failed_code errors.ErrBadPayloadSize same = absurd (omega (arith, same))
 failed_code errors.ErrBadInitialTsn same = absurd (omega (arith, same))
 failed_code errors.ErrBadToken same = absurd (omega (arith, same))
+failed_code errors.ErrBadTimeout same = absurd (omega (arith, same))
 failed_code errors.ErrNoMemory same = absurd (omega (arith, same))
 failed_code errors.ErrAssociationFailed same = refl
 failed_code errors.ErrStreamAlreadyExist same = absurd (omega (arith, same))
@@ -120,6 +123,7 @@ pub none_sent : (e : Error) (length : ℕ) → sent_by (refusal_code e) length �
 none_sent errors.ErrBadPayloadSize length = refl
 none_sent errors.ErrBadInitialTsn length = refl
 none_sent errors.ErrBadToken length = refl
+none_sent errors.ErrBadTimeout length = refl
 none_sent errors.ErrNoMemory length = refl
 none_sent errors.ErrAssociationFailed length = refl
 none_sent errors.ErrStreamAlreadyExist length = refl
@@ -150,6 +154,7 @@ pub none_read : (e : Error) (length payload_type : ℕ) → read_by (refusal_cod
 none_read errors.ErrBadPayloadSize length payload_type = refl
 none_read errors.ErrBadInitialTsn length payload_type = refl
 none_read errors.ErrBadToken length payload_type = refl
+none_read errors.ErrBadTimeout length payload_type = refl
 none_read errors.ErrNoMemory length payload_type = refl
 none_read errors.ErrAssociationFailed length payload_type = refl
 none_read errors.ErrStreamAlreadyExist length payload_type = refl
@@ -282,6 +287,13 @@ when_placed (Ok d) None code same placed = placed
 when_placed (Ok d) (Some f) code same placed = absurd (none-some f (sym same))
 when_placed (Err e) None code same placed = inr (placed ∙ ap refusal_code same)
 when_placed (Err e) (Some f) code same placed = placed ∙ ap refusal_code same
+
+-- a call that is refused by a rule or for want of memory lacks memory, or is refused by that rule
+pub lacks_or_refuses : {T : Type 0} (answer : Result T Error) (refusal : Option Error)
+    → RefusesOrLacksMemory answer refusal → IsErrOf answer errors.ErrNoMemory ⊎ Refuses answer refusal
+lacks_or_refuses (Ok answer) refusal same = inr same
+lacks_or_refuses (Err e) None same = inl (ap Err same)
+lacks_or_refuses (Err e) (Some f) same = inr (ap Some (sym same))
 
 error_in : Error → Result Driving Error → Error
 error_in other (Ok d) = other

@@ -1,5 +1,7 @@
 -- What the structs that C hands over stand for.
-use Rattle.std.specs.Prelude.{ℕ, true, false, ◌==◌, if◌then◌else◌, [], Option, Some, None}
+use Rattle.std.specs.Prelude.{ℕ, Bool, true, false, ◌==◌, if◌then◌else◌, nat_lt, [], Option, Some, None}
+use Rattle.sctp_wire_types.specs.declared.config.Profile.{Profile}
+use Rattle.sctp_wire_types.specs.declared.config.Profile.TheVariants as profiles
 use Rattle.sctp_wire_types.specs.declared.chunk.ChunkInit.{ChunkInit}
 use Rattle.sctp_wire_types.specs.Config.{Settings, default_config}
 use Rattle.sctp_assoc.specs.Created.{token_of}
@@ -9,6 +11,14 @@ use Rattle.sctp_c.specs.declared.config.Token.{Token}
 -- how often something is sent again; the greatest number of 64 bits is no limit
 abbrev pub limit_of : ℕ → Option ℕ
 limit_of retransmits = if retransmits == 18446744073709551615 then None else Some retransmits
+
+-- the rules of the RFCs have the number 0, and those of the port 1
+abbrev pub profile_by : ℕ → Profile
+profile_by number = if number == 0 then profiles.Rfc else profiles.Port
+
+-- no other number names a profile
+abbrev pub names_profile : Config → Bool
+names_profile c = nat_lt c.profile 2
 
 abbrev pub settings_of : Config → Settings
 settings_of c = record {
@@ -24,6 +34,7 @@ settings_of c = record {
   rto_max_ms = c.rto_max_ms;
   max_init_retransmits = limit_of c.max_init_retransmits;
   max_data_retransmits = limit_of c.max_data_retransmits;
+  profile = Some (profile_by c.profile);
 }
 
 -- the configuration whose token has these values

@@ -1,16 +1,15 @@
 // How an association begins and ends.
-ghost use Rattle.std.specs.Prelude.{◌≡◌, ◌≢◌, ◌⊎◌, None, Some, IfOk, IsErrOf, IsOkAnd, IsSomeAnd};
+ghost use Rattle.std.specs.Prelude.{◌≡◌, ◌≢◌, ◌⊎◌, true, false, None, Some, IfOk, IsErrOf, IsOkAnd, IsSomeAnd};
 ghost use Rattle.sctp_wire_types.specs.declared.error.Error.TheVariants as errors;
 ghost use Rattle.sctp_streams.specs.declared.event.AssociationError.TheVariants as reasons;
-ghost use Rattle.sctp_assoc.specs.Calls.{failed_refusal};
-ghost use Rattle.sctp_assoc.specs.Calls.{Refuses};
+ghost use Rattle.sctp_assoc.specs.Calls.{Refuses, failed_refusal, first_refusal};
 ghost use Rattle.sctp_assoc.specs.Closing.{closed_by};
 ghost use Rattle.sctp_assoc.specs.Created.{client, create_refusal, join_refusal, joined, server};
 ghost use Rattle.sctp_assoc.specs.Shutdown.{shutdown_begun, shutdown_refusal};
 ghost use Rattle.sctp_driver.specs.Aborting.{Aborts, IsTooLong};
-ghost use Rattle.sctp_driver.specs.Driving.{RunsOutOfMemory, begun_with, with_association};
+ghost use Rattle.sctp_driver.specs.Driving.{RunsOutOfMemory, begun_with, by_rfcs, timeout_refusal, with_association};
 ghost use Rattle.sctp_slots.specs.Codes.{code_of};
-ghost use Rattle.sctp_c.specs.Configs.{settings_of, token_chunk};
+ghost use Rattle.sctp_c.specs.Configs.{names_profile, settings_of, token_chunk};
 ghost use Rattle.sctp_c.specs.Slots.{IsCode, IsCodeOrLacksMemory, IsPlaced, OnHeld, RefusesBy};
 ghost use Rattle.sctp_c.specs.Slots.{RefusesOrLacksMemoryBy};
 
@@ -18,6 +17,9 @@ use crate::config::{Config, Identity, Token};
 use sctp_driver::{Driver, Error};
 use sctp_slots::{DONE, EMPTY_SLOT, NO_MEMORY, Slot, code_of, refusal_code};
 use std::alloc::Global;
+
+/// A configuration has a profile other than the two that there are.
+const BAD_PROFILE: u32 = 63;
 
 // Puts a driver that was just made into a slot, in place of one that it held.
 #[tactic(auto, using(crate::proofs::Refusals::never_done))]
@@ -51,12 +53,17 @@ pub extern "C" fn sctp_assoc_client(
     identity: &Identity,
     now: u64,
 ) -> u32
-    ensures code { IsCodeOrLacksMemory (create_refusal max_payload_size identity.now.initial_tsn) result }
+    ensures unnamed { names_profile config.now ≡ false → result ≡ 63 }
+    ensures code { names_profile config.now ≡ true → IsCodeOrLacksMemory (first_refusal
+        (timeout_refusal (settings_of config.now)) (create_refusal max_payload_size identity.now.initial_tsn)) result }
     ensures created { result ≡ 0 → IsSomeAnd slot.new.handle.driver (λ d. d ≡ begun_with
-        (client (settings_of config.now) max_payload_size identity.now.tag identity.now.initial_tsn
+        (client (by_rfcs (settings_of config.now)) max_payload_size identity.now.tag identity.now.initial_tsn
         identity.now.cookie d.association.remote_addr None now) identity.now.tag) }
     ensures left { result ≢ 0 → slot.new.handle.driver ≡ slot.old.handle.driver }
 {
+    if !config.names_profile() {
+        return BAD_PROFILE;
+    }
     let made = Driver::client(
         alloc,
         &config.transport(),
@@ -80,12 +87,17 @@ pub extern "C" fn sctp_assoc_server(
     identity: &Identity,
     now: u64,
 ) -> u32
-    ensures code { IsCodeOrLacksMemory (create_refusal max_payload_size identity.now.initial_tsn) result }
+    ensures unnamed { names_profile config.now ≡ false → result ≡ 63 }
+    ensures code { names_profile config.now ≡ true → IsCodeOrLacksMemory (first_refusal
+        (timeout_refusal (settings_of config.now)) (create_refusal max_payload_size identity.now.initial_tsn)) result }
     ensures created { result ≡ 0 → IsSomeAnd slot.new.handle.driver (λ d. d ≡ begun_with
-        (server (settings_of config.now) max_payload_size identity.now.tag identity.now.initial_tsn
+        (server (by_rfcs (settings_of config.now)) max_payload_size identity.now.tag identity.now.initial_tsn
         identity.now.cookie d.association.remote_addr None) identity.now.tag) }
     ensures left { result ≢ 0 → slot.new.handle.driver ≡ slot.old.handle.driver }
 {
+    if !config.names_profile() {
+        return BAD_PROFILE;
+    }
     let made = Driver::server(
         alloc,
         &config.transport(),
@@ -98,6 +110,7 @@ pub extern "C" fn sctp_assoc_server(
     place(slot, alloc, made)
 }
 
+#[tactic(auto, using(crate::proofs::Refusals::lacks_or_refuses))]
 fn by_tokens(
     alloc: Global,
     config: &Config,
@@ -106,8 +119,9 @@ fn by_tokens(
     remote: &Token,
 ) -> Result<Driver, Error>
     ensures refused { IsErrOf result errors.ErrNoMemory
-        ⊎ Refuses result (join_refusal max_payload_size (token_chunk local.now) (token_chunk remote.now)) }
-    ensures joined { IfOk result (λ d. d ≡ begun_with (joined (settings_of config.now) max_payload_size
+        ⊎ Refuses result (first_refusal (timeout_refusal (settings_of config.now))
+        (join_refusal max_payload_size (token_chunk local.now) (token_chunk remote.now))) }
+    ensures joined { IfOk result (λ d. d ≡ begun_with (joined (by_rfcs (settings_of config.now)) max_payload_size
         d.association.remote_addr None (token_chunk local.now) (token_chunk remote.now)) local.now.tag) }
 {
     let local_init = local.chunk(alloc)?;
@@ -132,13 +146,18 @@ pub extern "C" fn sctp_assoc_joined(
     local: &Token,
     remote: &Token,
 ) -> u32
-    ensures code { (result ≡ 2)
-        ⊎ IsCode (join_refusal max_payload_size (token_chunk local.now) (token_chunk remote.now)) result }
+    ensures unnamed { names_profile config.now ≡ false → result ≡ 63 }
+    ensures code { names_profile config.now ≡ true → (result ≡ 2)
+        ⊎ IsCode (first_refusal (timeout_refusal (settings_of config.now))
+        (join_refusal max_payload_size (token_chunk local.now) (token_chunk remote.now))) result }
     ensures created { result ≡ 0 → IsSomeAnd slot.new.handle.driver (λ d. d ≡ begun_with
-        (joined (settings_of config.now) max_payload_size d.association.remote_addr None
+        (joined (by_rfcs (settings_of config.now)) max_payload_size d.association.remote_addr None
         (token_chunk local.now) (token_chunk remote.now)) local.now.tag) }
     ensures left { result ≢ 0 → slot.new.handle.driver ≡ slot.old.handle.driver }
 {
+    if !config.names_profile() {
+        return BAD_PROFILE;
+    }
     let made = by_tokens(alloc, config, max_payload_size, local, remote);
     place(slot, alloc, made)
 }

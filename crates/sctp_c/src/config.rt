@@ -1,13 +1,14 @@
 // What C hands over to make an association, as plain structs.
 ghost use Rattle.std.specs.Prelude.{◌≡◌, Err, IfOk, OnErr};
-ghost use Rattle.sctp_c.specs.Configs.{limit_of, settings_of, token_chunk};
+ghost use Rattle.sctp_c.specs.Configs.{limit_of, names_profile, profile_by, settings_of, token_chunk};
 
-use sctp_driver::{ChunkInit, Error, TransportConfig, token};
+use sctp_driver::{ChunkInit, Error, Profile, TransportConfig, token};
 use sctp_slots::DONE;
 use sctp_wire_types::List;
 use std::alloc::Global;
 
-/// A configuration. A retransmission limit of the greatest `usize` is none.
+/// A configuration. The profile is 0 for the rules of the RFCs and 1 for those of the port. A retransmission limit of
+/// the greatest `usize` is none.
 #[repr(C)]
 #[derive(Drop)]
 pub struct Config {
@@ -18,6 +19,7 @@ pub struct Config {
     pub max_num_inbound_streams: u16,
     pub local_port: u16,
     pub remote_port: u16,
+    pub profile: u32,
     pub rto_initial_ms: u64,
     pub rto_min_ms: u64,
     pub rto_max_ms: u64,
@@ -62,6 +64,17 @@ fn limit(retransmits: usize) -> Option<usize>
     }
 }
 
+// A number that names none is refused before.
+fn profile(number: u32) -> Profile
+    ensures { result ≡ profile_by number }
+{
+    if number == 0 {
+        Profile::Rfc
+    } else {
+        Profile::Port
+    }
+}
+
 fn number(limit: Option<usize>) -> usize {
     limit.unwrap_or(usize::MAX)
 }
@@ -84,8 +97,17 @@ impl Config {
             .with_rto_max_ms(self.rto_max_ms)
             .with_max_init_retransmits(limit(self.max_init_retransmits))
             .with_max_data_retransmits(limit(self.max_data_retransmits))
+            .with_profile(Some(profile(self.profile)))
     }
 
+    /// Whether its profile is one of the two that there are.
+    pub(crate) fn names_profile(&self) -> bool
+        ensures { result ≡ names_profile self.now }
+    {
+        self.profile < 2
+    }
+
+    // C takes the rules of the RFCs by default, whatever the configuration names.
     fn of(config: &TransportConfig) -> Config {
         Config {
             max_receive_buffer_size: config.max_receive_buffer_size(),
@@ -95,6 +117,7 @@ impl Config {
             max_num_inbound_streams: config.max_num_inbound_streams(),
             local_port: config.local_port(),
             remote_port: config.remote_port(),
+            profile: 0,
             rto_initial_ms: config.rto_initial_ms(),
             rto_min_ms: config.rto_min_ms(),
             rto_max_ms: config.rto_max_ms(),

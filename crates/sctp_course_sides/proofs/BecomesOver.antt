@@ -10,10 +10,13 @@ use Rattle.sctp_wire.specs.declared.packet.Packet.{Packet}
 use Rattle.sctp_parts.specs.declared.state.AssociationState.{AssociationState}
 use Rattle.sctp_parts.specs.declared.state.AssociationState.TheVariants as states
 use Rattle.sctp_parts.specs.Timers.{IsNoneArmed}
+use Rattle.sctp_receive_queues.specs.Messages.{ReceivedMessage}
 use Rattle.sctp_streams.specs.declared.event.AssociationError.{AssociationError}
 use Rattle.sctp_streams.specs.declared.event.AssociationError.TheVariants as reasons
 use Rattle.sctp_streams.specs.declared.event.Event.{Event}
 use Rattle.sctp_streams.specs.declared.setting.Setting.TheVariants as settings
+use Rattle.sctp_streams.specs.Stream.{is_read_half_open}
+use Rattle.sctp_streams.specs.Streams.{StreamMap, read_in}
 use Rattle.sctp_inbound.specs.declared.receiver.AckTrigger.{AckTrigger}
 use Rattle.sctp_inbound.specs.declared.receiver.AckTrigger.TheVariants as triggers
 use Rattle.sctp_inbound.specs.Handshake.{header_of}
@@ -22,10 +25,11 @@ use Rattle.sctp_assoc.specs.declared.control.Control.{Control}
 use Rattle.sctp_assoc.specs.declared.control.Control.TheVariants as controls
 use Rattle.sctp_assoc.specs.declared.inbound.Flow.{Flow}
 use Rattle.sctp_assoc.specs.declared.inbound.Flow.TheVariants as flows
-use Rattle.sctp_assoc.specs.Calls.{adjusted, event_polled, is_beginning, is_established, read_exhausts}
-use Rattle.sctp_assoc.specs.Calls.{read_from_stream, stopped, stopped_open}
+use Rattle.sctp_assoc.specs.Calls.{adjusted, after_read, credit_in, drained_behind, eased, event_polled, holds_of}
+use Rattle.sctp_assoc.specs.Calls.{is_beginning, is_established, read_from_stream, stopped, stopped_open}
+use Rattle.sctp_assoc.specs.Calls.{tells_window, told_if}
 use Rattle.sctp_assoc.specs.Chunks.{after_chunks, after_packet, after_packet_of, goes_on, on_chunk}
-use Rattle.sctp_assoc.specs.Closing.{closed_by, exhausted, is_closed_state, out_of_resource}
+use Rattle.sctp_assoc.specs.Closing.{closed_by, exhausted, is_closed_state, is_exhausted, out_of_resource}
 use Rattle.sctp_assoc.specs.Gather.{IsPlainControl, open_polled, polled}
 use Rattle.sctp_assoc.specs.Shown.{Shown}
 use Rattle.sctp_assoc.specs.Shutdown.{completes_shutdown}
@@ -33,7 +37,6 @@ use Rattle.sctp_assoc.specs.Timeouts.{after_timeouts}
 use Rattle.sctp_sides.specs.Laws.{IsClosedIf, closes, faults_or, is_faulted, is_faulted_packet}
 use Rattle.sctp_sides.specs.Meeting.{IsAsFarOn}
 use Rattle.sctp_sides.specs.OneSide.{Call, IsCarriedOut, call_refusal, carried_out}
-use Rattle.sctp_sides.specs.SideLaws.{with_read}
 use Rattle.sctp_sides.proofs.ClosingPackets.{faults_alone_close}
 use Rattle.sctp_sides.proofs.ClosingCalls.{accepted_streams_do_not_close, limits_do_not_close}
 use Rattle.sctp_sides.proofs.ClosingCalls.{writes_do_not_close}
@@ -45,7 +48,7 @@ use Rattle.sctp_sides.proofs.Proved.{told_events_keep_the_status}
 use Rattle.sctp_sides.proofs.ShutdownCalls.{shutdowns_do_not_close}
 use Rattle.sctp_sides.proofs.TimersRun.{begins_established, none_armed}
 use Rattle.sctp_course_sides.specs.Over.{ControlSaysNothing, IsOver}
-use Rattle.sctp_course_sides.proofs.OverSides.{told_left}
+use Rattle.sctp_course_sides.proofs.OverSides.{closed_tells_nothing, told_left}
 
 -- Closes
 
@@ -170,30 +173,43 @@ poll_ends a now e = ⊎_elim
 
 -- Reads and stops
 
+-- a window that opened may be told
+window_stays_open : (tells : Bool) (a b : Shown) → StaysOpen a b → StaysOpen a (told_if tells b)
+window_stays_open true a b stays = stays
+window_stays_open false a b stays = stays
+
+eased_ends_if : (exhausts : Bool) (before : ℕ) (a b : Shown) → StaysOpen a b
+    → Ends a
+    (told_if (tells_window before (if exhausts then exhausted b else b)) (if exhausts then exhausted b else b))
+eased_ends_if true before a b stays =
+    let over : IsOver (exhausted b) = exhausted_over b stays.1 in
+    inl (subst IsOver (sym (closed_tells_nothing before (exhausted b) over.closed)) over)
+eased_ends_if false before a b stays = inr (window_stays_open (tells_window before b) a b stays)
+
+-- an exhausted receive buffer closes, or a window that opened is told
+eased_ends : (before : ℕ) (a b : Shown) → StaysOpen a b → Ends a (eased before b)
+eased_ends before a b stays = eased_ends_if (is_exhausted b) before a b stays
+
+after_read_ends : (x : StreamMap × Option ReceivedMessage) (a : Shown) (id : ℕ)
+    → StaysOpen a (drained_behind a id x.0) → Ends a (after_read a id x).0
+after_read_ends (streams, None) a id stays = inr stays
+after_read_ends (streams, Some message) a id stays = eased_ends (credit_in a) a (drained_behind a id streams) stays
+
 read_ends : (a : Shown) (id : ℕ) → is_closed_state a.state ≡ false → Ends a (read_from_stream a id).0
 read_ends a id e =
-    let reads = reads_keep_the_status a id in
-    let b : Shown = with_read a id in
-    ⊎_elim
-    (λ (t : read_exhausts a id ≡ true).
-    inl (subst IsOver (sym (reads.exhausts t)) (exhausted_over b (ap is_closed_state reads.same.state ∙ e))))
-    (λ (f : read_exhausts a id ≡ false).
-    subst (Ends a) (sym (reads.plainly f)) (stays_by a b reads.same.lost reads.same.state e))
-    (cases_Bool (read_exhausts a id))
+    let same = (reads_keep_the_status a id).same in
+    after_read_ends (read_in a.streams id) a id (same.lost, ap is_closed_state same.state ∙ e)
+
+stop_ends_if : (reads : Bool) (before : ℕ) (a b : Shown) → is_closed_state a.state ≡ false → StaysOpen a b
+    → Ends a (if reads then eased before b else a)
+stop_ends_if true before a b e stays = eased_ends before a b stays
+stop_ends_if false before a b e stays = inr (refl, e)
 
 stop_ends : (a : Shown) (id : ℕ) → is_closed_state a.state ≡ false → Ends a (stopped a id)
 stop_ends a id e =
-    let stops = stops_keep_the_status a id in
-    let b : Shown = stopped_open a id in
-    ⊎_elim
-    (λ (same : stopped a id ≡ a). subst (Ends a) (sym same) (inr (refl, e)))
-    (λ (r : (stopped a id ≡ b) ⊎ (stopped a id ≡ exhausted b)). ⊎_elim
-    (λ (plain : stopped a id ≡ b).
-    subst (Ends a) (sym plain) (stays_by a b stops.same.lost stops.same.state e))
-    (λ (over : stopped a id ≡ exhausted b).
-    inl (subst IsOver (sym over) (exhausted_over b (ap is_closed_state stops.same.state ∙ e))))
-    r)
-    stops.either
+    let same = (stops_keep_the_status a id).same in
+    stop_ends_if (holds_of (λ s. is_read_half_open s.halves) a id) (credit_in a) a (stopped_open a id) e
+    (same.lost, ap is_closed_state same.state ∙ e)
 
 -- Events
 

@@ -10,6 +10,7 @@ use Rattle.sctp_assoc.specs.Shown.{Shown}
 use Rattle.sctp_streams.specs.Streams.{StreamMap, stream_at, read_in}
 use Rattle.sctp_assoc.specs.Closing.{is_exhausted, exhausted, is_closed_state, relieved}
 use Rattle.sctp_streams.specs.declared.event.Event.{Event}
+use Rattle.sctp_wire_types.specs.Config.{is_rfc}
 use Rattle.sctp_wire_types.specs.declared.chunk.Chunk.TheVariants as chunks
 use Rattle.sctp_wire_types.specs.declared.error.Error.TheVariants as errors
 use Rattle.sctp_wire_types.specs.declared.ids.PayloadProtocolIdentifier.{PayloadProtocolIdentifier}
@@ -20,10 +21,12 @@ use Rattle.sctp_streams.specs.declared.event.AssociationError.TheVariants as rea
 use Rattle.sctp_streams.specs.Stream.{StreamView, is_read_half_open}
 use Rattle.sctp_inbound.specs.declared.handshake.Offer.{Offer}
 use Rattle.sctp_inbound.specs.Greeting.{init_of}
+use Rattle.sctp_inbound.specs.Handshake.{header_of}
 use Rattle.sctp_resets.specs.Channels.{channels}
 use Rattle.sctp_assoc.specs.Calls.{accepted_from, after_ack_delay, after_read, after_t3, drained_behind, event_from}
 use Rattle.sctp_assoc.specs.Calls.{holds_of, retransmits, stopped_open, t3_expired, without_read_half_of, written_at}
-use Rattle.sctp_assoc.specs.Calls.{adjusted, stopped}
+use Rattle.sctp_assoc.specs.Calls.{adjusted, credit_in, eased, stopped, tells_window, told_if, unread_dropped}
+use Rattle.sctp_assoc.specs.Control.{untagged}
 use Rattle.sctp_assoc.specs.Handshake.{after_t1_cookie, after_t1_init, cookie_queued, init_queued, sends_cookie}
 use Rattle.sctp_assoc.specs.Handshake.{sends_init, t1_cookie_expired, t1_init_expired}
 use Rattle.sctp_assoc.specs.Shutdown.{after_t2_shutdown}
@@ -37,7 +40,7 @@ use Rattle.sctp_wire_types.specs.Config.{Settings}
 use Rattle.sctp_assoc.specs.Created.{joined}
 use Rattle.sctp_course_sides.specs.Spelled.{WaitsBeside}
 use Rattle.sctp_course_sides.proofs.BesideInChunks.{Keeps, beside_keeps, closed_keeps, exhausted_keeps, queued_keeps}
-use Rattle.sctp_course_sides.proofs.BesideInChunks.{resetting_keeps}
+use Rattle.sctp_course_sides.proofs.BesideInChunks.{queued_under_keeps, resetting_keeps}
 use Rattle.sctp_course_sides.proofs.BesideInPolls.{poll_stays_beside}
 use Rattle.sctp_course_sides.proofs.TruthInCalls.{BringsNoPacket}
 
@@ -49,6 +52,14 @@ relieved_keeps_if false a h = h
 
 relieved_keeps : (a : Shown) → Keeps a (relieved a)
 relieved_keeps a = relieved_keeps_if (is_exhausted a) a
+
+-- a window that opened may be told
+eased_keeps_if : (tells : Bool) (a : Shown) → Keeps a (told_if tells a)
+eased_keeps_if true a h = h
+eased_keeps_if false a h = h
+
+eased_keeps : (before : ℕ) (a : Shown) → Keeps a (eased before a)
+eased_keeps before a h = eased_keeps_if (tells_window before (relieved a)) (relieved a) (relieved_keeps a h)
 
 -- Calls of the application
 
@@ -85,31 +96,33 @@ drained_keeps a id streams =
 read_keeps : (a : Shown) (id : ℕ) (x : StreamMap × Option ReceivedMessage) → Keeps a (after_read a id x).0
 read_keeps a id (streams, None) h = drained_keeps a id streams h
 read_keeps a id (streams, Some message) h =
-    relieved_keeps (drained_behind a id streams) (drained_keeps a id streams h)
+    eased_keeps (credit_in a) (drained_behind a id streams) (drained_keeps a id streams h)
 
 stopped_open_keeps : (retires : Bool) (a : Shown) (id : ℕ)
     → Keeps a
     (let b = without_read_half_of a id in
     if retires then with_beside b (stopped_reading id b.resets b.streams b.events) else
-    record b { resets = waiting_for b.resets id })
+    record b { streams = unread_dropped (is_rfc b.profile) b.streams id; resets = waiting_for b.resets id })
 stopped_open_keeps true a id h =
     let b : Shown = without_read_half_of a id in
     beside_keeps b (stopped_reading id b.resets b.streams b.events) h
 stopped_open_keeps false a id h = h
 
-stop_keeps : (reads : Bool) (a : Shown) (id : ℕ) → Keeps a (if reads then relieved (stopped_open a id) else a)
-stop_keeps true a id h =
-    relieved_keeps (stopped_open a id) (stopped_open_keeps (is_retiring a.resets id) a id h)
-stop_keeps false a id h = h
+stop_keeps : (reads : Bool) (before : ℕ) (a : Shown) (id : ℕ)
+    → Keeps a (if reads then eased before (stopped_open a id) else a)
+stop_keeps true before a id h =
+    eased_keeps before (stopped_open a id) (stopped_open_keeps (is_retiring a.resets id) a id h)
+stop_keeps false before a id h = h
 
 stopped_keeps : (a : Shown) (id : ℕ) → Keeps a (stopped a id)
-stopped_keeps a id = stop_keeps (holds_of (λ s. is_read_half_open s.halves) a id) a id
+stopped_keeps a id = stop_keeps (holds_of (λ s. is_read_half_open s.halves) a id) (credit_in a) a id
 
 -- Timers
 
 offered_keeps : (o : Option Offer) (a : Shown) → Keeps a (init_queued o a)
 offered_keeps None a h = h
-offered_keeps (Some offer) a h = queued_keeps a (chunks.Init (init_of a.handshake offer)) tt h
+offered_keeps (Some offer) a h =
+    queued_under_keeps (untagged (header_of a.handshake)) a (chunks.Init (init_of a.handshake offer)) tt h
 
 offer_keeps : (a : Shown) (now : ℕ) → Keeps a (sends_init a now)
 unfolding sends_init

@@ -20,7 +20,7 @@ use Rattle.sctp_wire_types.specs.Checks.{checked_chunk}
 use Rattle.sctp_streams.specs.Streams.{StreamMap, generation_left, is_readable_in, pushed_in, refusal_in, stream_at}
 use Rattle.sctp_inbound.specs.declared.receiver.AckTrigger.{AckTrigger}
 use Rattle.sctp_inbound.specs.Greeting.{first_cookie, information_of, init_ack_of}
-use Rattle.sctp_inbound.specs.Handshake.{comes_back, has_issued}
+use Rattle.sctp_inbound.specs.Handshake.{comes_back, has_issued, header_of}
 use Rattle.sctp_inbound.specs.Receiver.{admits, is_new_to, taken_to}
 use Rattle.sctp_outbound.specs.declared.sender.SackOutcome.{SackOutcome}
 use Rattle.sctp_outbound.specs.declared.sender.SackOutcome.TheVariants as outcomes
@@ -34,9 +34,9 @@ use Rattle.sctp_assoc.specs.declared.inbound.Flow.{Flow}
 use Rattle.sctp_assoc.specs.declared.inbound.Flow.TheVariants as flows
 use Rattle.sctp_assoc.specs.Calls.{is_beginning, is_cookie_echoed, is_cookie_wait, is_established, sends_data}
 use Rattle.sctp_assoc.specs.Chunks.{asks, asks_or_faults, checked_first, counted_data, counted_sack, deferred_unless}
-use Rattle.sctp_assoc.specs.Chunks.{deferred_where_admitted, dispatched, on_chunk, on_counted_sack, on_data}
-use Rattle.sctp_assoc.specs.Chunks.{on_new_data, on_sack, stream_found, taken_in, taken_unless, taken_where_admitted}
-use Rattle.sctp_assoc.specs.Chunks.{then_skips, told, with_message}
+use Rattle.sctp_assoc.specs.Chunks.{deferred_where_admitted, dispatched, goes_unread, left_or_handed_over, on_chunk}
+use Rattle.sctp_assoc.specs.Chunks.{on_counted_sack, on_data, on_new_data, on_sack, stream_found, taken_in}
+use Rattle.sctp_assoc.specs.Chunks.{taken_unless, taken_where_admitted, then_skips, told, with_message}
 use Rattle.sctp_assoc.specs.Closing.{is_exhausted}
 use Rattle.sctp_assoc.specs.Handshake.{information_returned, on_cookie_ack}
 use Rattle.sctp_assoc.specs.Handshake.{on_cookie_echo, on_heartbeat}
@@ -59,7 +59,7 @@ use Rattle.sctp_model.proofs.Lists.{all_push}
 use Rattle.sctp_assoc.specs.declared.control.Control.TheVariants as controls
 use Rattle.sctp_assoc.specs.Chunks.{after_chunks, after_packet, after_packet_of, goes_on}
 use Rattle.sctp_assoc.specs.Closing.{closed_by, closed_open, exhausted, is_closed_state, out_of_resource}
-use Rattle.sctp_assoc.specs.Control.{queued}
+use Rattle.sctp_assoc.specs.Control.{queued, queued_under}
 use Rattle.sctp_assoc.specs.Handshake.{connected, echoed, learned, on_init, on_init_ack, sends_cookie}
 use Rattle.sctp_assoc.specs.Resets.{responding}
 use Rattle.sctp_assoc.specs.Skipping.{unrecognized_chunk}
@@ -75,9 +75,14 @@ then_on a b d f g x = g (f x)
 same_keeps : (a b : Shown) → b ≡ a → Keeps a b
 same_keeps a b e x = subst WaitsBeside (sym e) x
 
--- one packet more waits
+-- one packet more waits, under whatever header
+
+pub queued_under_keeps : (header : CommonHeader) (a : Shown) (chunk : Chunk) → IsBesideStreams chunk
+    → Keeps a (queued_under header a chunk)
+queued_under_keeps header a chunk e x = all_push ControlIsBeside a.control _ x e
+
 pub queued_keeps : (a : Shown) (chunk : Chunk) → IsBesideStreams chunk → Keeps a (queued a chunk)
-queued_keeps a chunk e x = all_push ControlIsBeside a.control _ x e
+queued_keeps a chunk e x = queued_under_keeps (header_of a.handshake) a chunk e x
 
 pub asking_keeps : (asks_for : Bool) (a : Shown) → Keeps a (asking_if asks_for a)
 asking_keeps true a x = all_push ControlIsBeside a.control controls.OwnRequest x tt
@@ -142,11 +147,15 @@ taken_unless_keeps : (refusal : Option Error) (a : Shown) (piece : ChunkPayloadD
 taken_unless_keeps (Some fault) a piece = λ x. x
 taken_unless_keeps None a piece = message_keeps a piece (pushed_in a.streams piece.stream_identifier piece)
 
-taken_keeps : (a : Shown) (piece : ChunkPayloadData) → Keeps a (taken_in a piece).0
-unfolding taken_in
-taken_keeps a piece =
+left_keeps : (left : Bool) (a : Shown) (piece : ChunkPayloadData) → Keeps a (left_or_handed_over left a piece).0
+left_keeps true a piece = λ x. x
+left_keeps false a piece =
     taken_unless_keeps (refusal_in a.streams piece.stream_identifier piece a.receiver.max_receive_message_size) a
     piece
+
+taken_keeps : (a : Shown) (piece : ChunkPayloadData) → Keeps a (taken_in a piece).0
+unfolding taken_in
+taken_keeps a piece = left_keeps (goes_unread a piece) a piece
 
 then_skips_keeps : (x : Shown × Option Error) (stream : ℕ) → Keeps x.0 (then_skips x stream).0
 then_skips_keeps (a, None) stream = skipping_keeps stream a

@@ -22,8 +22,9 @@ use Rattle.sctp_reset_fit.proofs.Keeping.{goes_leaves}
 use Rattle.sctp_reset_fit.proofs.Streams.{made_keeps}
 use Rattle.sctp_directions.specs.Acts.{History, IsNewTsn, offset_in, reach_in, with_taken}
 use Rattle.sctp_assoc.specs.Chunks.{asks, asks_or_faults, counted_data, deferred, deferred_unless}
-use Rattle.sctp_assoc.specs.Chunks.{deferred_where_admitted, on_data, on_new_data, stream_found, taken_in, taken_unless}
-use Rattle.sctp_assoc.specs.Chunks.{taken_where_admitted, then_skips, told, with_message, with_new_stream}
+use Rattle.sctp_assoc.specs.Chunks.{deferred_where_admitted, goes_unread, left_or_handed_over, left_unread, on_data}
+use Rattle.sctp_assoc.specs.Chunks.{on_new_data, stream_found, taken_in, taken_unless, taken_where_admitted}
+use Rattle.sctp_assoc.specs.Chunks.{then_skips, told, with_message, with_new_stream}
 use Rattle.sctp_assoc.specs.Leads.{Binds}
 use Rattle.sctp_assoc.specs.Resets.{settled, skips_applied_of}
 use Rattle.sctp_assoc.specs.Shown.{Shown, all_waiting}
@@ -35,7 +36,7 @@ use Rattle.sctp_course_sides.specs.Following.{LeadsFollowing}
 use Rattle.sctp_course_sides.specs.Follows.{Follows, IsOfCourse}
 use Rattle.sctp_course_sides.proofs.Reaching.{keeps_following, le_is, reach_grown, reach_small, reaches, same_following}
 use Rattle.sctp_course_sides.proofs.Reaching.{settled_following, skips_following, stays_following, then_following}
-use Rattle.sctp_course_sides.proofs.TakingData.{TakesOn, takes_on, waits_on}
+use Rattle.sctp_course_sides.proofs.TakingData.{TakesOn, leaves_on, takes_on, waits_on}
 
 -- The offset of DATA
 
@@ -190,11 +191,18 @@ module _ (P : ChunkPayloadData → Type 0) (initial id : ℕ) (piece : ChunkPayl
           new_there
           out e))
 
-      taken_in_following : LeadsFollowing P initial id (taken_in a piece).0 c
-      unfolding taken_in
-      taken_in_following =
+      -- what nobody reads is taken in, too
+      left_following : (left : Bool) → LeadsFollowing P initial id (left_or_handed_over left a piece).0 c
+      left_following true =
+          came_following a.resets a.streams (left_unread a piece).events
+          (leaves_on P initial piece so is_near a.resets a.streams c id f.stands new_there out)
+      left_following false =
           taken_unless_following
           (refusal_in a.streams piece.stream_identifier piece a.receiver.max_receive_message_size) refl
+
+      taken_in_following : LeadsFollowing P initial id (taken_in a piece).0 c
+      unfolding taken_in
+      taken_in_following = left_following (goes_unread a piece)
 
     -- Of a later one
 

@@ -1,5 +1,5 @@
 -- No chunk that comes assigns an offset: it acknowledges, at most, what is in flight.
-use Rattle.std.proofs.Common.{sym, subst, ℕ, Bool, true, false, if◌then◌else◌, List, [], ◌∷◌}
+use Rattle.std.proofs.Common.{ℕ, Bool, true, false, not, if◌then◌else◌, List, [], ◌∷◌}
 use Rattle.std.proofs.Common.{◌++◌, Option, Some, None, is_some, Result, Ok, Err}
 use Rattle.std.specs.List.{AllByRecursion}
 use Rattle.sctp_wire_types.specs.Checks.{checked_chunk}
@@ -10,23 +10,29 @@ use Rattle.sctp_wire_types.specs.declared.chunk.GapAckBlock.{GapAckBlock}
 use Rattle.sctp_wire_types.specs.declared.chunk.SkippedStream.{SkippedStream}
 use Rattle.sctp_wire_types.specs.declared.error.Error.{Error}
 use Rattle.sctp_wire_types.specs.declared.packet.CommonHeader.{CommonHeader}
-use Rattle.sctp_streams.specs.Streams.{generation_left, stream_at}
+use Rattle.sctp_streams.specs.Streams.{generation_left, refusal_in, stream_at}
 use Rattle.sctp_inbound.specs.Handshake.{comes_back}
+use Rattle.sctp_inbound.specs.Receiver.{admits, is_new_to}
 use Rattle.sctp_outbound.specs.declared.sender.SackOutcome.{SackOutcome}
 use Rattle.sctp_outbound.specs.declared.sender.SackOutcome.TheVariants as outcomes
-use Rattle.sctp_generations.specs.Generations.{has_retiring}
-use Rattle.sctp_resets.specs.Concerned.{retiring_ids}
+use Rattle.sctp_generations.specs.Generations.{has_retiring, has_skips}
+use Rattle.sctp_resets.specs.Concerned.{retiring_ids, skipped_ids}
+use Rattle.sctp_resets.specs.Resets.{is_hidden, refusal_of}
 use Rattle.sctp_model.proofs.Lists.{all_join, all_weaker}
 use Rattle.sctp_directions.specs.Acts.{Act}
 use Rattle.sctp_assoc.specs.Calls.{is_beginning, is_cookie_wait, sends_data}
-use Rattle.sctp_assoc.specs.Happened.{acts_of_checked, acts_of_chunk, acts_of_data, acts_of_forward, acts_of_kind}
-use Rattle.sctp_assoc.specs.Happened.{acts_of_outcome, acts_unless_refused}
-use Rattle.sctp_assoc.specs.ResetActs.{acts_of_keeping, acts_of_reconfig, acts_of_settling}
-use Rattle.sctp_assoc.specs.Shown.{Shown}
+use Rattle.sctp_assoc.specs.Chunks.{counted_data, deferred_where_admitted, goes_unread, stream_found, taken_in}
+use Rattle.sctp_assoc.specs.Chunks.{taken_where_admitted}
+use Rattle.sctp_assoc.specs.Happened.{acts_if_left, acts_of_checked, acts_of_chunk, acts_of_data, acts_of_deferring}
+use Rattle.sctp_assoc.specs.Happened.{acts_of_forward, acts_of_found, acts_of_hidden, acts_of_kind, acts_of_outcome}
+use Rattle.sctp_assoc.specs.Happened.{acts_of_skips_behind, acts_of_stream, acts_of_taking}
+use Rattle.sctp_assoc.specs.Happened.{acts_of_taking_where_admitted, acts_unless_faulty, acts_unless_refused}
+use Rattle.sctp_assoc.specs.ResetActs.{acts_of_keeping, acts_of_kept_skips, acts_of_reconfig, acts_of_settling}
+use Rattle.sctp_assoc.specs.Resets.{skips_applied_of}
+use Rattle.sctp_assoc.specs.Shown.{Shown, all_waiting}
 use Rattle.sctp_assoc.specs.Skipping.{skips_of, with_passed, with_skips}
-use Rattle.sctp_sides.specs.Intake.{IsEndOfSpans, is_for_later, later_refusal_of, refusal_of}
+use Rattle.sctp_sides.specs.Intake.{IsEndOfSpans}
 use Rattle.sctp_sides.proofs.ActsOfChunks.{give_if}
-use Rattle.sctp_sides.proofs.DataIntake.{data_acts, decided_acts, first_acts, has_room, is_found, is_new, kept_acts}
 use Rattle.sctp_sides.proofs.DataIntake.{settling_ends_spans, spans_end}
 use Rattle.sctp_sides.proofs.ForwardKinds.{acts_are_one_of}
 use Rattle.sctp_sides.proofs.NothingElseTaken.{reconfigs_end_spans}
@@ -54,32 +60,62 @@ stream_is_heard true left act e = tt
 stream_is_heard false true act e = (e, tt)
 stream_is_heard false false act e = tt
 
-taking_is_heard : (found room : Bool) (o : Option Error) (piece : ChunkPayloadData)
-    → AreHeard (decided_acts found room o piece)
-taking_is_heard false room o piece = tt
-taking_is_heard true false o piece = tt
-taking_is_heard true true o piece = unless_refused o (Act.Took piece) tt
+taking_is_heard : (left : Bool) (a : Shown) (piece : ChunkPayloadData) → AreHeard (acts_if_left left a piece)
+taking_is_heard true a piece = (tt, tt)
+taking_is_heard false a piece =
+    unless_refused (refusal_in a.streams piece.stream_identifier piece a.receiver.max_receive_message_size)
+    (Act.Took piece) tt
 
-keeping_is_heard : (room : Bool) (o : Option Error) (piece : ChunkPayloadData) → AreHeard (kept_acts room o piece)
-keeping_is_heard false o piece = tt
-keeping_is_heard true o piece = unless_refused o (Act.Deferred piece) tt
+-- what is behind it
 
-first_is_heard : (next later : Bool) (a : Shown) (piece : ChunkPayloadData)
-    → AreHeard (first_acts next later a piece)
-first_is_heard false later a piece = tt
-first_is_heard true true a piece = keeping_is_heard (has_room a piece) (later_refusal_of a piece) piece
-first_is_heard true false a piece =
-    all_join IsHeard _ (decided_acts (is_found a piece) (has_room a piece) (refusal_of a piece) piece)
+settling_is_heard : (a : Shown) → AreHeard (acts_of_settling a)
+settling_is_heard a = ends_are_heard (acts_of_settling a) (settling_ends_spans a)
+
+skips_are_heard : (x : Shown × Option Error) (id : ℕ) → AreHeard (acts_of_skips_behind x id)
+skips_are_heard (a, None) id =
+    ends_are_heard (acts_of_kept_skips id a)
+    (spans_end (has_skips a.resets.generations) (skipped_ids a.resets.generations) (skips_applied_of id a).streams)
+skips_are_heard (a, Some fault) id = tt
+
+behind_is_heard : (x : Shown × Option Error) → AreHeard (acts_unless_faulty x)
+behind_is_heard (a, None) = settling_is_heard a
+behind_is_heard (a, Some fault) = tt
+
+-- of the generation that is read, of a later one, and any
+
+found_is_heard : (x : Shown × Bool) (piece : ChunkPayloadData) → AreHeard (acts_of_found x piece)
+found_is_heard (a, false) piece = tt
+found_is_heard (a, true) piece =
+    let skips = acts_of_skips_behind (taken_in a piece) piece.stream_identifier in
+    all_join IsHeard (acts_of_taking_where_admitted a piece) (acts_unless_faulty (taken_where_admitted a piece))
+    (give_if IsHeard (admits a.receiver piece.tsn (all_waiting a)) (acts_of_taking a piece ++ skips) []
+    (all_join IsHeard (acts_of_taking a piece) skips (taking_is_heard (goes_unread a piece) a piece)
+    (skips_are_heard (taken_in a piece) piece.stream_identifier)) tt)
+    (behind_is_heard (taken_where_admitted a piece))
+
+hidden_is_heard : (a : Shown) (piece : ChunkPayloadData) → AreHeard (acts_of_hidden a piece)
+hidden_is_heard a piece =
+    let refusal = refusal_of a.resets piece a.receiver.max_receive_message_size in
+    all_join IsHeard (acts_of_deferring a piece) (acts_unless_faulty (deferred_where_admitted a piece))
+    (give_if IsHeard (admits a.receiver piece.tsn (all_waiting a)) (acts_unless_refused refusal (Act.Deferred piece)) []
+    (unless_refused refusal (Act.Deferred piece) tt) tt) (behind_is_heard (deferred_where_admitted a piece))
+
+counted_is_heard : (next hidden : Bool) (a : Shown) (piece : ChunkPayloadData)
+    → AreHeard
+    (if not next then acts_of_settling a else if hidden then acts_of_hidden a piece else
+    acts_of_stream a piece.stream_identifier ++ acts_of_found (stream_found a piece.stream_identifier) piece)
+counted_is_heard false hidden a piece = settling_is_heard a
+counted_is_heard true true a piece = hidden_is_heard a piece
+counted_is_heard true false a piece =
+    all_join IsHeard (acts_of_stream a piece.stream_identifier)
+    (acts_of_found (stream_found a piece.stream_identifier) piece)
     (stream_is_heard (is_some (stream_at a.streams piece.stream_identifier)) (generation_left a.streams) _ tt)
-    (taking_is_heard (is_found a piece) (has_room a piece) (refusal_of a piece) piece)
+    (found_is_heard (stream_found a piece.stream_identifier) piece)
 
 data_is_heard : (a : Shown) (piece : ChunkPayloadData) → AreHeard (acts_of_data a piece)
 data_is_heard a piece =
-    let t = data_acts a piece in
-    let first = first_acts (is_new a piece) (is_for_later a piece) a piece in
-    subst AreHeard (sym t.are)
-    (all_join IsHeard first t.others (first_is_heard (is_new a piece) (is_for_later a piece) a piece)
-    (ends_are_heard t.others t.ends))
+    let b : Shown = counted_data a in
+    counted_is_heard (is_new_to b.receiver piece.tsn) (is_hidden b.resets piece.stream_identifier piece.tsn) b piece
 
 -- Other chunks
 
@@ -97,7 +133,7 @@ ahead_is_heard a t skips =
     all_join IsHeard (acts_of_keeping t skips a) (acts_of_settling b)
     (ends_are_heard (acts_of_keeping t skips a)
     (spans_end (has_retiring a.resets.generations) (retiring_ids a.resets.generations) b.streams))
-    (ends_are_heard (acts_of_settling b) (settling_ends_spans b))
+    (settling_is_heard b)
 
 forward_is_heard : (a : Shown) (t : ℕ) (skips : List SkippedStream) → AreHeard (acts_of_forward a t skips)
 forward_is_heard a t skips =

@@ -1,12 +1,13 @@
 -- A side that was lost: whatever is called, nothing is left of it, it reads nothing, and its packets say nothing of a
 -- stream.
-use Rattle.std.proofs.Common.{◌≡◌, refl, sym, ap, ◌∙◌, subst, ◌⊎◌, ⊎_elim, ℕ, Bool, true, false, ◌&&◌}
-use Rattle.std.proofs.Common.{if◌then◌else◌, is_some, length, List, [], ◌∷◌, Option, Some, None}
+use Rattle.std.proofs.Common.{◌≡◌, refl, sym, ap, ◌∙◌, subst, ◌⊎◌, ⊎_elim, ℕ, ◌*◌, Bool, true, false, ◌&&◌}
+use Rattle.std.proofs.Common.{if◌then◌else◌, is_some, length, nat_le, nat_lt, List, [], ◌∷◌, Option, Some, None}
 use Rattle.std.specs.List.{AllByRecursion}
 use Rattle.std.proofs.lemmas.Bool.{true≢false}
 use Rattle.sctp_wire_types.specs.declared.chunk.Chunk.{Chunk}
 use Rattle.sctp_wire_types.specs.declared.chunk.Chunk.TheVariants as chunks
 use Rattle.sctp_wire_types.specs.declared.error.Error.TheVariants as errors
+use Rattle.sctp_wire_types.specs.Config.{is_rfc}
 use Rattle.sctp_wire.specs.declared.packet.Packet.{Packet}
 use Rattle.sctp_wire.specs.Packets.{packet_at}
 use Rattle.sctp_parts.specs.Timers.{IsNoneArmed}
@@ -16,15 +17,16 @@ use Rattle.sctp_streams.specs.declared.event.Event.{Event}
 use Rattle.sctp_streams.specs.declared.setting.Setting.{Setting}
 use Rattle.sctp_streams.specs.declared.setting.Setting.TheVariants as settings
 use Rattle.sctp_streams.specs.Stream.{StreamView}
-use Rattle.sctp_streams.specs.Streams.{read_at, read_in, stream_at}
+use Rattle.sctp_streams.specs.Streams.{StreamMap, read_at, read_in, stream_at}
 use Rattle.sctp_resets.specs.Resets.{ResetsView, event_told}
 use Rattle.sctp_model.proofs.Lists.{all_get, all_weaker}
 use Rattle.sctp_courses.specs.Course.{Course}
 use Rattle.sctp_assoc.specs.declared.control.Control.TheVariants as controls
-use Rattle.sctp_assoc.specs.Calls.{accepted_from, adjusted, drained_behind, event_from, event_polled, is_established}
-use Rattle.sctp_assoc.specs.Calls.{opened, read_from_stream, read_refusal, read_refusal_at}
-use Rattle.sctp_assoc.specs.Calls.{stop_refusal, stopped}
-use Rattle.sctp_assoc.specs.Closing.{is_closed_state, is_exhausted}
+use Rattle.sctp_assoc.specs.Calls.{accepted_from, adjusted, after_read, credit_in, drained_behind, event_from}
+use Rattle.sctp_assoc.specs.Calls.{event_polled, exchanges_data, is_established, opened, read_from_stream}
+use Rattle.sctp_assoc.specs.Calls.{read_refusal, read_refusal_at, stop_refusal, stopped, tells_window, told_if}
+use Rattle.sctp_assoc.specs.Calls.{twice_open}
+use Rattle.sctp_assoc.specs.Closing.{is_closed_state}
 use Rattle.sctp_assoc.specs.Gather.{IsPlainControl, polled, without_control}
 use Rattle.sctp_assoc.specs.Happened.{PollsOn, acts_of_poll, forwards_of_poll}
 use Rattle.sctp_assoc.specs.Inbound.{taken_packet}
@@ -67,7 +69,29 @@ over_on a b lost state control timers none empty over = record {
 not_over : (a : Shown) → IsOver a → is_established a.state ≡ true → ⊥
 not_over a over e = true≢false (sym over.closed ∙ established_is_not_closed a e)
 
+-- A closed side tells of no window that opened
+
+none_tells : (rules shut opens exchanges : Bool) → exchanges ≡ false → (rules && shut && opens && exchanges) ≡ false
+none_tells true true true exchanges e = e
+none_tells true true false exchanges e = refl
+none_tells true false opens exchanges e = refl
+none_tells false shut opens exchanges e = refl
+
+pub closed_tells_nothing : (before : ℕ) (a : Shown) → is_closed_state a.state ≡ true
+    → told_if (tells_window before a) a ≡ a
+unfolding tells_window
+closed_tells_nothing before a closed =
+    ap (λ (tells : Bool). told_if tells a)
+    (none_tells (is_rfc a.profile) (nat_lt (2 * before) (twice_open a)) (nat_le (twice_open a) (2 * credit_in a))
+    (exchanges_data a.state) (closed_sides_exchange_nothing a closed).0)
+
 -- Reads
+
+-- one that gives nothing leaves what resets leave of it
+silent_read : (x : StreamMap × Option ReceivedMessage) (a : Shown) (id : ℕ) → x.1 ≡ None
+    → (after_read a id x).0 ≡ drained_behind a id x.0
+silent_read (streams, None) a id none = refl
+silent_read (streams, Some message) a id none = absurd (true≢false (ap is_some none))
 
 -- A side that was lost reads nothing.
 
@@ -86,10 +110,7 @@ module _ (a : Shown) (id : ℕ) (over : IsOver a) where
 
   read_leaves : (read_from_stream a id).0 ≡ record a { streams = (read_in a.streams id).0 }
   read_leaves =
-      (reads_keep_the_status a id).plainly
-      (ap (λ (o : Option ReceivedMessage).
-      is_some o && is_exhausted (drained_behind a id (read_in a.streams id).0)) nothing_read)
-      ∙ reads_change_streams_alone a id over.no_reset
+      silent_read (read_in a.streams id) a id nothing_read ∙ reads_change_streams_alone a id over.no_reset
 
 pub over_reads_nothing : (a : Shown) (k : ℕ) → IsOver a → (read_from_stream a k).1 ≡ None
 over_reads_nothing a k over = (reads_keep_the_status a k).given ∙ nothing_read a k over

@@ -4,6 +4,7 @@ use Rattle.std.proofs.Common.{◌≡◌, refl, sym, ap, ◌∙◌, subst, ℕ, �
 use Rattle.std.proofs.Common.{if◌then◌else◌, filter, List, [], ◌∷◌, length, Option, Some, None}
 use Rattle.std.specs.Prelude.{remove, slice_get, ⊤}
 use Rattle.std.proofs.lemmas.Bool.{true≢false}
+use Rattle.sctp_wire_types.specs.Config.{is_rfc}
 use Rattle.sctp_wire_types.specs.declared.chunk.ChunkPayloadData.{ChunkPayloadData}
 use Rattle.sctp_model.specs.Packets.{mem}
 use Rattle.sctp_wire_types.specs.declared.ids.PayloadProtocolIdentifier.{PayloadProtocolIdentifier}
@@ -28,8 +29,9 @@ use Rattle.sctp_reset_fit.proofs.Keeping.{beside_keeps, far_of, goes_leaves, goe
 use Rattle.sctp_reset_fit.proofs.Passing.{leads_keep}
 use Rattle.sctp_reset_fit.proofs.Stopping.{stopped_open_keeps, with_read_half_closed, with_reads_stopped}
 use Rattle.sctp_reset_fit.proofs.Streams.{made_keeps, setting_keeps, written_keeps}
-use Rattle.sctp_assoc.specs.Calls.{accepted_from, adjusted, event_from, event_polled, holds_of, opened, stopped}
-use Rattle.sctp_assoc.specs.Calls.{stopped_open, without_read_half_of, written_at}
+use Rattle.sctp_assoc.specs.Calls.{accepted_from, adjusted, credit_in, eased, event_from, event_polled, holds_of}
+use Rattle.sctp_assoc.specs.Calls.{opened, stopped, stopped_open, tells_window, told_if, unread_dropped}
+use Rattle.sctp_assoc.specs.Calls.{without_read_half_of, written_at}
 use Rattle.sctp_assoc.specs.Closing.{closed_by, closed_open, exhausted, is_closed_state, is_exhausted, out_of_resource}
 use Rattle.sctp_assoc.specs.Closing.{relieved}
 use Rattle.sctp_assoc.specs.Control.{queued}
@@ -66,26 +68,26 @@ ended_peer : (blocked : Bool) (r : ResetsView) (k : ℕ) (m : StreamMap) (told :
 ended_peer true r k m told = refl
 ended_peer false r k m told = refl
 
-stopped_peer : (retires : Bool) (r : ResetsView) (m : StreamMap) (told : List Event) (k : ℕ)
+stopped_peer : (retires : Bool) (r : ResetsView) (m n : StreamMap) (told : List Event) (k : ℕ)
     → (cond {A = Beside} retires (stopped_reading k r (with_read_half_closed m k) told)
-    (waiting_for r k, with_read_half_closed m k, told)).0.peer ≡ r.peer
-stopped_peer true r m told k =
+    (waiting_for r k, n, told)).0.peer ≡ r.peer
+stopped_peer true r m n told k =
     let s : ResetsView = with_generations r (generations.discarded r.generations k) in
     ended_peer (is_blocked s k) s k (changed_stream without_unread (with_read_half_closed m k) k)
     (filter (λ e. not (is_told_of k e)) told)
-stopped_peer false r m told k = refl
+stopped_peer false r m n told k = refl
 
--- a stop, by its two ways
-stopped_is : (retires : Bool) (a : Shown) (k : ℕ)
+-- a stop, by its two ways, where these streams are left of one that does not retire
+stopped_is : (retires : Bool) (a : Shown) (k : ℕ) (n : StreamMap)
     → (if retires then
     with_beside (without_read_half_of a k)
     (stopped_reading k a.resets (with_read_half_closed a.streams k) a.events)
-    else record (without_read_half_of a k) { resets = waiting_for a.resets k })
+    else record (without_read_half_of a k) { streams = n; resets = waiting_for a.resets k })
     ≡ with_beside (without_read_half_of a k)
     (cond {A = Beside} retires (stopped_reading k a.resets (with_read_half_closed a.streams k) a.events)
-    (waiting_for a.resets k, with_read_half_closed a.streams k, a.events))
-stopped_is true a k = refl
-stopped_is false a k = refl
+    (waiting_for a.resets k, n, a.events))
+stopped_is true a k n = refl
+stopped_is false a k n = refl
 
 -- The stream of a course, and the initial TSN.
 module _ (P : ChunkPayloadData → Type 0) (initial id : ℕ) where
@@ -109,8 +111,18 @@ module _ (P : ChunkPayloadData → Type 0) (initial id : ℕ) where
       (same_on P initial id b (queued b out_of_resource) refl refl refl)
   relieved_on_if false a lost = stays_on P initial id a
 
-  pub relieved_on : (a : Shown) → (relieved a).lost ≡ false → KeepsOn P initial id a (relieved a)
+  relieved_on : (a : Shown) → (relieved a).lost ≡ false → KeepsOn P initial id a (relieved a)
   relieved_on a lost = relieved_on_if (is_exhausted a) a lost
+
+  -- a window that opened may be told, of one that did not close
+  eased_on_if : (tells : Bool) (a b : Shown) → (b.lost ≡ false → KeepsOn P initial id a b)
+      → (told_if tells b).lost ≡ false → KeepsOn P initial id a (told_if tells b)
+  eased_on_if true a b on lost =
+      then_on P initial id (on lost) (same_on P initial id b (told_if true b) refl refl refl)
+  eased_on_if false a b on lost = on lost
+
+  pub eased_on : (before : ℕ) (a : Shown) → (eased before a).lost ≡ false → KeepsOn P initial id a (eased before a)
+  eased_on before a lost = eased_on_if (tells_window before (relieved a)) a (relieved a) (relieved_on a) lost
 
   -- Streams, writes, settings and limits
 
@@ -169,19 +181,21 @@ module _ (P : ChunkPayloadData → Type 0) (initial id : ℕ) where
 
   stopped_open_on : (a : Shown) (k : ℕ) → KeepsOn P initial id a (stopped_open a k)
   stopped_open_on a k =
-      subst (KeepsOn P initial id a) (sym (stopped_is (is_retiring a.resets k) a k))
-      (half_beside_on a k (with_reads_stopped k a.resets a.streams a.events)
-      (stopped_open_keeps P initial id a.resets a.streams a.events k)
-      (stopped_peer (is_retiring a.resets k) a.resets a.streams a.events k))
+      let n : StreamMap = unread_dropped (is_rfc a.profile) (with_read_half_closed a.streams k) k in
+      subst (KeepsOn P initial id a) (sym (stopped_is (is_retiring a.resets k) a k n))
+      (half_beside_on a k (with_reads_stopped (is_rfc a.profile) k a.resets a.streams a.events)
+      (stopped_open_keeps P initial id a.resets a.streams a.events (is_rfc a.profile) k)
+      (stopped_peer (is_retiring a.resets k) a.resets a.streams n a.events k))
 
-  stopped_on_if : (reads : Bool) (a : Shown) (k : ℕ)
-      → (if reads then relieved (stopped_open a k) else a).lost ≡ false
-      → KeepsOn P initial id a (if reads then relieved (stopped_open a k) else a)
-  stopped_on_if true a k lost = then_on P initial id (stopped_open_on a k) (relieved_on (stopped_open a k) lost)
-  stopped_on_if false a k lost = stays_on P initial id a
+  stopped_on_if : (reads : Bool) (before : ℕ) (a : Shown) (k : ℕ)
+      → (if reads then eased before (stopped_open a k) else a).lost ≡ false
+      → KeepsOn P initial id a (if reads then eased before (stopped_open a k) else a)
+  stopped_on_if true before a k lost =
+      then_on P initial id (stopped_open_on a k) (eased_on before (stopped_open a k) lost)
+  stopped_on_if false before a k lost = stays_on P initial id a
 
   stopped_on : (a : Shown) (k : ℕ) → (stopped a k).lost ≡ false → KeepsOn P initial id a (stopped a k)
-  stopped_on a k lost = stopped_on_if (holds_of (λ s. is_read_half_open s.halves) a k) a k lost
+  stopped_on a k lost = stopped_on_if (holds_of (λ s. is_read_half_open s.halves) a k) (credit_in a) a k lost
 
   -- Any call but a read and a datagram
 

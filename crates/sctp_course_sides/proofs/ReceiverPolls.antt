@@ -260,7 +260,7 @@ module _ (P : ChunkPayloadData → Type 0) (initial id : ℕ) where
 
   offered_on : (o : Option Offer) (a : Shown) → KeepsOn P initial id a (init_queued o a)
   offered_on None a = stays_on a
-  offered_on (Some offer) a = queued_on a _
+  offered_on (Some offer) a = same_on a (init_queued (Some offer) a) refl refl refl
 
   sends_init_on : (a : Shown) (now : ℕ) → KeepsOn P initial id a (sends_init a now)
   unfolding sends_init

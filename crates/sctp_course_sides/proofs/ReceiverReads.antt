@@ -24,13 +24,14 @@ use Rattle.sctp_reset_fit.specs.Stands.{IsReadOn}
 use Rattle.sctp_reset_fit.proofs.Elsewhere.{reads_elsewhere, reads_nothing, reads_on}
 use Rattle.sctp_reset_fit.proofs.Keeping.{far_of, goes_nowhere, goes_of, goes_on}
 use Rattle.sctp_reset_fit.proofs.Passing.{leads_keep}
-use Rattle.sctp_assoc.specs.Calls.{after_read, drained_behind, read_from_stream, read_refusal, read_refusal_at}
+use Rattle.sctp_assoc.specs.Calls.{after_read, credit_in, drained_behind, read_from_stream, read_refusal}
+use Rattle.sctp_assoc.specs.Calls.{read_refusal_at}
 use Rattle.sctp_assoc.specs.Leads.{Binds}
 use Rattle.sctp_assoc.specs.Resets.{with_resetting}
 use Rattle.sctp_assoc.specs.Shown.{Shown}
 use Rattle.sctp_course_sides.specs.Follows.{AwaitsIts, Follows}
 use Rattle.sctp_course_sides.proofs.ReceiverPolls.{KeepsOn, course_on, stands_on, stays_on, then_on, with_peer_of}
-use Rattle.sctp_course_sides.proofs.ReceiverCalls.{await_on, follow_on, follows_beside, relieved_on, untouched_leads}
+use Rattle.sctp_course_sides.proofs.ReceiverCalls.{await_on, eased_on, follow_on, follows_beside, untouched_leads}
 
 -- What a read leaves
 
@@ -87,7 +88,7 @@ module _ (P : ChunkPayloadData → Type 0) (initial id : ℕ) where
   after_on : (x : StreamMap × Option ReceivedMessage) (a : Shown) (k : ℕ) → (after_read a k x).0.lost ≡ false
       → KeepsOn P initial id (drained_behind a k x.0) (after_read a k x).0
   after_on (streams, None) a k lost = stays_on P initial id (drained_behind a k streams)
-  after_on (streams, Some message) a k lost = relieved_on P initial id (drained_behind a k streams) lost
+  after_on (streams, Some message) a k lost = eased_on P initial id (credit_in a) (drained_behind a k streams) lost
 
   silent_on : (a : Shown) (k : ℕ)
       → KeepsCourse P initial id a.resets a.streams (read_behind a k).0 (read_behind a k).1.streams

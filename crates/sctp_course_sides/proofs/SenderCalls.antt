@@ -4,6 +4,7 @@ use Rattle.std.proofs.Common.{◌≡◌, refl, sym, ap, ◌∙◌, subst, ⊎_el
 use Rattle.std.proofs.Common.{false, if◌then◌else◌, List, [], ◌∷◌, length, Option, Some, None}
 use Rattle.std.specs.Prelude.{remove, slice_get}
 use Rattle.std.proofs.lemmas.Bool.{cases_Bool, eqb-true, false≢true, true≢false}
+use Rattle.sctp_wire_types.specs.Config.{is_rfc}
 use Rattle.sctp_wire_types.specs.declared.error.Error.TheVariants as errors
 use Rattle.sctp_wire_types.specs.declared.event.StreamEvent.{StreamEvent}
 use Rattle.sctp_wire_types.specs.declared.event.StreamEvent.TheVariants as said
@@ -32,8 +33,9 @@ use Rattle.sctp_resets.specs.Telling.{debts_said, debts_told, next_told}
 use Rattle.sctp_directions.specs.Acts.{Act, History, message_of, type_on}
 use Rattle.sctp_courses.specs.Course.{Course}
 use Rattle.sctp_assoc.specs.Calls.{accepted_from, accepted_stream, adjusted, after_ack_delay, after_read, after_t3}
-use Rattle.sctp_assoc.specs.Calls.{drained_behind, event_from, event_polled, holds_of, opened, read_from_stream}
-use Rattle.sctp_assoc.specs.Calls.{retransmits, stopped, stopped_open, t3_expired, with_max_send_message_size}
+use Rattle.sctp_assoc.specs.Calls.{credit_in, drained_behind, eased, event_from, event_polled, holds_of, opened}
+use Rattle.sctp_assoc.specs.Calls.{read_from_stream, retransmits, stopped, stopped_open, t3_expired, tells_window}
+use Rattle.sctp_assoc.specs.Calls.{told_if, unread_dropped, with_max_send_message_size}
 use Rattle.sctp_assoc.specs.Calls.{without_read_half_of, write_refusal, written, written_at}
 use Rattle.sctp_assoc.specs.Closing.{closed_by, closed_open, exhausted, is_closed_state, is_exhausted, out_of_resource}
 use Rattle.sctp_assoc.specs.Closing.{relieved}
@@ -209,7 +211,7 @@ module _ (initial id : ℕ) (c : Course) where
       → Keeps a
       (let b = without_read_half_of a stream in
       if retires then with_beside b (stopped_reading stream b.resets b.streams b.events) else
-      record b { resets = waiting_for b.resets stream })
+      record b { streams = unread_dropped (is_rfc b.profile) b.streams stream; resets = waiting_for b.resets stream })
   stopping_keeps true a stream l =
       let b : Shown = without_read_half_of a stream in
       beside_keeps b (stopped_reading stream b.resets b.streams b.events) (λ x. dropped_asks _ _ stream _ _ x)
@@ -315,22 +317,32 @@ module _ (initial id : ℕ) (h : History) (c : Course) where
   relieved_sends : (a : Shown) → (relieved a).lost ≡ false → KeepsSending a (relieved a)
   relieved_sends a open_still s = relieved_if (is_exhausted a) a open_still s
 
+  -- a window that opened may be told, of one that did not close
+  eased_sends_if : (tells : Bool) (a b : Shown) → (b.lost ≡ false → KeepsSending a b)
+      → (told_if tells b).lost ≡ false → KeepsSending a (told_if tells b)
+  eased_sends_if true a b on open_still s = by_keeping b (told_if true b) (refl, λ x. x) (on open_still s)
+  eased_sends_if false a b on open_still s = on open_still s
+
+  eased_sends : (before : ℕ) (a : Shown) → (eased before a).lost ≡ false → KeepsSending a (eased before a)
+  eased_sends before a open_still s =
+      eased_sends_if (tells_window before (relieved a)) a (relieved a) (relieved_sends a) open_still s
+
   after_read_sends : (a : Shown) (stream : ℕ) (x : StreamMap × Option ReceivedMessage)
       → (after_read a stream x).0.lost ≡ false → KeepsSending a (after_read a stream x).0
   after_read_sends a stream (streams, None) open_still s =
       by_keeping a (drained_behind a stream streams) (draining_keeps initial id c a stream streams) s
   after_read_sends a stream (streams, Some message) open_still s =
       let b : Shown = drained_behind a stream streams in
-      relieved_sends b open_still (by_keeping a b (draining_keeps initial id c a stream streams) s)
+      eased_sends (credit_in a) b open_still (by_keeping a b (draining_keeps initial id c a stream streams) s)
 
-  stop_sends : (reads : Bool) (a : Shown) (stream : ℕ) → stream < 2 ^ 16
-      → (if reads then relieved (stopped_open a stream) else a).lost ≡ false
-      → KeepsSending a (if reads then relieved (stopped_open a stream) else a)
-  stop_sends true a stream l open_still s =
+  stop_sends : (reads : Bool) (before : ℕ) (a : Shown) (stream : ℕ) → stream < 2 ^ 16
+      → (if reads then eased before (stopped_open a stream) else a).lost ≡ false
+      → KeepsSending a (if reads then eased before (stopped_open a stream) else a)
+  stop_sends true before a stream l open_still s =
       let b : Shown = stopped_open a stream in
-      relieved_sends b open_still
+      eased_sends before b open_still
       (by_keeping a b (stopping_keeps initial id c (is_retiring a.resets stream) a stream l) s)
-  stop_sends false a stream l open_still s = s
+  stop_sends false before a stream l open_still s = s
 
   close_if : (closed : Bool) (a : Shown) (reason : AssociationError)
       → (if closed then a else closed_open a reason).lost ≡ false
@@ -380,7 +392,7 @@ module _ (initial id : ℕ) (h : History) (c : Course) where
   pub stopped_sends : (a : Shown) (stream : ℕ) → stream < 2 ^ 16 → (stopped a stream).lost ≡ false
       → Sends initial id a h c → Sends initial id (stopped a stream) h c
   stopped_sends a stream l open_still s =
-      stop_sends (holds_of (λ s. is_read_half_open s.halves) a stream) a stream l open_still s
+      stop_sends (holds_of (λ s. is_read_half_open s.halves) a stream) (credit_in a) a stream l open_still s
 
   -- the retransmission timer expired, and what is in flight is marked
   marked_sends : (a : Shown) (now : ℕ) → KeepsSending a (retransmits (t3_expired a now) now)

@@ -41,9 +41,9 @@ use Rattle.sctp_assoc.specs.declared.inbound.Flow.{Flow}
 use Rattle.sctp_assoc.specs.declared.inbound.Flow.TheVariants as flows
 use Rattle.sctp_assoc.specs.Calls.{is_beginning, is_cookie_echoed, is_cookie_wait, is_established, sends_data}
 use Rattle.sctp_assoc.specs.Chunks.{asks, asks_or_faults, checked_first, counted_data, counted_sack, deferred_unless}
-use Rattle.sctp_assoc.specs.Chunks.{deferred_where_admitted, dispatched, on_chunk, on_counted_sack, on_data}
-use Rattle.sctp_assoc.specs.Chunks.{on_new_data, on_sack, stream_found, taken_in, taken_unless, taken_where_admitted}
-use Rattle.sctp_assoc.specs.Chunks.{then_skips, told, with_message}
+use Rattle.sctp_assoc.specs.Chunks.{deferred_where_admitted, dispatched, goes_unread, left_or_handed_over, on_chunk}
+use Rattle.sctp_assoc.specs.Chunks.{on_counted_sack, on_data, on_new_data, on_sack, stream_found, taken_in}
+use Rattle.sctp_assoc.specs.Chunks.{taken_unless, taken_where_admitted, then_skips, told, with_message}
 use Rattle.sctp_assoc.specs.Closing.{is_exhausted}
 use Rattle.sctp_assoc.specs.Handshake.{cookie_queued, echoed, information_returned, learned_back, on_cookie_ack}
 use Rattle.sctp_assoc.specs.Handshake.{on_cookie_echo, on_heartbeat, on_init, on_init_ack, sends_cookie}
@@ -154,11 +154,15 @@ module _ (initial id : ℕ) (c : Course) where
   taken_unless_keeps (Some fault) a piece = λ x. x
   taken_unless_keeps None a piece = message_keeps a piece (pushed_in a.streams piece.stream_identifier piece)
 
-  taken_keeps : (a : Shown) (piece : ChunkPayloadData) → Keeps a (taken_in a piece).0
-  unfolding taken_in
-  taken_keeps a piece =
+  left_keeps : (left : Bool) (a : Shown) (piece : ChunkPayloadData) → Keeps a (left_or_handed_over left a piece).0
+  left_keeps true a piece = λ x. x
+  left_keeps false a piece =
       taken_unless_keeps (refusal_in a.streams piece.stream_identifier piece a.receiver.max_receive_message_size) a
       piece
+
+  taken_keeps : (a : Shown) (piece : ChunkPayloadData) → Keeps a (taken_in a piece).0
+  unfolding taken_in
+  taken_keeps a piece = left_keeps (goes_unread a piece) a piece
 
   then_skips_keeps : (x : Shown × Option Error) (stream : ℕ) → Keeps x.0 (then_skips x stream).0
   then_skips_keeps (a, None) stream = skipping_keeps stream a

@@ -1,21 +1,26 @@
 -- A call that brings no packet leaves the stage of a side's handshake, or nothing is left of the side.
-use Rattle.std.proofs.Common.{◌≡◌, refl, sym, ap, ◌∙◌, subst, ◌⊎◌, ⊎_elim, inl, inr, ℕ, Bool, true, false, ◌||◌, Option, None}
+use Rattle.std.proofs.Common.{◌≡◌, refl, sym, ap, ◌∙◌, subst, ◌⊎◌, ⊎_elim, inl, inr, ℕ, Bool, true, false, ◌||◌, Option}
+use Rattle.std.proofs.Common.{if◌then◌else◌, Some, None}
 use Rattle.std.proofs.lemmas.Bool.{cases_Bool, true≢false}
 use Rattle.sctp_wire.specs.declared.packet.Packet.{Packet}
 use Rattle.sctp_parts.specs.declared.state.AssociationState.{AssociationState}
+use Rattle.sctp_receive_queues.specs.Messages.{ReceivedMessage}
 use Rattle.sctp_streams.specs.declared.event.AssociationError.{AssociationError}
 use Rattle.sctp_streams.specs.declared.event.AssociationError.TheVariants as reasons
 use Rattle.sctp_streams.specs.declared.setting.Setting.TheVariants as settings
-use Rattle.sctp_assoc.specs.Calls.{adjusted, event_polled, read_exhausts, read_from_stream, stopped, stopped_open}
+use Rattle.sctp_streams.specs.Stream.{is_read_half_open}
+use Rattle.sctp_streams.specs.Streams.{StreamMap, read_in}
+use Rattle.sctp_assoc.specs.Calls.{adjusted, after_read, credit_in, drained_behind, eased, event_polled, holds_of}
+use Rattle.sctp_assoc.specs.Calls.{read_from_stream, stopped, stopped_open, tells_window, told_if}
 use Rattle.sctp_assoc.specs.Chunks.{after_packet}
-use Rattle.sctp_assoc.specs.Closing.{closed_by, exhausted, is_closed_state}
+use Rattle.sctp_assoc.specs.Closing.{closed_by, exhausted, is_closed_state, is_exhausted}
 use Rattle.sctp_assoc.specs.Gather.{open_polled, polled}
 use Rattle.sctp_assoc.specs.Shown.{Shown}
 use Rattle.sctp_assoc.specs.Shutdown.{completes_shutdown}
 use Rattle.sctp_sides.specs.Laws.{closes}
 use Rattle.sctp_sides.specs.Meeting.{IsAsFarOn, Stage}
 use Rattle.sctp_sides.specs.OneSide.{Call, call_refusal, carried_out}
-use Rattle.sctp_sides.specs.SideLaws.{IsSameStatus, KeepsTheStage, with_read}
+use Rattle.sctp_sides.specs.SideLaws.{IsSameStatus, KeepsTheStage}
 use Rattle.sctp_sides.proofs.ClosingPackets.{faults_alone_close}
 use Rattle.sctp_sides.proofs.EndedPolls.{by_poll_end}
 use Rattle.sctp_sides.proofs.Proved.{accepted_streams_keep_the_status, endpoint_events_keep_the_status}
@@ -24,10 +29,11 @@ use Rattle.sctp_sides.proofs.Proved.{opened_streams_keep_the_status, polls_keep_
 use Rattle.sctp_sides.proofs.Proved.{settings_keep_the_status, shutdowns_keep_the_stage, stops_keep_the_status}
 use Rattle.sctp_sides.proofs.Proved.{the_same_handshake_is_the_same_stage, the_same_status_is_the_same_stage}
 use Rattle.sctp_sides.proofs.Proved.{timers_keep_the_status, told_events_keep_the_status, writes_keep_the_status}
+use Rattle.sctp_sides.proofs.Status.{status_by}
 use Rattle.sctp_course_sides.specs.Meets.{IsAtStage}
 use Rattle.sctp_course_sides.specs.Over.{IsOver}
 use Rattle.sctp_course_sides.proofs.BecomesOver.{closed_over, ended_over, exhausted_over, packet_over}
-use Rattle.sctp_course_sides.proofs.OverSides.{told_left}
+use Rattle.sctp_course_sides.proofs.OverSides.{closed_tells_nothing, told_left}
 use Rattle.sctp_course_sides.proofs.TruthInCalls.{BringsNoPacket}
 
 -- nothing is left, or the stage is
@@ -77,34 +83,51 @@ close_ends : (closed : Bool) (a : Shown) (reason : AssociationError) → is_clos
 close_ends true a reason e = subst (EndsOrKeeps a) (sym ((faults_close a reason).stays e)) (keeps a a (same_status a))
 close_ends false a reason e = inl (closed_over a reason e)
 
-exhausted_ends : (closed : Bool) (a b : Shown) → is_closed_state b.state ≡ closed → IsSameStatus a b
-    → EndsOrKeeps a (exhausted b)
-exhausted_ends true a b e same =
-    keeps a (exhausted b) (status_then a b (exhausted b) same ((exhaustion_closes b).stays e).1)
-exhausted_ends false a b e same = inl (exhausted_over b e)
+-- an exhausted receive buffer closes an open side, and no window is told then
+exhausted_ends : (closed : Bool) (before : ℕ) (a b : Shown) → is_closed_state b.state ≡ closed → IsSameStatus a b
+    → EndsOrKeeps a (told_if (tells_window before (exhausted b)) (exhausted b))
+exhausted_ends true before a b e same =
+    let stays : IsSameStatus b (exhausted b) = ((exhaustion_closes b).stays e).1 in
+    subst (EndsOrKeeps a) (sym (closed_tells_nothing before (exhausted b) (ap is_closed_state stays.state ∙ e)))
+    (keeps a (exhausted b) (status_then a b (exhausted b) same stays))
+exhausted_ends false before a b e same =
+    let over : IsOver (exhausted b) = exhausted_over b e in
+    inl (subst IsOver (sym (closed_tells_nothing before (exhausted b) over.closed)) over)
+
+-- a window that opened may be told
+window_status : (tells : Bool) (a b : Shown) → IsSameStatus a b → IsSameStatus a (told_if tells b)
+window_status true a b same =
+    let c : Shown = told_if true b in
+    status_then a b c same (status_by b c refl refl refl refl refl refl refl)
+window_status false a b same = same
+
+eased_ends_if : (exhausts : Bool) (before : ℕ) (a b : Shown) → IsSameStatus a b
+    → EndsOrKeeps a
+    (told_if (tells_window before (if exhausts then exhausted b else b)) (if exhausts then exhausted b else b))
+eased_ends_if true before a b same = exhausted_ends (is_closed_state b.state) before a b refl same
+eased_ends_if false before a b same =
+    keeps a (told_if (tells_window before b) b) (window_status (tells_window before b) a b same)
+
+eased_ends : (before : ℕ) (a b : Shown) → IsSameStatus a b → EndsOrKeeps a (eased before b)
+eased_ends before a b same = eased_ends_if (is_exhausted b) before a b same
+
+after_read_ends : (x : StreamMap × Option ReceivedMessage) (a : Shown) (id : ℕ)
+    → IsSameStatus a (drained_behind a id x.0) → EndsOrKeeps a (after_read a id x).0
+after_read_ends (streams, None) a id same = keeps a (drained_behind a id streams) same
+after_read_ends (streams, Some message) a id same = eased_ends (credit_in a) a (drained_behind a id streams) same
 
 read_ends : (a : Shown) (id : ℕ) → EndsOrKeeps a (read_from_stream a id).0
-read_ends a id =
-    let reads = reads_keep_the_status a id in
-    let b : Shown = with_read a id in
-    ⊎_elim
-    (λ (t : read_exhausts a id ≡ true).
-    subst (EndsOrKeeps a) (sym (reads.exhausts t)) (exhausted_ends (is_closed_state b.state) a b refl reads.same))
-    (λ (f : read_exhausts a id ≡ false). subst (EndsOrKeeps a) (sym (reads.plainly f)) (keeps a b reads.same))
-    (cases_Bool (read_exhausts a id))
+read_ends a id = after_read_ends (read_in a.streams id) a id (reads_keep_the_status a id).same
+
+stop_ends_if : (reads : Bool) (before : ℕ) (a b : Shown) → IsSameStatus a b
+    → EndsOrKeeps a (if reads then eased before b else a)
+stop_ends_if true before a b same = eased_ends before a b same
+stop_ends_if false before a b same = keeps a a (same_status a)
 
 stop_ends : (a : Shown) (id : ℕ) → EndsOrKeeps a (stopped a id)
 stop_ends a id =
-    let stops = stops_keep_the_status a id in
-    let b : Shown = stopped_open a id in
-    ⊎_elim
-    (λ (same : stopped a id ≡ a). subst (EndsOrKeeps a) (sym same) (keeps a a (same_status a)))
-    (λ (r : (stopped a id ≡ b) ⊎ (stopped a id ≡ exhausted b)). ⊎_elim
-    (λ (plain : stopped a id ≡ b). subst (EndsOrKeeps a) (sym plain) (keeps a b stops.same))
-    (λ (over : stopped a id ≡ exhausted b).
-    subst (EndsOrKeeps a) (sym over) (exhausted_ends (is_closed_state b.state) a b refl stops.same))
-    r)
-    stops.either
+    stop_ends_if (holds_of (λ s. is_read_half_open s.halves) a id) (credit_in a) a (stopped_open a id)
+    (stops_keep_the_status a id).same
 
 poll_ends : (a : Shown) (now : ℕ) → EndsOrKeeps a (polled a now).0
 poll_ends a now = ⊎_elim

@@ -1,4 +1,5 @@
--- New DATA goes on the course as the side takes it in: to its stream, or with what waits for a later generation.
+-- New DATA goes on the course as the side takes it in: to its stream, or with what waits for a later generation. DATA
+-- that nobody reads is taken in there all the same.
 use Rattle.std.proofs.Common.{◌≡◌, refl, sym, ◌∙◌, subst, ℕ, ◌<◌, Bool, true, false, not, ◌&&◌}
 use Rattle.std.proofs.Common.{eqb, if◌then◌else◌, is_some, List, [], ◌∷◌, length, Option, Some, None, arith}
 use Rattle.std.proofs.lemmas.Bool.{eqb-false, eqb-true, or_parts, or_right}
@@ -19,7 +20,7 @@ use Rattle.sctp_reset_fit.specs.Keeping.{GoesOn, GoesOnBeside, IsAsFar, StandsBe
 use Rattle.sctp_reset_fit.specs.Laws.{LeadsOn, Stands}
 use Rattle.sctp_reset_fit.specs.Stands.{IsNear, IsReadOn, LiveAs, MarksAs, offset_of}
 use Rattle.sctp_reset_fit.proofs.Keeping.{beside_keeps, far_of, goes_by, goes_kept, goes_nowhere, goes_of, goes_on}
-use Rattle.sctp_reset_fit.proofs.Proved.{later_data_waits, new_data_is_taken}
+use Rattle.sctp_reset_fit.proofs.Proved.{later_data_waits, left_data_is_taken, new_data_is_taken}
 use Rattle.sctp_reset_fit.proofs.Streams.{deferred_elsewhere_keeps, pushed_elsewhere_keeps}
 
 -- The course goes on where an offset was taken in, or nothing was.
@@ -170,6 +171,25 @@ module _ (P : ChunkPayloadData → Type 0) (initial : ℕ) (piece : ChunkPayload
       m (pushed_in m piece.stream_identifier piece).0 c h refl (takes_by (offset_of initial piece.tsn) c)
       (goes_by c (Event.Takes (offset_of initial piece.tsn)) refl) l (λ some. absurd (some unmarked)))
 
+  -- of that generation, where it does not go to its stream: that stays as it was
+  leaves_here : StandsBeside P initial piece.stream_identifier r m c → is_new c (offset_of initial piece.tsn) ≡ true
+      → is_hidden r piece.stream_identifier piece.tsn ≡ false
+      → (o : Option StreamView) → stream_at m piece.stream_identifier ≡ o
+      → TakesOn P initial piece.stream_identifier (offset_of initial piece.tsn) r m c
+  leaves_here h new out None is =
+      takes_nothing P initial piece.stream_identifier (offset_of initial piece.tsn) r m c h
+  leaves_here h new out (Some t) is =
+      let l : LeadsOn P initial piece.stream_identifier r.generations m r.peer.in_progress
+      (happens c (Event.Takes (offset_of initial piece.tsn))) =
+      left_data_is_taken P initial piece t r.generations m r.peer.in_progress c h.kept h.stands near is new out in
+      let none : boundaries_at r.generations.retiring piece.stream_identifier ≡ None =
+      none_of (boundaries_at r.generations.retiring piece.stream_identifier)
+      (or_parts (retires r.generations piece.stream_identifier) _ out).0 in
+      let unmarked : l.after.marks ≡ [] = subst (λ x. MarksAs initial x l.after.marks) none l.stands.marks in
+      led P initial piece.stream_identifier (offset_of initial piece.tsn) (Event.Takes (offset_of initial piece.tsn)) r
+      r m m c h refl (takes_by (offset_of initial piece.tsn) c)
+      (goes_by c (Event.Takes (offset_of initial piece.tsn)) refl) l (λ some. absurd (some unmarked))
+
   -- of a later one
   waits_here : StandsBeside P initial piece.stream_identifier r m c → is_new c (offset_of initial piece.tsn) ≡ true
       → is_hidden r piece.stream_identifier piece.tsn ≡ true
@@ -206,6 +226,21 @@ module _ (P : ChunkPayloadData → Type 0) (initial : ℕ) (piece : ChunkPayload
           takes_beside P initial id (offset_of initial piece.tsn) r (pushed_in m piece.stream_identifier piece).0 c
           (beside_keeps P initial id r r m (pushed_in m piece.stream_identifier piece).0 c
           (pushed_elsewhere_keeps P initial id r m piece (eqb-false piece.stream_identifier id e)) refl h).0
+
+  pub leaves_on : (id : ℕ) → StandsBeside P initial id r m c
+      → (piece.stream_identifier ≡ id → is_new c (offset_of initial piece.tsn) ≡ true)
+      → is_hidden r piece.stream_identifier piece.tsn ≡ false
+      → TakesOn P initial id (offset_of initial piece.tsn) r m c
+  leaves_on id h new out = by (eqb piece.stream_identifier id) refl
+    where
+      by : (b : Bool) → eqb piece.stream_identifier id ≡ b
+          → TakesOn P initial id (offset_of initial piece.tsn) r m c
+      by true e =
+          let same : piece.stream_identifier ≡ id = eqb-true piece.stream_identifier id e in
+          subst (λ i. TakesOn P initial i (offset_of initial piece.tsn) r m c) same
+          (leaves_here (subst (λ i. StandsBeside P initial i r m c) (sym same) h) (new same) out
+          (stream_at m piece.stream_identifier) refl)
+      by false e = takes_nothing P initial id (offset_of initial piece.tsn) r m c h
 
   pub waits_on : (id : ℕ) → StandsBeside P initial id r m c
       → (piece.stream_identifier ≡ id → is_new c (offset_of initial piece.tsn) ≡ true)

@@ -5,16 +5,18 @@ use Rattle.std.specs.List.{AllByRecursion}
 use Rattle.sctp_model.proofs.Lists.{all_push, all_weaker}
 use Rattle.sctp_wire_types.specs.declared.chunk.Chunk.{Chunk}
 use Rattle.sctp_wire_types.specs.declared.chunk.Chunk.TheVariants as chunks
+use Rattle.sctp_wire_types.specs.declared.packet.CommonHeader.{CommonHeader}
 use Rattle.sctp_wire_types.specs.declared.param.Param.{Param}
 use Rattle.sctp_wire_types.specs.declared.param.Param.TheVariants as params
 use Rattle.sctp_wire_types.specs.declared.param.ReconfigResult.{ReconfigResult}
+use Rattle.sctp_inbound.specs.Handshake.{header_of}
 use Rattle.sctp_reset_requests.specs.declared.own_request.OwnRequest.{OwnRequest}
 use Rattle.sctp_reset_requests.specs.Own.{OwnView, open_with}
 use Rattle.sctp_resets.specs.Resets.{Beside, Resetting}
 use Rattle.sctp_courses.specs.Course.{Course}
 use Rattle.sctp_assoc.specs.declared.control.Control.{Control}
 use Rattle.sctp_assoc.specs.declared.control.Control.TheVariants as controls
-use Rattle.sctp_assoc.specs.Control.{asking, queued}
+use Rattle.sctp_assoc.specs.Control.{asking, queued, queued_under}
 use Rattle.sctp_assoc.specs.Resets.{asking_if, responding, with_beside, with_resetting}
 use Rattle.sctp_assoc.specs.Shown.{Shown}
 use Rattle.sctp_course_sides.specs.Answers.{AnswersTruly, ChunkIsTrue, ControlIsTrue, IsOfPerformed, ParamIsTrue}
@@ -95,10 +97,15 @@ module _ (initial : ℕ) (d : Course) where
       → AllByRecursion (ControlIsTrue initial d) cs → AllByRecursion (ControlIsTrue initial d) (cs ++ one ∷ [])
   one_more_truly cs one h each = all_push (ControlIsTrue initial d) cs one each h
 
-  -- one packet more waits
+  -- one packet more waits, under whatever header
+  pub queued_under_truly : (header : CommonHeader) (a : Shown) (chunk : Chunk) → ChunkIsTrue initial d chunk
+      → AnswersTruly initial a d → AnswersTruly initial (queued_under header a chunk) d
+  queued_under_truly header a chunk h w =
+      record { own = w.own; control = one_more_truly a.control _ h w.control }
+
   pub queued_truly : (a : Shown) (chunk : Chunk) → ChunkIsTrue initial d chunk → AnswersTruly initial a d
       → AnswersTruly initial (queued a chunk) d
-  queued_truly a chunk h w = record { own = w.own; control = one_more_truly a.control _ h w.control }
+  queued_truly a chunk h w = queued_under_truly (header_of a.handshake) a chunk h w
 
   -- the response to a request does
   pub responding_truly : (a : Shown) (number : ℕ) (result : ReconfigResult)

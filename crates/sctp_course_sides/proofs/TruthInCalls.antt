@@ -19,6 +19,7 @@ use Rattle.sctp_streams.specs.Streams.{StreamMap, stream_at, read_in}
 use Rattle.sctp_assoc.specs.Closing.{is_exhausted, closed_by, exhausted, is_closed_state, out_of_resource, relieved}
 use Rattle.std.specs.Prelude.{⊤, remove, slice_get}
 use Rattle.sctp_streams.specs.declared.event.Event.{Event}
+use Rattle.sctp_wire_types.specs.Config.{is_rfc}
 use Rattle.sctp_wire_types.specs.declared.error.Error.TheVariants as errors
 use Rattle.sctp_wire_types.specs.declared.ids.PayloadProtocolIdentifier.{PayloadProtocolIdentifier}
 use Rattle.sctp_parts.specs.declared.timer.Timer.TheVariants as names
@@ -28,10 +29,12 @@ use Rattle.sctp_streams.specs.declared.event.AssociationError.{AssociationError}
 use Rattle.sctp_streams.specs.declared.event.AssociationError.TheVariants as reasons
 use Rattle.sctp_streams.specs.Stream.{StreamView, is_read_half_open}
 use Rattle.sctp_inbound.specs.declared.handshake.Offer.{Offer}
+use Rattle.sctp_inbound.specs.Handshake.{header_of}
 use Rattle.sctp_resets.specs.Channels.{channels}
 use Rattle.sctp_assoc.specs.Calls.{accepted_from, after_ack_delay, after_read, after_t3, drained_behind, event_from}
 use Rattle.sctp_assoc.specs.Calls.{holds_of, retransmits, stopped_open, t3_expired, without_read_half_of, written_at}
-use Rattle.sctp_assoc.specs.Calls.{adjusted, stopped}
+use Rattle.sctp_assoc.specs.Calls.{adjusted, credit_in, eased, stopped, tells_window, told_if, unread_dropped}
+use Rattle.sctp_assoc.specs.Control.{untagged}
 use Rattle.sctp_assoc.specs.Handshake.{after_t1_cookie, after_t1_init, cookie_queued, init_queued, sends_cookie}
 use Rattle.sctp_assoc.specs.Handshake.{sends_init, t1_cookie_expired, t1_init_expired}
 use Rattle.sctp_assoc.specs.Shutdown.{after_t2_shutdown, shutdown_begun, endpoint_event_polled}
@@ -42,7 +45,7 @@ use Rattle.sctp_resets.specs.Telling.{next_told}
 use Rattle.sctp_assoc.specs.Timeouts.{after_timeouts}
 use Rattle.sctp_sides.specs.OneSide.{Call, carried_out, with_told}
 use Rattle.sctp_course_sides.proofs.TruthInPolls.{SpeaksTruly, speaks_with, speaks_by, queued_speaks}
-use Rattle.sctp_course_sides.proofs.TruthInPolls.{closed_if_speaks, poll_speaks}
+use Rattle.sctp_course_sides.proofs.TruthInPolls.{closed_if_speaks, poll_speaks, queued_under_speaks}
 
 -- a call brings no packet
 abbrev pub BringsNoPacket : Call → Type 0
@@ -110,6 +113,15 @@ module _ (initial : ℕ) (c : Course) where
   relieved_speaks : (a : Shown) → On a (relieved a)
   relieved_speaks a = relieved_speaks_if (is_exhausted a) a
 
+  -- a window that opened may be told
+  eased_speaks_if : (tells : Bool) (a : Shown) → On a (told_if tells a)
+  eased_speaks_if true a h = leaves a (told_if true a) refl refl refl h
+  eased_speaks_if false a h = h
+
+  eased_speaks : (before : ℕ) (a : Shown) → On a (eased before a)
+  eased_speaks before a h =
+      eased_speaks_if (tells_window before (relieved a)) (relieved a) (relieved_speaks a h)
+
   -- Calls of the application
 
   written_speaks : (o : Option StreamView) (a : Shown) (id : ℕ) (named : Option PayloadProtocolIdentifier)
@@ -146,32 +158,33 @@ module _ (initial : ℕ) (c : Course) where
   read_speaks : (a : Shown) (id : ℕ) (x : StreamMap × Option ReceivedMessage) → On a (after_read a id x).0
   read_speaks a id (streams, None) h = drained_speaks a id streams h
   read_speaks a id (streams, Some message) h =
-      relieved_speaks (drained_behind a id streams) (drained_speaks a id streams h)
+      eased_speaks (credit_in a) (drained_behind a id streams) (drained_speaks a id streams h)
 
   stopped_open_speaks : (retires : Bool) (a : Shown) (id : ℕ)
       → On a
       (let b = without_read_half_of a id in
       if retires then with_beside b (stopped_reading id b.resets b.streams b.events) else
-      record b { resets = waiting_for b.resets id })
+      record b { streams = unread_dropped (is_rfc b.profile) b.streams id; resets = waiting_for b.resets id })
   stopped_open_speaks true a id h =
       let b : Shown = without_read_half_of a id in
       beside_speaks b (stopped_reading id b.resets b.streams b.events) (dropped_own _ _ id _ _)
       (leaves a b refl refl refl h)
   stopped_open_speaks false a id h = speaks_with initial c a _ h.truth.own refl refl h
 
-  stop_speaks : (reads : Bool) (a : Shown) (id : ℕ) → On a (if reads then relieved (stopped_open a id) else a)
-  stop_speaks true a id h =
-      relieved_speaks (stopped_open a id) (stopped_open_speaks (is_retiring a.resets id) a id h)
-  stop_speaks false a id h = h
+  stop_speaks : (reads : Bool) (before : ℕ) (a : Shown) (id : ℕ)
+      → On a (if reads then eased before (stopped_open a id) else a)
+  stop_speaks true before a id h =
+      eased_speaks before (stopped_open a id) (stopped_open_speaks (is_retiring a.resets id) a id h)
+  stop_speaks false before a id h = h
 
   stopped_speaks : (a : Shown) (id : ℕ) → On a (stopped a id)
-  stopped_speaks a id = stop_speaks (holds_of (λ s. is_read_half_open s.halves) a id) a id
+  stopped_speaks a id = stop_speaks (holds_of (λ s. is_read_half_open s.halves) a id) (credit_in a) a id
 
   -- Timers
 
   offered_speaks : (o : Option Offer) (a : Shown) → On a (init_queued o a)
   offered_speaks None a h = h
-  offered_speaks (Some offer) a h = queued_speaks initial c a _ tt h
+  offered_speaks (Some offer) a h = queued_under_speaks initial c (untagged (header_of a.handshake)) a _ tt h
 
   offer_speaks : (a : Shown) (now : ℕ) → On a (sends_init a now)
   unfolding sends_init

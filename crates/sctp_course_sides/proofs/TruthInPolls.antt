@@ -3,11 +3,12 @@
 use Rattle.std.proofs.Common.{◌≡◌, refl, sym, subst, ℕ, Bool, true, false, List, [], ◌∷◌, Option, Some, None, length}
 use Rattle.std.proofs.Common.{if◌then◌else◌, ◌==◌, ◌-◌, fold}
 use Rattle.sctp_wire_types.specs.declared.chunk.Chunk.{Chunk}
+use Rattle.sctp_wire_types.specs.declared.packet.CommonHeader.{CommonHeader}
 use Rattle.sctp_reset_requests.specs.Own.{OwnView, asked, repeated, sent_first}
 use Rattle.sctp_courses.specs.Course.{Course}
 use Rattle.sctp_assoc.specs.declared.control.Control.{Control}
 use Rattle.sctp_assoc.specs.declared.control.Control.TheVariants as controls
-use Rattle.sctp_assoc.specs.Control.{asking, queued}
+use Rattle.sctp_assoc.specs.Control.{asking, queued, queued_under}
 use Rattle.sctp_assoc.specs.Resets.{asking_if, with_reconfig_run}
 use Rattle.sctp_assoc.specs.Shown.{Shown}
 use Rattle.sctp_course_sides.specs.Answers.{AnswersTruly, ChunkIsTrue, ControlIsTrue, IsOfPerformed}
@@ -16,7 +17,7 @@ use Rattle.sctp_wire_types.specs.declared.param.ParamOutgoingResetRequest.{Param
 use Rattle.sctp_reset_requests.specs.Peer.{PeerView}
 use Rattle.sctp_wire_types.specs.declared.chunk.ChunkPayloadData.{ChunkPayloadData}
 use Rattle.sctp_assoc.specs.Calls.{is_established, exchanges_data}
-use Rattle.sctp_course_sides.proofs.TruthBeside.{queued_truly, asking_truly, own_answers}
+use Rattle.sctp_course_sides.proofs.TruthBeside.{queued_under_truly, asking_truly, own_answers}
 use Rattle.sctp_wire.specs.DataPackets.{datagrams_of}
 use Rattle.sctp_parts.specs.declared.timer.Timer.TheVariants as names
 use Rattle.sctp_parts.specs.Timers.{started}
@@ -64,8 +65,13 @@ module _ (initial : ℕ) (c : Course) where
       control
       h
 
+  pub queued_under_speaks : (header : CommonHeader) (a : Shown) (chunk : Chunk) → ChunkIsTrue initial c chunk
+      → SpeaksOn a (queued_under header a chunk)
+  queued_under_speaks header a chunk t h =
+      record { truth = queued_under_truly initial c header a chunk t h.truth; last = h.last }
+
   pub queued_speaks : (a : Shown) (chunk : Chunk) → ChunkIsTrue initial c chunk → SpeaksOn a (queued a chunk)
-  queued_speaks a chunk t h = record { truth = queued_truly initial c a chunk t h.truth; last = h.last }
+  queued_speaks a chunk t h = queued_under_speaks (header_of a.handshake) a chunk t h
 
   asking_speaks : (a : Shown) → SpeaksOn a (asking a)
   asking_speaks a h = record { truth = asking_truly initial c a h.truth; last = h.last }

@@ -30,9 +30,9 @@ use Rattle.sctp_resets.specs.Skips as skips
 use Rattle.sctp_courses.specs.Course.{Course}
 use Rattle.sctp_assoc.specs.Calls.{is_beginning, is_cookie_echoed, is_established, sends_data}
 use Rattle.sctp_assoc.specs.Chunks.{asks, asks_or_faults, counted_data, counted_sack, deferred_unless}
-use Rattle.sctp_assoc.specs.Chunks.{deferred_where_admitted, on_counted_sack, on_data, on_new_data, on_sack}
-use Rattle.sctp_assoc.specs.Chunks.{stream_found, taken_in, taken_unless, taken_where_admitted, then_skips, told}
-use Rattle.sctp_assoc.specs.Chunks.{with_message}
+use Rattle.sctp_assoc.specs.Chunks.{deferred_where_admitted, goes_unread, left_or_handed_over, on_counted_sack}
+use Rattle.sctp_assoc.specs.Chunks.{on_data, on_new_data, on_sack, stream_found, taken_in, taken_unless}
+use Rattle.sctp_assoc.specs.Chunks.{taken_where_admitted, then_skips, told, with_message}
 use Rattle.sctp_assoc.specs.Closing.{is_exhausted}
 use Rattle.sctp_assoc.specs.Control.{queued}
 use Rattle.sctp_assoc.specs.Handshake.{connected, information_returned, on_cookie_ack, on_cookie_echo, on_heartbeat}
@@ -246,11 +246,16 @@ module _ (initial : ℕ) (d : Course) where
   taken_unless_stays (Some fault) a piece = same a
   taken_unless_stays None a piece = message_stays a piece (pushed_in a.streams piece.stream_identifier piece)
 
-  pub taken_stays : (a : Shown) (piece : ChunkPayloadData) → Stays a (taken_in a piece).0
-  unfolding taken_in
-  taken_stays a piece =
+  pub left_stays : (left : Bool) (a : Shown) (piece : ChunkPayloadData)
+      → Stays a (left_or_handed_over left a piece).0
+  left_stays true a piece = stays_by a _ refl refl refl
+  left_stays false a piece =
       taken_unless_stays (refusal_in a.streams piece.stream_identifier piece a.receiver.max_receive_message_size) a
       piece
+
+  pub taken_stays : (a : Shown) (piece : ChunkPayloadData) → Stays a (taken_in a piece).0
+  unfolding taken_in
+  taken_stays a piece = left_stays (goes_unread a piece) a piece
 
   pub then_skips_stays : (x : Shown × Option Error) (id : ℕ) → Stays x.0 (then_skips x id).0
   then_skips_stays (a, None) id = skipping_stays id a

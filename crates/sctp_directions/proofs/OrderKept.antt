@@ -162,7 +162,7 @@ setting_leaves settings.WriteHalfClosed id s others is t = refl
 
 module _ (P : StreamView → Type 0) (s id : ℕ) (x : StreamView) (holds : P x) where
   -- P holds of the stream that is found under the identifier s
-  abbrev Found : List (ℕ × StreamView) → Type 0
+  abbrev pub Found : List (ℕ × StreamView) → Type 0
   Found es = (t : StreamView) → lookup (is_at (nat_cmp s)) es ≡ Some t → P t
 
   -- so it does of the first one, if that is found, and else of the one that is found behind it
@@ -197,7 +197,7 @@ module _ (P : StreamView → Type 0) (s id : ℕ) (x : StreamView) (holds : P x)
   insert_step Greater e es rest all behind = found_either e.0 e.1 rest (first_found e es all) behind
 
   -- and once it was put into the entries
-  insert_found : (es : List (ℕ × StreamView)) → Found es → Found (insert_entry nat_cmp es id x)
+  pub insert_found : (es : List (ℕ × StreamView)) → Found es → Found (insert_entry nat_cmp es id x)
   insert_found [] all = found_either id x [] (λ b. holds) (λ b. all)
   insert_found (e ∷ es) all =
       insert_step (nat_cmp id e.0) e es (insert_entry nat_cmp es id x) all

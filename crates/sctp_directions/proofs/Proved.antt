@@ -8,6 +8,8 @@ pub use Rattle.sctp_directions.proofs.OutgoingAbandoned.{its_starts_are_no_event
 pub use Rattle.sctp_directions.proofs.OutgoingForward.{forwards_pass_over_the_front, its_forwards_say_the_same}
 pub use Rattle.sctp_directions.proofs.OutgoingBeside.{settings_are_no_events, what_comes_leaves_its_own}
 pub use Rattle.sctp_directions.proofs.OrderKept.{only_settings_loosen}
+pub use Rattle.sctp_directions.proofs.ReadsKept.{acts_keep_reads, only_ends_close_reads, own_acts_end_no_span}
+pub use Rattle.sctp_directions.proofs.ReadsKept.{what_comes_ends_no_span}
 pub use Rattle.sctp_directions.proofs.IncomingTook.{what_it_defers_comes, what_it_takes_in_comes}
 pub use Rattle.sctp_directions.proofs.IncomingTook.{what_it_takes_in_past_its_span_comes}
 pub use Rattle.sctp_directions.proofs.SpansOver.{its_spans_end, spans_of_what_comes_end}

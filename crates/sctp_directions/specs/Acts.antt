@@ -18,7 +18,8 @@ use Rattle.sctp_outbound_queue.specs.Outbound.{Outbound, abandoned_in_front_of, 
 use Rattle.sctp_outbound_queue.specs.Outbound.{with_missing}
 use Rattle.sctp_streams.specs.declared.setting.Setting.{Setting}
 use Rattle.sctp_streams.specs.declared.setting.Setting.TheVariants as settings
-use Rattle.sctp_streams.specs.Stream.{StreamView, ordered_and_reliable, params_for, stream_skipped, with_setting}
+use Rattle.sctp_streams.specs.Stream.{StreamView, is_read_half_open, ordered_and_reliable, params_for, stream_skipped}
+use Rattle.sctp_streams.specs.Stream.{with_setting}
 use Rattle.sctp_streams.specs.Streams.{StreamMap, changed_stream, made, passed_in, pushed_in, read_in, stream_at}
 use Rattle.sctp_streams.specs.Streams.{without_streams}
 use Rattle.sctp_outbound.specs.Sender.{chunk_of}
@@ -110,7 +111,7 @@ pub data Act : Type 0 where
   Forwarded : Act
   -- this DATA was taken in
   Took : ChunkPayloadData → Act
-  -- this DATA was taken in and is kept apart from its stream
+  -- this DATA was taken in and did not go to its stream: it is kept apart, or nobody reads that stream any more
   Deferred : ChunkPayloadData → Act
   -- a FORWARD TSN passed over all up to this TSN, and on these streams skipped the ordered messages up to these SSNs
   PassedOver : ℕ → List SkippedStream → Act
@@ -353,3 +354,12 @@ abbrev pub SetsReliability : Act → ℕ → Type 0
 SetsReliability (Adjusted id (settings.Reliability params)) s = id ≡ s
 SetsReliability (SpansEnded ids m) s = IsKeptInOrder m s → ⊥
 SetsReliability act s = ⊥
+
+-- the stream of this identifier, if it is live, can be read
+abbrev pub HasReadOpen : StreamMap → ℕ → Type 0
+HasReadOpen m s = (t : StreamView) → stream_at m s ≡ Some t → is_read_half_open t.halves ≡ true
+
+-- this act ends the span of the stream s
+abbrev pub EndsSpanOf : Act → ℕ → Type 0
+EndsSpanOf (SpansEnded ids m) s = mem s ids ≡ true
+EndsSpanOf act s = ⊥

@@ -26,7 +26,8 @@ use Rattle.sctp_fit.specs.Incoming.{FitsIncoming, IsSaid, tsn_before}
 use Rattle.sctp_fit.specs.Outgoing.{CountsBegun, FitsOutgoing}
 use Rattle.sctp_fit.specs.Sendings.{IsGiven}
 use Rattle.sctp_fit.specs.Writes.{message_on}
-use Rattle.sctp_directions.specs.Acts.{Act, Can, IsKeptInOrder, IsOfItsOwn, IsOfWhatComes, IsNotPeerKnown, Parts}
+use Rattle.sctp_directions.specs.Acts.{Act, Can, EndsSpanOf, HasReadOpen, IsKeptInOrder, IsOfItsOwn, IsOfWhatComes}
+use Rattle.sctp_directions.specs.Acts.{IsNotPeerKnown, Parts}
 use Rattle.sctp_directions.specs.Acts.{SetsReliability, data_given, done, done_all, offset_in, reach_in, receiving}
 use Rattle.sctp_directions.specs.Acts.{sending, type_on}
 use Rattle.sctp_directions.specs.Events.{AcceptsAMessage, Assigns, Brings, BringsForward, GivesAMessage}
@@ -206,6 +207,11 @@ ActsKeepTheInitialTsns = (acts : List Act) (p : Parts) → AllByRecursion IsNotP
 abbrev pub OnlySettingsLoosen : Type 0
 OnlySettingsLoosen = (act : Act) (p : Parts) (s : ℕ) → (SetsReliability act s → ⊥) → IsKeptInOrder p.streams s
     → IsKeptInOrder (done act p).streams s
+
+-- Only the end of its span has a stream that can be read be read no more.
+abbrev pub OnlyEndsCloseReads : Type 0
+OnlyEndsCloseReads = (act : Act) (p : Parts) (s : ℕ) → Can act p → (EndsSpanOf act s → ⊥) → HasReadOpen p.streams s
+    → HasReadOpen (done act p).streams s
 
 -- The events
 

@@ -11,7 +11,8 @@ ghost use Rattle.sctp_directions.specs.Laws.{ItsMarksAreNoEvents, ItsPiecesAreGi
 ghost use Rattle.sctp_directions.specs.Laws.{ItsStartsAreNoEvents, SpansOfWhatComesEnd, WhatItDefersComes};
 ghost use Rattle.sctp_directions.specs.Laws.{WhatItTakesInPastItsSpanComes};
 ghost use Rattle.sctp_directions.specs.Laws.{ItsTailsAreAbandonedAlike, ItsWritesAreAccepted, NothingIsAcceptedAtFirst};
-ghost use Rattle.sctp_directions.specs.Laws.{OnlyBeginningsAssign, OnlyForwardMadeGivesForwards, OnlyForwardsPassOver};
+ghost use Rattle.sctp_directions.specs.Laws.{OnlyBeginningsAssign, OnlyEndsCloseReads, OnlyForwardMadeGivesForwards};
+ghost use Rattle.sctp_directions.specs.Laws.{OnlyForwardsPassOver};
 ghost use Rattle.sctp_directions.specs.Laws.{OnlyReadsGiveMessages, OnlySettingsLoosen, OnlyWhatIsBroughtIsTakenIn};
 ghost use Rattle.sctp_directions.specs.Laws.{OnlyWritesAccept, OwnActsLeaveWhatComes, PeerKnownIsNoEvent};
 ghost use Rattle.sctp_directions.specs.Laws.{PiecesAreCounted, ReceiversEventsAreReceived};
@@ -50,12 +51,14 @@ pub fn what_comes_to_it_are_events()
     ensures peer_known { PeerKnownIsNoEvent }
 {}
 
-/// What an act in one direction leaves of the other, what no act changes, and what a setting alone changes.
+/// What an act in one direction leaves of the other, what no act changes, and what a setting or the end of a span alone
+/// changes.
 pub fn acts_leave_the_other_direction()
     ensures own { OwnActsLeaveWhatComes }
     ensures comes { WhatComesLeavesItsOwn }
     ensures initials { ActsKeepTheInitialTsns }
     ensures loose { OnlySettingsLoosen }
+    ensures reads { OnlyEndsCloseReads }
 {}
 
 /// What an event at the sender leaves of a direction, and what it keeps.

@@ -1,5 +1,6 @@
 mod MadeDrivers
 mod NewMessages
 mod PollsAsked
+mod StreamsStopped
 mod TimersMet
 mod Unchanged

@@ -1,6 +1,11 @@
 -- A driver as its contracts see it.
-use Rattle.std.specs.Prelude.{◌≡◌, ℕ, List, []}
+use Rattle.std.specs.Prelude.{◌≡◌, ℕ, ◌==◌, ◌||◌, if◌then◌else◌, List, [], Option, Some, None}
+use Rattle.std.specs.Option.{unwrap_or}
+use Rattle.sctp_wire_types.specs.declared.config.Profile.TheVariants as profiles
+use Rattle.sctp_wire_types.specs.declared.error.Error.{Error}
+use Rattle.sctp_wire_types.specs.declared.error.Error.TheVariants as errors
 use Rattle.sctp_wire_types.specs.declared.ids.PayloadProtocolIdentifier.{PayloadProtocolIdentifier}
+use Rattle.sctp_wire_types.specs.Config.{Settings}
 use Rattle.sctp_assoc.specs.Shown.{HasFailed, Shown, answers_of}
 
 -- a message that was taken out of the association and not read yet: its stream, its payload type (RFC 4960 section
@@ -18,6 +23,18 @@ pub record Driving : Type 0 where
   pub waiting : List (List ℕ)
   -- the messages that wait for a buffer that is long enough, oldest first; of each stream at most the next one
   pub kept : List KeptMessage
+
+-- the configuration of a driver's association: where no profile is named it is that of the RFCs
+abbrev pub by_rfcs : Settings → Settings
+by_rfcs config = record config { profile = Some (unwrap_or config.profile profiles.Rfc) }
+
+-- a retransmission timeout of 0 is refused, as a timer that runs for no time is due again as soon as it expired; the
+-- least one counts from a round trip of 0 ms on
+abbrev pub timeout_refusal : Settings → Option Error
+timeout_refusal config =
+    if (config.rto_initial_ms == 0) || (config.rto_min_ms == 0) || (config.rto_max_ms == 0) then
+    Some errors.ErrBadTimeout
+    else None
 
 -- nothing but the association changed
 abbrev pub with_association : Driving → Shown → Driving

@@ -7,15 +7,16 @@ ghost use Rattle.sctp_parts.specs.State.{is_closing};
 ghost use Rattle.sctp_parts.specs.Timers.{least_moment};
 ghost use Rattle.sctp_streams.specs.Streams.{live_ids};
 ghost use Rattle.sctp_assoc.specs.Calls.{Refuses, RefusesOrLacksMemory, event_polled, failed_refusal};
-ghost use Rattle.sctp_assoc.specs.Calls.{is_established, with_max_send_message_size};
+ghost use Rattle.sctp_assoc.specs.Calls.{first_refusal, is_established, with_max_send_message_size};
 ghost use Rattle.sctp_assoc.specs.Chunks.{after_packet};
-ghost use Rattle.sctp_assoc.specs.Closing.{closed_by, is_closed_state};
+ghost use Rattle.sctp_assoc.specs.Closing.{closed_by, is_closed_state, tells_exhaustion};
 ghost use Rattle.sctp_assoc.specs.Created.{client, create_refusal, created, join_refusal, joined, server};
 ghost use Rattle.sctp_assoc.specs.Gather.{has_something_to_give};
 ghost use Rattle.sctp_assoc.specs.Inbound.{taken_packet};
 ghost use Rattle.sctp_assoc.specs.Shutdown.{endpoint_event_polled, shutdown_begun, shutdown_refusal};
 ghost use Rattle.sctp_assoc.specs.Timeouts.{after_timeouts, timeouts_take_memory};
-ghost use Rattle.sctp_driver.specs.Driving.{RunsOutOfMemory, begun_with, with_association};
+ghost use Rattle.sctp_driver.specs.Driving.{RunsOutOfMemory, begun_with, by_rfcs, timeout_refusal};
+ghost use Rattle.sctp_driver.specs.Driving.{with_association};
 ghost use Rattle.sctp_driver.specs.Sending.{Sends, asked};
 ghost use Rattle.sctp_driver.specs.Tags.{answer_to, begins, judged_packet, packet_in};
 
@@ -26,8 +27,8 @@ use crate::tags::{DatagramAnswer, first_chunk, judge};
 use bytes::Bytes;
 use sctp_assoc::{
     Association, AssociationError, AssociationEvent, AssociationState, AssociationStats, ChunkInit,
-    EndpointEvent, Error, Event, Instant, PartialDecode, Payload, ServerConfig, StreamId, Transmit,
-    TransportConfig,
+    EndpointEvent, Error, Event, Instant, PartialDecode, Payload, Profile, ServerConfig, StreamId,
+    Transmit, TransportConfig,
 };
 use std::alloc::Global;
 use std::collections::VecDeque;
@@ -79,7 +80,11 @@ impl Driver {
     /// is this side's verification tag (a peer refuses 0), `initial_tsn` its first TSN and `cookie` its State Cookie:
     /// nobody else should be able to guess them.
     ///
-    /// Refused, in this order: `ErrBadPayloadSize`, `ErrBadInitialTsn` for the `initial_tsn` 0, `ErrNoMemory`.
+    /// Where the configuration names no profile, the rules of the RFCs are kept.
+    ///
+    /// Refused, in this order: `ErrBadTimeout` where the initial, least or greatest retransmission timeout is 0, with
+    /// which a timer could be due again as soon as it expired; `ErrBadPayloadSize`; `ErrBadInitialTsn` for the
+    /// `initial_tsn` 0; `ErrNoMemory`.
     pub fn client(
         alloc: Global,
         config: &TransportConfig,
@@ -89,14 +94,16 @@ impl Driver {
         cookie: [u8; 32],
         now: u64,
     ) -> Result<Driver, Error>
-        ensures refused { RefusesOrLacksMemory result (create_refusal max_payload_size initial_tsn) }
-        ensures created { IfOk result (λ d. d ≡ begun_with (client config.now max_payload_size local_tag initial_tsn
-            cookie d.association.remote_addr None now) local_tag) }
+        ensures refused { RefusesOrLacksMemory result
+            (first_refusal (timeout_refusal config.now) (create_refusal max_payload_size initial_tsn)) }
+        ensures created { IfOk result (λ d. d ≡ begun_with (client (by_rfcs config.now) max_payload_size local_tag
+            initial_tsn cookie d.association.remote_addr None now) local_tag) }
     {
+        let config = driven(config)?;
         Driver::made(
             alloc,
             None,
-            config,
+            &config,
             max_payload_size,
             local_tag,
             initial_tsn,
@@ -105,9 +112,8 @@ impl Driver {
         )
     }
 
-    /// Makes a server, which waits for an INIT (RFC 4960 section 5.1). The arguments are those of `client`.
-    ///
-    /// Refused, in this order: `ErrBadPayloadSize`, `ErrBadInitialTsn` for the `initial_tsn` 0, `ErrNoMemory`.
+    /// Makes a server, which waits for an INIT (RFC 4960 section 5.1). The arguments are those of `client`, and it is
+    /// refused as that is.
     pub fn server(
         alloc: Global,
         config: &TransportConfig,
@@ -117,15 +123,17 @@ impl Driver {
         cookie: [u8; 32],
         now: u64,
     ) -> Result<Driver, Error>
-        ensures refused { RefusesOrLacksMemory result (create_refusal max_payload_size initial_tsn) }
-        ensures created { IfOk result (λ d. d ≡ begun_with (server config.now max_payload_size local_tag initial_tsn
-            cookie d.association.remote_addr None) local_tag) }
+        ensures refused { RefusesOrLacksMemory result
+            (first_refusal (timeout_refusal config.now) (create_refusal max_payload_size initial_tsn)) }
+        ensures created { IfOk result (λ d. d ≡ begun_with (server (by_rfcs config.now) max_payload_size local_tag
+            initial_tsn cookie d.association.remote_addr None) local_tag) }
     {
+        let config = driven(config)?;
         let of_server = ServerConfig::default();
         Driver::made(
             alloc,
             Some(&of_server),
-            config,
+            &config,
             max_payload_size,
             local_tag,
             initial_tsn,
@@ -165,10 +173,10 @@ impl Driver {
     }
 
     /// Makes a side that is established at once, by the two sides' INIT chunks (tokens), which were exchanged in
-    /// another way. `Event::Connected` waits for `poll_event`. `max_payload_size` is that of `client`.
+    /// another way. `Event::Connected` waits for `poll_event`. `config` and `max_payload_size` are those of `client`.
     ///
-    /// Refused, in this order: `ErrBadPayloadSize`; `ErrBadToken` where a token has an initiate tag 0, a number of
-    /// streams 0 or a window below 1500 bytes (RFC 4960 section 3.3.2); `ErrNoMemory`.
+    /// Refused, in this order: `ErrBadTimeout` as by `client`; `ErrBadPayloadSize`; `ErrBadToken` where a token has an
+    /// initiate tag 0, a number of streams 0 or a window below 1500 bytes (RFC 4960 section 3.3.2); `ErrNoMemory`.
     pub fn joined(
         alloc: Global,
         config: &TransportConfig,
@@ -176,14 +184,15 @@ impl Driver {
         local_token: &ChunkInit,
         remote_token: &ChunkInit,
     ) -> Result<Driver, Error>
-        ensures refused { RefusesOrLacksMemory result
-            (join_refusal max_payload_size local_token.now remote_token.now) }
-        ensures joined { IfOk result (λ d. d ≡ begun_with (joined config.now max_payload_size
+        ensures refused { RefusesOrLacksMemory result (first_refusal (timeout_refusal config.now)
+            (join_refusal max_payload_size local_token.now remote_token.now)) }
+        ensures joined { IfOk result (λ d. d ≡ begun_with (joined (by_rfcs config.now) max_payload_size
             d.association.remote_addr None local_token.now remote_token.now) local_token.now.initiate_tag) }
     {
+        let config = driven(config)?;
         let association = Association::new_with_out_of_band_init(
             alloc,
-            config,
+            &config,
             max_payload_size,
             nowhere(),
             None,
@@ -466,6 +475,14 @@ impl Driver {
         self.association.is_drained()
     }
 
+    /// Whether the newest event that nobody asked for yet tells that the receive buffer was exhausted, which closed the
+    /// association.
+    pub fn tells_exhaustion(&self) -> bool
+        ensures { result ≡ tells_exhaustion self.now.association }
+    {
+        self.association.tells_exhaustion()
+    }
+
     /// Whether an earlier call found no memory in its middle. Then the association is over.
     pub fn is_failed(&self) -> bool
         ensures { result ≡ self.now.association.failed }
@@ -483,6 +500,20 @@ fn begins(association: &Association) -> bool
             association.state(),
             AssociationState::Closed | AssociationState::CookieWait | AssociationState::CookieEchoed
         )
+}
+
+// The configuration of a driver's association: by the rules of the RFCs where it names none. Refused where one of its
+// timeouts is 0.
+fn driven(config: &TransportConfig) -> Result<TransportConfig, Error>
+    ensures refused { Refuses result (timeout_refusal config.now) }
+    ensures chosen { IfOk result (λ chosen. chosen ≡ by_rfcs config.now) }
+{
+    if config.rto_initial_ms() == 0 || config.rto_min_ms() == 0 || config.rto_max_ms() == 0 {
+        return Err(Error::ErrBadTimeout);
+    }
+    let profile = config.profile().unwrap_or(Profile::Rfc);
+    let config = *config;
+    Ok(config.with_profile(Some(profile)))
 }
 
 // An address of the documentation range (RFC 5737), which is never looked at.

@@ -8,9 +8,11 @@
 //! 2. If a datagram came, hand it to `handle_datagram`, which drops what is no packet or not for this association.
 //! 3. Call `poll_event` until it answers None. On `StreamEvent::Readable`, call `read` until it answers `Nothing` or
 //!    the stream is gone. On `StreamEvent::Opened`, call `accept_stream`.
-//! 4. Call `poll_transmit` until it answers `Nothing`, and send each datagram. `poll_transmit` can queue events too,
-//!    since it gives messages up and ends a shutdown; call `poll_event` again after it.
-//! 5. Sleep until the moment that `poll_timeout` answers, or until a datagram comes.
+//! 4. Call `poll_transmit` until it answers `Nothing`, and send each datagram. A read that opens the receive window has
+//!    one to send, too.
+//! 5. `poll_transmit` can queue events, since it gives messages up and ends a shutdown. If one waits now, go back to
+//!    step 3.
+//! 6. Sleep until the moment that `poll_timeout` answers, or until a datagram comes.
 //!
 //! A stream ends when either side stops or closes it (`stop`, `close_stream`). Both sides are told, and can then open
 //! it anew.
@@ -37,8 +39,8 @@ pub use messages::ReadAnswer;
 pub use paths::Path;
 pub use sctp_assoc::{
     AssociationError, AssociationStats, ChunkInit, DataChannelStats, EndpointEvent, Error, Event,
-    PayloadProtocolIdentifier, ReliabilityType, StreamEvent, StreamResetError, TransportConfig,
-    token,
+    PayloadProtocolIdentifier, Profile, ReliabilityType, StreamEvent, StreamResetError,
+    TransportConfig, token,
 };
 pub use sending::PollAnswer;
 pub use tags::DatagramAnswer;

@@ -70,6 +70,7 @@ impl Driver {
     /// stays, and `NoRoom` says how long it is; a later read with a longer buffer gives it, also after a loss of the
     /// association. After `StreamEvent::Readable` read until it answers `Nothing`, or until the stream is gone: where
     /// the peer ended it, it may end with its last message. A message that waits for a longer buffer counts as read.
+    /// Poll for datagrams after reads: where a read opens a receive window that was all but closed, the peer is told.
     ///
     /// Refused, in this order: `ErrAssociationFailed`, `ErrStreamNotExisted` and `ErrStreamClosed` (its read half is
     /// closed), with nothing changed, and only where no message of the stream waits in the driver; `ErrNoMemory`, which

@@ -25,6 +25,7 @@ use Rattle.sctp_resets.specs.Resets.{Beside, ResetsView, Resetting, performed, r
 use Rattle.sctp_reset_fit.specs.Laws.{Passes}
 use Rattle.sctp_reset_fit.specs.Pieces.{HoldsOnly}
 use Rattle.sctp_reset_fit.proofs.HeldPieces.{empty_holds, skipped_holds}
+use Rattle.sctp_assoc.specs.Calls.{eased, tells_window, told_if}
 use Rattle.sctp_assoc.specs.Closing.{closed_by, closed_open, exhausted, is_closed_state, is_exhausted, out_of_resource}
 use Rattle.sctp_assoc.specs.Closing.{relieved}
 use Rattle.sctp_assoc.specs.Control.{asking, queued}
@@ -218,5 +219,14 @@ module _ {Open : GenerationsView → PeerView → Type 0} {T : GenerationsView �
   relieved_if false a = nothing_carries a
 
   -- an exhausted receive buffer closes, or nothing changes
-  pub relieved_carries : (a : Shown) → Carries T a (relieved a)
+  relieved_carries : (a : Shown) → Carries T a (relieved a)
   relieved_carries a = relieved_if (is_exhausted a) a
+
+  told_carries_if : (tells : Bool) (a : Shown) → Carries T a (told_if tells a)
+  told_carries_if true a = same_carries a (told_if true a) refl refl refl
+  told_carries_if false a = nothing_carries a
+
+  -- so it is behind a read or a stop, and then a window that opened may be told
+  pub eased_carries : (before : ℕ) (a : Shown) → Carries T a (eased before a)
+  eased_carries before a =
+      then_carries (relieved_carries a) (told_carries_if (tells_window before (relieved a)) (relieved a))

@@ -1,6 +1,7 @@
 -- The calls of an application carry what each of the rules carries.
 use Rattle.std.proofs.Common.{◌≡◌, refl, ℕ, Bool, true, false, if◌then◌else◌, not, List, [], ◌∷◌, length, filter}
 use Rattle.std.proofs.Common.{remove, slice_get, Option, Some, None}
+use Rattle.sctp_wire_types.specs.Config.{is_rfc}
 use Rattle.sctp_wire_types.specs.declared.chunk.ChunkPayloadData.{ChunkPayloadData}
 use Rattle.sctp_wire_types.specs.declared.ids.PayloadProtocolIdentifier.{PayloadProtocolIdentifier}
 use Rattle.sctp_receive_queues.specs.Messages.{ReceivedMessage}
@@ -22,15 +23,16 @@ use Rattle.sctp_resets.specs.Telling.{next_told}
 use Rattle.sctp_reset_fit.specs.Laws.{Passes}
 use Rattle.sctp_reset_fit.specs.Pieces.{HoldsOnly}
 use Rattle.sctp_directions.specs.Acts.{type_on}
-use Rattle.sctp_assoc.specs.Calls.{accepted_from, accepted_stream, adjusted, after_read, drained_behind, event_from}
-use Rattle.sctp_assoc.specs.Calls.{event_polled, holds_of, opened, read_from_stream, stopped, stopped_open}
+use Rattle.sctp_assoc.specs.Calls.{accepted_from, accepted_stream, adjusted, after_read, credit_in, drained_behind}
+use Rattle.sctp_assoc.specs.Calls.{eased, event_from, event_polled, holds_of, opened, read_from_stream, stopped}
+use Rattle.sctp_assoc.specs.Calls.{stopped_open, unread_dropped}
 use Rattle.sctp_assoc.specs.Calls.{with_max_send_message_size, without_read_half_of, written, written_at, written_under}
-use Rattle.sctp_assoc.specs.Closing.{relieved}
 use Rattle.sctp_assoc.specs.Resets.{with_beside}
 use Rattle.sctp_assoc.specs.Shown.{Shown}
-use Rattle.sctp_ended.proofs.Carried.{Carries, IsCarried, IsMild, SideIs, beside_is, half_closed, half_closed_is_mild}
-use Rattle.sctp_ended.proofs.Carried.{nothing_carries, relieved_carries, resetting_is, same_carries, streams_carry}
-use Rattle.sctp_ended.proofs.Carried.{then_carries}
+use Rattle.sctp_assoc.proofs.StopsLeadOn.{dropped_or_not}
+use Rattle.sctp_ended.proofs.Carried.{Carries, IsCarried, IsMild, SideIs, beside_is, eased_carries, emptied_is_mild}
+use Rattle.sctp_ended.proofs.Carried.{half_closed, half_closed_is_mild, nothing_carries, resetting_is, same_carries}
+use Rattle.sctp_ended.proofs.Carried.{streams_carry, then_carries}
 
 -- What is done to one stream
 
@@ -165,7 +167,7 @@ module _ {Open : GenerationsView → PeerView → Type 0} {T : GenerationsView �
       → SideIs T (after_read a id x).0
   read_carries_if (streams, None) a id h = drained_carries a id streams h
   read_carries_if (streams, Some message) a id h =
-      (relieved_carries rules (drained_behind a id streams)).carries (drained_carries a id streams h)
+      (eased_carries rules (credit_in a) (drained_behind a id streams)).carries (drained_carries a id streams h)
 
   pub read_carries : (a : Shown) (id : ℕ) → Carries T a (read_from_stream a id).0
   read_carries a id = record {
@@ -174,7 +176,7 @@ module _ {Open : GenerationsView → PeerView → Type 0} {T : GenerationsView �
         (rules.streams.reads a.resets.generations a.resets.peer a.streams id h);
   }
 
-  -- Stops: the read half closes, and where the stream retires what waits of it is dropped
+  -- Stops: the read half closes, and what waits of the stream is dropped, where it retires or the profile has it so
 
   stopped_reading_carries : (id : ℕ) (r : ResetsView) (m : StreamMap) (told : List Event)
       → T (discarded r.generations id) r.peer (changed_stream without_unread m id)
@@ -197,7 +199,7 @@ module _ {Open : GenerationsView → PeerView → Type 0} {T : GenerationsView �
       → Carries T a
       (let b = without_read_half_of a id in
       if retiring then with_beside b (stopped_reading id b.resets b.streams b.events) else
-      record b { resets = waiting_for b.resets id })
+      record b { streams = unread_dropped (is_rfc b.profile) b.streams id; resets = waiting_for b.resets id })
   stopped_carries_if true a id = record {
     carries = λ h.
         (let b : Shown = without_read_half_of a id in
@@ -207,17 +209,22 @@ module _ {Open : GenerationsView → PeerView → Type 0} {T : GenerationsView �
   }
   stopped_carries_if false a id = record {
     carries = λ h.
-        rules.streams.changes a.resets.generations a.resets.peer a.streams half_closed id half_closed_is_mild h;
+        (let g = a.resets.generations in
+        let p = a.resets.peer in
+        let b : Shown = without_read_half_of a id in
+        let half : T g p b.streams = rules.streams.changes g p a.streams half_closed id half_closed_is_mild h in
+        dropped_or_not (T g p) (is_rfc a.profile) b.streams id half
+        (rules.streams.changes g p b.streams without_unread id emptied_is_mild half));
   }
 
   stopped_open_carries : (a : Shown) (id : ℕ) → Carries T a (stopped_open a id)
   stopped_open_carries a id = stopped_carries_if (is_retiring a.resets id) a id
 
-  stop_carries_if : (reads : Bool) (a : Shown) (id : ℕ)
-      → Carries T a (if reads then relieved (stopped_open a id) else a)
-  stop_carries_if true a id =
-      then_carries (stopped_open_carries a id) (relieved_carries rules (stopped_open a id))
-  stop_carries_if false a id = nothing_carries a
+  stop_carries_if : (reads : Bool) (before : ℕ) (a : Shown) (id : ℕ)
+      → Carries T a (if reads then eased before (stopped_open a id) else a)
+  stop_carries_if true before a id =
+      then_carries (stopped_open_carries a id) (eased_carries rules before (stopped_open a id))
+  stop_carries_if false before a id = nothing_carries a
 
   pub stopped_carries : (a : Shown) (id : ℕ) → Carries T a (stopped a id)
-  stopped_carries a id = stop_carries_if (holds_of (λ s. is_read_half_open s.halves) a id) a id
+  stopped_carries a id = stop_carries_if (holds_of (λ s. is_read_half_open s.halves) a id) (credit_in a) a id

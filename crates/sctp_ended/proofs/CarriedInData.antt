@@ -16,6 +16,7 @@ use Rattle.sctp_resets.specs.declared.performing.Settled.{Settled}
 use Rattle.sctp_resets.specs.Resets as resets
 use Rattle.sctp_resets.specs.Resets.{ResetsView, Resetting, is_hidden, refusal_of, skips_done, skips_done_of}
 use Rattle.sctp_assoc.specs.Chunks.{asks, asks_or_faults, counted_data, deferred_unless, deferred_where_admitted}
+use Rattle.sctp_assoc.specs.Chunks.{goes_unread, left_or_handed_over, left_unread}
 use Rattle.sctp_assoc.specs.Chunks.{on_counted_data, on_data, on_new_data, stream_found, taken_in, taken_unless}
 use Rattle.sctp_assoc.specs.Chunks.{taken_where_admitted, then_skips, told, with_message, with_new_stream}
 use Rattle.sctp_assoc.specs.Closing.{is_exhausted}
@@ -123,12 +124,18 @@ module _ {Open : GenerationsView → PeerView → Type 0} {T : GenerationsView �
       message_carries a piece (pushed_in a.streams piece.stream_identifier piece)
       (λ h. rules.pushes a.resets.generations a.resets.peer a.streams piece a.receiver.max_receive_message_size now e h)
 
+  -- what nobody reads is left, and other DATA goes to its stream
+  leaving_carries : (left : Bool) (a : Shown) (piece : ChunkPayloadData) → IsReadNow a.resets piece
+      → Carries T a (left_or_handed_over left a piece).0
+  leaving_carries true a piece now = same_carries a (left_unread a piece) refl refl refl
+  leaving_carries false a piece now =
+      taken_unless_carries (refusal_in a.streams piece.stream_identifier piece a.receiver.max_receive_message_size) a
+      piece refl now
+
   taken_in_carries : (a : Shown) (piece : ChunkPayloadData) → IsReadNow a.resets piece
       → Carries T a (taken_in a piece).0
   unfolding taken_in
-  taken_in_carries a piece now =
-      taken_unless_carries (refusal_in a.streams piece.stream_identifier piece a.receiver.max_receive_message_size) a
-      piece refl now
+  taken_in_carries a piece now = leaving_carries (goes_unread a piece) a piece now
 
   then_skips_carry : (x : Shown × Option Error) (id : ℕ) → Carries T x.0 (then_skips x id).0
   then_skips_carry (a, None) id = skips_applied_of_carry id a

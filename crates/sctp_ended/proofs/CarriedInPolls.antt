@@ -22,7 +22,7 @@ use Rattle.sctp_assoc.proofs.GivenApart.{ChangesControl, with_own_control}
 use Rattle.sctp_sides.proofs.EndedPolls.{by_poll_end, complete_given, ended_is_closed, with_answer_timed}
 use Rattle.sctp_sides.proofs.PollsLeave.{PolledFrom, after_requests, control_leaves, polled_from, silent_is}
 use Rattle.sctp_ended.proofs.Carried.{Carries, IsCarried, beside_carries, closed_carries, nothing_carries}
-use Rattle.sctp_ended.proofs.Carried.{queued_carries, same_carries, streams_carry, then_carries}
+use Rattle.sctp_ended.proofs.Carried.{same_carries, streams_carry, then_carries}
 use Rattle.sctp_ended.proofs.CarriedInChunks.{sends_cookie_carries}
 use Rattle.sctp_ended.proofs.CarriedInResets.{given_up_carries}
 use Rattle.sctp_ended.proofs.CarriedInSending.{data_poll_carries}
@@ -88,7 +88,7 @@ module _ {Open : GenerationsView → PeerView → Type 0} {T : GenerationsView �
 
   offered_carries : (o : Option Offer) (a : Shown) → Carries T a (init_queued o a)
   offered_carries None a = nothing_carries a
-  offered_carries (Some offer) a = queued_carries a _
+  offered_carries (Some offer) a = same_carries a (init_queued (Some offer) a) refl refl refl
 
   sends_init_carries : (a : Shown) (now : ℕ) → Carries T a (sends_init a now)
   unfolding sends_init

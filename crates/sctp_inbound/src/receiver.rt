@@ -139,8 +139,8 @@ impl Receiver {
         }
     }
 
-    /// The delay of an acknowledgement is over.
-    pub fn on_ack_timeout(&mut self)
+    /// An acknowledgement goes out with the next poll.
+    pub fn acknowledge_at_once(&mut self)
         ensures { self.new ≡ acknowledged_at_once self.old }
     {
         self.ack_state = AckState::Immediate;

@@ -46,6 +46,7 @@ stands_by x {a} {b} k s same past binds met size h = record {
   size = size ∙ s.size ∙ sym same.size;
   between = h.between;
   in_order = h.in_order;
+  reads_open = h.reads_open;
   resets = past;
 }
 

@@ -13,8 +13,8 @@ use Rattle.sctp_model.specs.Safe.{IsWithin}
 use Rattle.sctp_fit.specs.Growth.{IsAtReceiver, IsAtSender}
 use Rattle.sctp_fit.proofs.BegunCounts.{events_keep_the_count}
 use Rattle.sctp_fit.proofs.OtherEnd.{receivers_events_leave_what_is_sent, senders_events_leave_what_comes}
-use Rattle.sctp_directions.specs.Acts.{Act, CanAll, IsKeptInOrder, Parts, SetsReliability, done, done_all, receiving}
-use Rattle.sctp_directions.specs.Acts.{sending}
+use Rattle.sctp_directions.specs.Acts.{Act, CanAll, EndsSpanOf, HasReadOpen, IsKeptInOrder, Parts, SetsReliability}
+use Rattle.sctp_directions.specs.Acts.{done, done_all, receiving, sending}
 use Rattle.sctp_assoc.specs.Leads.{parts}
 use Rattle.sctp_assoc.specs.Calls.{is_beginning}
 use Rattle.sctp_sides.specs.Meeting.{IsNoEarlier, Stage}
@@ -188,6 +188,7 @@ pub record Holds (x : Surroundings) (p : Parts) : Type 0 where
   pub sound_coming : IsSound x.coming
   pub between : FitsBetween p x.out x.coming
   pub in_order : (s : ℕ) → x.out.over s ≡ false → x.loose s ≡ false → IsKeptInOrder p.streams s
+  pub reads_open : (s : ℕ) → x.coming.over s ≡ false → HasReadOpen p.streams s
   pub other : OtherStands x
 
 -- an act sets the order or the reliability of no stream
@@ -201,6 +202,10 @@ KeepsOrder loose act =
 
 pub orderly_acts_keep_order : (loose : ℕ → Bool) (act : Act) → IsOrderly act → KeepsOrder loose act
 orderly_acts_keep_order loose act orderly p s tight h = only_settings_loosen act p s (orderly s) h
+
+-- an act ends the span of no stream
+abbrev pub EndsNoSpan : Act → Type 0
+EndsNoSpan act = (s : ℕ) → EndsSpanOf act s → ⊥
 
 -- of acts that can be done one after another the first ones can, and then those behind them
 pub can_front : (xs ys : List Act) (p : Parts) → CanAll (xs ++ ys) p → CanAll xs p
@@ -276,6 +281,7 @@ stands_between {a = a} {coming = coming} {coming2 = coming2} s fewer size gone c
   size = size ∙ s.size;
   between = between;
   in_order = λ t within tight. s.in_order t (gone.within t within) (fewer t tight);
+  reads_open = λ t within. s.reads_open t (came.within t within);
   resets = more_are_past coming.over coming2.over a came.over s.resets;
 }
 

@@ -24,14 +24,15 @@ use Rattle.sctp_directions.specs.Reports.{SaysWhatWasTaken}
 use Rattle.sctp_directions.specs.Said.{IsMade}
 use Rattle.sctp_directions.proofs.Proved.{acts_keep_the_initial_tsns, events_keep_the_limits}
 use Rattle.sctp_directions.proofs.Proved.{forwards_it_takes_come}
-use Rattle.sctp_directions.proofs.Proved.{only_settings_loosen, receivers_events_are_received}
+use Rattle.sctp_directions.proofs.Proved.{only_ends_close_reads, only_settings_loosen, receivers_events_are_received}
 use Rattle.sctp_directions.proofs.Proved.{reports_say_what_was_taken, what_comes_leaves_its_own}
 use Rattle.sctp_directions.proofs.Proved.{what_it_defers_comes, what_it_takes_in_comes}
 use Rattle.sctp_directions.proofs.Proved.{what_it_takes_in_past_its_span_comes}
-use Rattle.sctp_pair.proofs.BetweenDirections.{By, Goes, Holds, IsOrderly, Surroundings, goes_by_receiver}
+use Rattle.sctp_pair.proofs.BetweenDirections.{By, EndsNoSpan, Goes, Holds, IsOrderly, Surroundings, goes_by_receiver}
 use Rattle.sctp_pair.proofs.BetweenDirections.{goes_nowhere}
-use Rattle.sctp_pair.proofs.BetweenDirections.{other_by_receiver, sound_after}
+use Rattle.sctp_pair.proofs.BetweenDirections.{other_by_receiver, sound_after, spans_of}
 use Rattle.sctp_pair.proofs.PastSpans.{ChangesPast, changes_as, opened_out, past_coming, past_in_order, past_out}
+use Rattle.sctp_pair.proofs.PastSpans.{past_reads_open}
 
 -- What was done at the receiver of the direction that comes.
 pub record AfterComing (x : Surroundings) (p : Parts) (B : By → ℕ → Type 0) : Type 0 where
@@ -50,6 +51,8 @@ coming_nowhere {x} B within h =
 record IsReceiversEvent (x : Surroundings) (p : Parts) (B : By → ℕ → Type 0) (act : Act) (e : Event) : Type 0 where
   nobody : IsNotPeerKnown act
   orderly : IsOrderly act
+  can : Can act p
+  ends_none : EndsNoSpan act
   at : IsOfReceiving e
   none : GivesAMessage e → ⊥
   keeps : KeepsWithin e
@@ -110,6 +113,10 @@ module _ (x : Surroundings) (p : Parts) (B : By → ℕ → Type 0) (h : Holds x
         incoming = is.incoming;
       };
       in_order = λ s out_within tight. only_settings_loosen act p s (is.orderly s) (h.in_order s out_within tight);
+      reads_open =
+          λ s inside. only_ends_close_reads act p s is.can (is.ends_none s)
+          (h.reads_open s
+          (spans_of (goes_by_receiver B x.coming e is.at is.none is.brings is.passes) s inside));
       other = other_by_receiver x e is.at h.other;
     };
   }
@@ -120,6 +127,8 @@ module _ (x : Surroundings) (p : Parts) (B : By → ℕ → Type 0) (h : Holds x
       act_at_receiver (Act.Opened id first kind) (Event.Open id) record {
         nobody = tt;
         orderly = λ s n. n;
+        can = tt;
+        ends_none = λ s n. n;
         at = tt;
         none = λ n. n;
         keeps = tt;
@@ -156,6 +165,8 @@ module _ (x : Surroundings) (p : Parts) (B : By → ℕ → Type 0) (h : Holds x
       act_at_receiver (Act.Took piece) (Event.DataComes m.index) record {
         nobody = tt;
         orderly = λ s n. n;
+        can = m.can;
+        ends_none = λ s n. n;
         at = tt;
         none = λ n. n;
         keeps = tt;
@@ -178,6 +189,8 @@ module _ (x : Surroundings) (p : Parts) (B : By → ℕ → Type 0) (h : Holds x
       act_at_receiver (Act.Deferred piece) (Event.DataComes m.index) record {
         nobody = tt;
         orderly = λ s n. n;
+        can = m.can;
+        ends_none = λ s n. n;
         at = tt;
         none = λ n. n;
         keeps = tt;
@@ -198,6 +211,8 @@ module _ (x : Surroundings) (p : Parts) (B : By → ℕ → Type 0) (h : Holds x
       act_at_receiver act (Event.ForwardComes m.index) record {
         nobody = tt;
         orderly = λ s n. n;
+        can = m.can;
+        ends_none = λ s n. n;
         at = tt;
         none = λ n. n;
         keeps = tt;
@@ -232,6 +247,8 @@ act_reported {x} {p} B h known within =
           act_at_receiver x p B h within Act.Reported Event.SackMade record {
             nobody = tt;
             orderly = λ s n. n;
+            can = tt;
+            ends_none = λ s n. n;
             at = tt;
             none = λ n. n;
             keeps = tt;
@@ -257,5 +274,6 @@ holds_past x p q both c h =
         incoming = past_coming x.coming c h.between.incoming;
       };
       in_order = λ s within tight. past_in_order out s within (h.in_order s within tight);
+      reads_open = λ s within. past_reads_open c s within (h.reads_open s within);
       other = h.other;
     }

@@ -51,6 +51,7 @@ learnt x acts {a} {b} k u is (inr (met, deaf)) =
               u.holds.between.incoming;
         };
         in_order = u.holds.in_order;
+        reads_open = u.holds.reads_open;
         other = u.holds.other;
       };
       peer_is = λ known. ap (λ (p : Parts). p.history.peer) left;
@@ -93,6 +94,7 @@ greet_step {x} header c {a} {b} takes greeting u past =
         size = u.stands.size ∙ sym works.size;
         between = kept.holds.between;
         in_order = kept.holds.in_order;
+        reads_open = kept.holds.reads_open;
         resets = past;
       };
       holds = kept.holds;

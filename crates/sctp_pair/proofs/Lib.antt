@@ -49,5 +49,6 @@ pub mod StopCall
 pub mod StreamCalls
 pub mod TimedCalls
 pub mod WaitingCounted
+pub mod WindowTold
 pub mod WriteCall
 pub mod WrittenIndexes

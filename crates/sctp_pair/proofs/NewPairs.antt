@@ -14,7 +14,7 @@ use Rattle.sctp_model.specs.Machine.{fresh}
 use Rattle.sctp_model.proofs.Proved.{fresh_holds}
 use Rattle.sctp_fit.proofs.NothingToSend.{fresh_ones_fit}
 use Rattle.sctp_fit.proofs.OtherEnd.{fresh_ones_receive_nothing}
-use Rattle.sctp_directions.specs.Acts.{IsKeptInOrder, begun}
+use Rattle.sctp_directions.specs.Acts.{HasReadOpen, IsKeptInOrder, begun}
 use Rattle.sctp_directions.specs.Between.{FitsBetween, IsSound}
 use Rattle.sctp_directions.proofs.Proved.{fresh_directions_are_within}
 use Rattle.sctp_assoc.specs.Leads.{Binds, parts}
@@ -40,6 +40,9 @@ nothing_between config remote own peer size other = record {
 -- no stream is live yet
 no_stream_yet : (s : ℕ) → IsKeptInOrder no_stream s
 no_stream_yet s t there = absurd (true≢false (sym (ap is_some there)))
+
+none_to_read_yet : (s : ℕ) → HasReadOpen no_stream s
+none_to_read_yet s t there = absurd (true≢false (sym (ap is_some there)))
 
 -- a direction in which nothing happened is sound
 fresh_is_sound : (size : ℕ) → 0 < size → IsSound (fresh size)
@@ -148,6 +151,7 @@ joined_begins {size} {own} {peer} other j = record {
       size = refl;
       between = nothing_between j.config j.remote own.initial_tsn peer.initial_tsn size other;
       in_order = λ s within tight. no_stream_yet s;
+      reads_open = λ s within. none_to_read_yet s;
       resets = record {
         resets = record {
           own = record { waiting = tt; queued = tt; active = tt };
@@ -227,6 +231,7 @@ client_begins {size} {own} other peer c = record {
       size = refl;
       between = nothing_between c.config c.remote own 1 size other;
       in_order = λ s within tight. no_stream_yet s;
+      reads_open = λ s within. none_to_read_yet s;
       resets = record {
         resets = record {
           own = record { waiting = tt; queued = tt; active = tt };
@@ -292,6 +297,7 @@ server_begins {size} {own} other peer c = record {
       size = refl;
       between = nothing_between c.config c.remote own 1 size other;
       in_order = λ s within tight. no_stream_yet s;
+      reads_open = λ s within. none_to_read_yet s;
       resets = record {
         resets = record {
           own = record { waiting = tt; queued = tt; active = tt };

@@ -30,7 +30,8 @@ use Rattle.sctp_directions.proofs.Proved.{its_abandonments_are_alike, its_acknow
 use Rattle.sctp_directions.proofs.Proved.{acts_keep_the_initial_tsns, its_drops_are_alike, its_forwards_say_the_same}
 use Rattle.sctp_directions.proofs.Proved.{its_starts_are_no_events, its_tails_are_abandoned_alike}
 use Rattle.sctp_directions.proofs.Proved.{events_keep_the_limits, only_beginnings_assign, own_acts_leave_what_comes}
-use Rattle.sctp_directions.proofs.Proved.{only_settings_loosen, its_pieces_are_given, senders_events_keep_the_invariant}
+use Rattle.sctp_directions.proofs.Proved.{only_ends_close_reads, only_settings_loosen, own_acts_end_no_span}
+use Rattle.sctp_directions.proofs.Proved.{its_pieces_are_given, senders_events_keep_the_invariant}
 use Rattle.sctp_sides.specs.SideLaws.{GivesNew, GivesUpOrAgain}
 use Rattle.sctp_pair.proofs.BetweenDirections.{Goes, Holds, IsOrderly, None_brought, OtherStands, Surroundings}
 use Rattle.sctp_pair.proofs.BetweenDirections.{goes_by_sender, goes_nowhere, goes_on, other_by_sender, sound_after}
@@ -132,10 +133,10 @@ no_message test none p index d can =
 -- The directions hold the association.
 module _ (x : Surroundings) (p : Parts) (h : Holds x p) where
   -- the act is what these events are at the sender of its own direction
-  act_at_sender : (act : Act) (out2 : Direction) (given : List ChunkPayloadData) → IsOfItsOwn act → IsNotPeerKnown act
-      → IsOrderly act → IsAfterEvents x out2 → FitsOutgoing (sending (done act p)) out2
+  act_at_sender : (act : Act) (out2 : Direction) (given : List ChunkPayloadData) → Can act p → IsOfItsOwn act
+      → IsNotPeerKnown act → IsOrderly act → IsAfterEvents x out2 → FitsOutgoing (sending (done act p)) out2
       → AllByRecursion (IsGivenPiece p.history.own out2) given → AfterOut x (done act p) given
-  act_at_sender act out2 given its_own nobody orderly after fits said = record {
+  act_at_sender act out2 given can its_own nobody orderly after fits said = record {
     out2 = out2;
     goes = after.goes;
     holds = record {
@@ -149,6 +150,8 @@ module _ (x : Surroundings) (p : Parts) (h : Holds x p) where
       in_order =
           λ s within tight. only_settings_loosen act p s (orderly s)
           (h.in_order s (spans_of after.goes s within) tight);
+      reads_open =
+          λ s within. only_ends_close_reads act p s can (own_acts_end_no_span act s its_own) (h.reads_open s within);
       other = after.other;
     };
     said = subst (λ o. AllByRecursion (IsGivenPiece o out2) given) h.own_is said;
@@ -160,7 +163,7 @@ module _ (x : Surroundings) (p : Parts) (h : Holds x p) where
       sent_pieces_are_events p.history.own (sending p) now x.out can h.sound_out.invariant h.sound_out.counts
       h.between.outgoing in
       let after = after_sendings sent.0 x sent.1.sends h.sound_out h.other in
-      act_at_sender (Act.Sent now) (run sent.0 x.out) (data_given (Act.Sent now) p) tt tt
+      act_at_sender (Act.Sent now) (run sent.0 x.out) (data_given (Act.Sent now) p) can tt tt
       (λ s n. n) after sent.1.fits
       (next_pieces_given p.history.own (sending p) now (run sent.0 x.out) after.sound.invariant sent.1.fits
       sent.1.given)
@@ -170,7 +173,7 @@ module _ (x : Surroundings) (p : Parts) (h : Holds x p) where
   unfolding act_at_sender
   one_old (Act.Started now) g can = record {
     after =
-        act_at_sender (Act.Started now) x.out [] tt tt (λ s n. n) (after_nothing x h.sound_out h.other)
+        act_at_sender (Act.Started now) x.out [] can tt tt (λ s n. n) (after_nothing x h.sound_out h.other)
         (its_starts_are_no_events p now x.out h.between.outgoing) tt;
     room_is = omega arith;
     still = λ d. refl;
@@ -180,7 +183,7 @@ module _ (x : Surroundings) (p : Parts) (h : Holds x p) where
       its_abandonments_are_alike p index x.out can h.sound_out.invariant h.sound_out.counts h.between.outgoing in
       let e : Event = Event.Abandon gone.0 gone.1 in record {
         after =
-            act_at_sender (Act.Abandoned index) (happens x.out e) [] tt tt (λ s n. n)
+            act_at_sender (Act.Abandoned index) (happens x.out e) [] can tt tt (λ s n. n)
             (after_event x e tt (λ n. n) tt h.sound_out h.other) gone.2 tt;
         room_is = abandonments_take_no_room x.out gone.0 gone.1;
         still = λ d. absurd (no_piece can_abandon refl p index d can);
@@ -190,7 +193,7 @@ module _ (x : Surroundings) (p : Parts) (h : Holds x p) where
       its_tails_are_abandoned_alike p x.out can h.sound_out.invariant h.sound_out.counts h.between.outgoing in
       let e : Event = Event.Abandon gone.0 gone.1 in record {
         after =
-            act_at_sender Act.TailAbandoned (happens x.out e) [] tt tt (λ s n. n)
+            act_at_sender Act.TailAbandoned (happens x.out e) [] can tt tt (λ s n. n)
             (after_event x e tt (λ n. n) tt h.sound_out h.other) gone.2 tt;
         room_is = abandonments_take_no_room x.out gone.0 gone.1;
         still = λ d. absurd
@@ -200,7 +203,7 @@ module _ (x : Surroundings) (p : Parts) (h : Holds x p) where
       let gone = its_drops_are_alike p k x.out can h.sound_out.invariant h.sound_out.counts h.between.outgoing in
       let e : Event = Event.Drop gone.0 gone.1 in record {
         after =
-            act_at_sender (Act.Dropped k) (happens x.out e) [] tt tt (λ s n. n)
+            act_at_sender (Act.Dropped k) (happens x.out e) [] can tt tt (λ s n. n)
             (after_event x e tt (λ n. n) tt h.sound_out h.other) gone.2 tt;
         room_is = drops_take_no_room x.out gone.0 gone.1;
         still = λ d. absurd (no_message can_drop refl p k d can);
@@ -210,7 +213,7 @@ module _ (x : Surroundings) (p : Parts) (h : Holds x p) where
       let o = x.out.sender.reach + index in
       let e : Event = Event.Resend o in record {
         after =
-            act_at_sender (Act.SentAgain by index) (happens x.out e) (data_given (Act.SentAgain by index) p) tt tt
+            act_at_sender (Act.SentAgain by index) (happens x.out e) (data_given (Act.SentAgain by index) p) can tt tt
             (λ s n. n)
             (after_event x e tt (λ n. n) tt h.sound_out h.other) resent.0
             (pieces_given_again p.history.own (sending p) index x.out (happens x.out e) h.sound_out.invariant
@@ -229,7 +232,7 @@ module _ (x : Surroundings) (p : Parts) (h : Holds x p) where
       let made = its_forwards_say_the_same p s x.out can same first h.between.outgoing in
       let e : Event = Event.ForwardMade in
       let after =
-      act_at_sender Act.Forwarded (happens x.out e) [] tt tt (λ t n. n)
+      act_at_sender Act.Forwarded (happens x.out e) [] can tt tt (λ t n. n)
       (after_event x e tt (λ n. n) few h.sound_out h.other) made.0 tt in
       record {
         out2 = after.out2;
@@ -249,7 +252,7 @@ pub act_acknowledged : {x : Surroundings} {p : Parts} (n k missing : ℕ) (c : C
     × (after.out2.sender.plan.places ≡ x.out.sender.plan.places)
 unfolding act_at_sender
 act_acknowledged {x} {p} n k missing c sack h e says at can = (
-  act_at_sender x p h (Act.Acknowledged n c.gap_ack_blocks missing) (happens x.out (Event.SackComes k)) [] tt tt
+  act_at_sender x p h (Act.Acknowledged n c.gap_ack_blocks missing) (happens x.out (Event.SackComes k)) [] can tt tt
       (λ s n. n)
       (after_event x (Event.SackComes k) tt (λ n. n) tt h.sound_out h.other)
       (its_acknowledgements_are_alike p n k missing c sack x.out e says at can h.sound_out.invariant h.between.outgoing)

@@ -155,6 +155,7 @@ start_step {x} B f s = record {
     sound_coming = f.sound_coming;
     between = s.between;
     in_order = s.in_order;
+    reads_open = s.reads_open;
     other = f.other;
   };
 }

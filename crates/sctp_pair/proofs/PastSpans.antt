@@ -15,8 +15,8 @@ use Rattle.sctp_fit.proofs.NothingToSend.{opened_streams_send_nothing}
 use Rattle.sctp_fit.proofs.SpanEnded.{streams_past_their_span_change, streams_past_their_span_change_where_it_comes}
 use Rattle.sctp_streams.proofs.LowMarks.{at_with}
 use Rattle.sctp_fit.proofs.StreamsThere.{at_made}
-use Rattle.sctp_directions.specs.Acts.{Act, Can, CanAll, IsKeptInOrder, IsNotPeerKnown, Parts, done, done_all, receiving}
-use Rattle.sctp_directions.specs.Acts.{sending}
+use Rattle.sctp_directions.specs.Acts.{Act, Can, CanAll, HasReadOpen, IsKeptInOrder, IsNotPeerKnown, Parts, done}
+use Rattle.sctp_directions.specs.Acts.{done_all, receiving, sending}
 use Rattle.sctp_resets.specs.Within.{AreOver}
 use Rattle.sctp_directions.specs.Events.{IsOfReceiving}
 use Rattle.sctp_directions.proofs.Proved.{receivers_events_are_received}
@@ -54,6 +54,12 @@ module _ (w : Direction) {p q : Parts} (c : ChangesPast w.over p q) where
 pub past_in_order : {over : ℕ → Bool} {p q : Parts} → ChangesPast over p q → (s : ℕ) → over s ≡ false
     → IsKeptInOrder p.streams s → IsKeptInOrder q.streams s
 past_in_order {p = p} {q = q} c s within kept t there =
+    kept t (sym (c.others s within) ∙ ap (λ (z : Parts). stream_at z.streams s) (sym c.is) ∙ there)
+
+-- and what can be read within its span can be read still
+pub past_reads_open : {over : ℕ → Bool} {p q : Parts} → ChangesPast over p q → (s : ℕ) → over s ≡ false
+    → HasReadOpen p.streams s → HasReadOpen q.streams s
+past_reads_open {p = p} {q = q} c s within kept t there =
     kept t (sym (c.others s within) ∙ ap (λ (z : Parts). stream_at z.streams s) (sym c.is) ∙ there)
 
 -- Ends of spans that are over

@@ -249,6 +249,7 @@ module _ {x : Surroundings} {a b : Shown} {packets : List (List ℕ)} (f : Faces
         sound_coming = f.sound_coming;
         between = s.between;
         in_order = s.in_order;
+        reads_open = s.reads_open;
         other = f.other;
       } in
       let can : CanAll (os ++ ns ++ ks ++ fs) p = subst (λ zs. CanAll zs p) polling.are poll.leads.can in
@@ -344,6 +345,7 @@ module _ {x : Surroundings} {a b : Shown} {packets : List (List ℕ)} (f : Faces
         sound_coming = f.sound_coming;
         between = s.between;
         in_order = s.in_order;
+        reads_open = s.reads_open;
         other = f.other;
       } in
       record {
@@ -392,6 +394,7 @@ stays_open {x} {a} {b} f same keeps s binds gave =
       size = gave.goes_out.size ∙ s.size ∙ sym same.size;
       between = gave.holds.between;
       in_order = gave.holds.in_order;
+      reads_open = gave.holds.reads_open;
       resets =
           more_are_past x.coming.over gave.coming2.over b (λ t o. gave.goes_coming.same_spans t ∙ o)
           (keeps x.coming.over s.resets);

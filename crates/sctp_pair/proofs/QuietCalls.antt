@@ -8,14 +8,15 @@ use Rattle.sctp_wire_types.specs.declared.ids.PayloadProtocolIdentifier.{Payload
 use Rattle.sctp_parts.specs.declared.state.AssociationState.{AssociationState}
 use Rattle.sctp_parts.specs.declared.state.AssociationState.TheVariants as states
 use Rattle.sctp_model.specs.Machine.{Direction, Event, happens}
+use Rattle.sctp_model.proofs.Lists.{all_weaker}
 use Rattle.sctp_model.proofs.Proved.{each_event_keeps_the_invariant}
 use Rattle.sctp_fit.specs.Incoming.{FitsIncoming}
 use Rattle.sctp_fit.specs.Outgoing.{FitsOutgoing}
 use Rattle.sctp_fit.proofs.DataTaken.{opened_streams_are_alike}
-use Rattle.sctp_directions.specs.Acts.{Act, History, IsKeptInOrder, IsNotPeerKnown, Parts, done, done_all, receiving}
-use Rattle.sctp_directions.specs.Acts.{sending}
+use Rattle.sctp_directions.specs.Acts.{Act, CanAll, EndsSpanOf, HasReadOpen, History, IsKeptInOrder, IsNotPeerKnown}
+use Rattle.sctp_directions.specs.Acts.{Parts, done, done_all, receiving, sending}
 use Rattle.sctp_directions.specs.Events.{Brings, BringsForward, GivesAMessage, IsOfReceiving}
-use Rattle.sctp_directions.proofs.Proved.{acts_keep_the_initial_tsns, closed_receivers_are_not_open}
+use Rattle.sctp_directions.proofs.Proved.{acts_keep_reads, acts_keep_the_initial_tsns, closed_receivers_are_not_open}
 use Rattle.sctp_directions.proofs.Proved.{receivers_events_are_received}
 use Rattle.sctp_assoc.specs.Leads as assoc
 use Rattle.sctp_assoc.specs.Leads.{Leads, parts}
@@ -33,8 +34,8 @@ use Rattle.sctp_assoc.specs.declared.call.Reply.{Reply}
 use Rattle.sctp_assoc.specs.declared.call.Reply.TheVariants as replies
 use Rattle.sctp_pair.specs.Fits.{IsAt, StandsClosed, StandsFailed}
 use Rattle.sctp_assoc.specs.Replies.{Fails, HadFailed, Opens}
-use Rattle.sctp_pair.proofs.BetweenDirections.{ClosedAt, Faces, KeepsOrder, None_brought, OpenAt, SettlesQuietly}
-use Rattle.sctp_pair.proofs.BetweenDirections.{StandsAt, orderly_acts_keep_order}
+use Rattle.sctp_pair.proofs.BetweenDirections.{ClosedAt, EndsNoSpan, Faces, KeepsOrder, None_brought, OpenAt}
+use Rattle.sctp_pair.proofs.BetweenDirections.{SettlesQuietly, StandsAt, orderly_acts_keep_order}
 use Rattle.sctp_pair.proofs.BetweenDirections.{Surroundings, does_by_goes, goes_by_receiver, goes_nowhere, moved}
 use Rattle.sctp_pair.proofs.BetweenDirections.{other_by_receiver, sound_after}
 use Rattle.sctp_pair.proofs.HandshakeStages.{at_same, come_on, known_before, stays_put}
@@ -116,9 +117,9 @@ refused_call_settles (inr (due, fails)) f = fails_settle fails.2.marked f
 
 -- An open association goes on
 
--- Acts that are not `PeerKnown` and leave the streams in order that are within their span and not loose lead from a
--- with this past to b, whose stage is kept and whose resets concern streams past their span alone, and to directions
--- that fit what the acts did.
+-- Acts that are not `PeerKnown` and leave the streams in order that are within their span and not loose, and those open
+-- to be read that are within it, lead from a with this past to b, whose stage is kept and whose resets concern streams
+-- past their span alone, and to directions that fit what the acts did.
 pub record LeadsOn (x : Surroundings) (a : Shown) (past : History) (acts : List Act) (b : Shown)
     (out2 coming2 : Direction) : Type 0 where
   pub past2 : History
@@ -126,6 +127,7 @@ pub record LeadsOn (x : Surroundings) (a : Shown) (past : History) (acts : List 
   pub nobody : AllByRecursion IsNotPeerKnown acts
   pub in_order : (t : ℕ) → out2.over t ≡ false → x.loose t ≡ false
       → IsKeptInOrder (done_all acts (parts a past)).streams t
+  pub reads_open : (t : ℕ) → coming2.over t ≡ false → HasReadOpen (done_all acts (parts a past)).streams t
   pub same : KeepsTheStage a b
   pub resets : ResetsPastOnly coming2.over b
   pub size : out2.sender.plan.size ≡ x.out.sender.plan.size
@@ -145,6 +147,15 @@ pub still_in_order : (x : Surroundings) (acts : List Act) {a : Shown} (s : OpenA
     → IsKeptInOrder (done_all acts (parts a s.past)).streams t
 still_in_order x acts {a} s orderly t within tight =
     order_stays x.loose acts (parts a s.past) t tight orderly (s.in_order t within tight)
+
+-- and those that could be read can be, where the acts end no span
+pub still_readable : (x : Surroundings) (acts : List Act) {a : Shown} (s : OpenAt x a) → CanAll acts (parts a s.past)
+    → AllByRecursion EndsNoSpan acts → (t : ℕ) → x.coming.over t ≡ false
+    → HasReadOpen (done_all acts (parts a s.past)).streams t
+still_readable x acts {a} s can none t within =
+    acts_keep_reads acts (parts a s.past) t can
+    (all_weaker EndsNoSpan (λ (act : Act). EndsSpanOf act t → ⊥) acts (λ act ends_none. ends_none t) none)
+    (s.reads_open t within)
 
 -- An open association whose stage is kept stands open where acts lead, between directions that fit what they did.
 pub open_on : (x : Surroundings) (acts : List Act) {a b : Shown} {out2 coming2 : Direction} (s : OpenAt x a)
@@ -170,6 +181,8 @@ open_on x acts {a} {b} {out2} {coming2} s m =
       };
       in_order =
           λ t within tight. subst (λ (p : Parts). IsKeptInOrder p.streams t) (sym there) (m.in_order t within tight);
+      reads_open =
+          λ t within. subst (λ (p : Parts). HasReadOpen p.streams t) (sym there) (m.reads_open t within);
       resets = m.resets;
     }
 
@@ -230,6 +243,7 @@ pub record IsUnseen (x : Surroundings) (a : Shown) (acts : List Act) (b : Shown)
   pub leads : assoc.LeadsOn acts a b
   pub nobody : AllByRecursion IsNotPeerKnown acts
   pub orderly : AllByRecursion (KeepsOrder x.loose) acts
+  pub ends_none : AllByRecursion EndsNoSpan acts
   pub outgoing : (h : History) → FitsOutgoing (sending (parts a h)) x.out
       → FitsOutgoing (sending (done_all acts (parts a h))) x.out
   pub incoming : (h : History) → FitsIncoming (receiving (parts a h)) x.coming
@@ -246,6 +260,7 @@ unseen_stands {x} {a} {b} acts u working f =
       leads = m.1;
       nobody = u.nobody;
       in_order = still_in_order x acts s u.orderly;
+      reads_open = still_readable x acts s m.1.can u.ends_none;
       same = u.same;
       resets = u.past x.coming.over s.resets;
       size = refl;
@@ -271,6 +286,7 @@ stage_settles {x} {a} {b} stays none past leads working f = unseen_settles [] re
   leads = leads;
   nobody = tt;
   orderly = tt;
+  ends_none = tt;
   outgoing = λ h fits. fits;
   incoming = λ h fits. fits;
 } working f
@@ -303,6 +319,10 @@ module _ (x : Surroundings) (a : Shown) (id : ℕ) (kind : PayloadProtocolIdenti
         in_order =
             still_in_order x (Act.Opened id first kind ∷ []) s
             (orderly_acts_keep_order x.loose (Act.Opened id first kind) (λ t n. n), tt);
+        reads_open =
+            λ t within. still_readable x (Act.Opened id first kind ∷ []) s m.1.can ((λ z n. n), tt) t
+            (sym (ap (λ (g : ℕ → Bool). g t) (receivers_events_are_received x.coming (Event.Open id) tt).over)
+            ∙ within);
         same = same;
         resets =
             past_by_receiver x.coming (Event.Open id) tt (opened_streams_reset_no_more a id kind x.coming.over s.resets);

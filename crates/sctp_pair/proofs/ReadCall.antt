@@ -1,6 +1,6 @@
 -- A read of an association: what it gives is what the direction's reader gets.
-use Rattle.std.proofs.Common.{◌≡◌, refl, sym, ap, ◌∙◌, subst, ⊎_elim, inl, inr, ℕ, Bool, true, false, eqb, ◌&&◌}
-use Rattle.std.proofs.Common.{if◌then◌else◌, List, [], ◌∷◌, ◌++◌, Option, Some, None, is_some, arith}
+use Rattle.std.proofs.Common.{◌≡◌, refl, sym, ap, ◌∙◌, subst, ⊎_elim, inl, inr, ℕ, Bool, true, false, eqb}
+use Rattle.std.proofs.Common.{if◌then◌else◌, List, [], ◌∷◌, ◌++◌, Option, Some, None, arith}
 use Rattle.std.specs.Prelude.{◌==◌, slice_get}
 use Rattle.sctp_streams.specs.Streams.{read_in}
 use Rattle.std.proofs.lemmas.Bool.{cases_Bool, cases_eq, cond-false, cond-true, eq-eqb, eqb-false, ne_eqb}
@@ -17,14 +17,14 @@ use Rattle.sctp_fit.proofs.ReadsAnswered.{reads_are_alike}
 use Rattle.sctp_fit.specs.Incoming.{FitsIncoming}
 use Rattle.sctp_directions.specs.Acts.{Act, Parts, done, done_all, receiving}
 use Rattle.sctp_directions.specs.Between.{IsSound}
-use Rattle.sctp_directions.proofs.Proved.{only_forwards_pass_over}
+use Rattle.sctp_directions.proofs.Proved.{only_ends_close_reads, only_forwards_pass_over}
 use Rattle.sctp_directions.proofs.Proved.{closed_receivers_are_not_open}
 use Rattle.sctp_directions.proofs.Proved.{only_what_is_brought_is_taken_in, receivers_events_are_received}
 use Rattle.sctp_directions.proofs.Proved.{what_comes_leaves_its_own}
 use Rattle.sctp_assoc.specs.Leads.{parts}
 use Rattle.sctp_assoc.specs.ResetActs.{acts_of_draining}
-use Rattle.sctp_assoc.specs.Calls.{drained_behind, first_refusal, read_exhausts, read_from_stream}
-use Rattle.sctp_assoc.specs.Closing.{exhausted, is_closed_state, is_exhausted}
+use Rattle.sctp_assoc.specs.Calls.{first_refusal, read_from_stream}
+use Rattle.sctp_assoc.specs.Closing.{exhausted, is_closed_state}
 use Rattle.sctp_assoc.specs.Shown.{Shown}
 use Rattle.sctp_sides.specs.Meeting.{IsTruthful, Stage}
 use Rattle.sctp_sides.specs.NoReset.{HasNoReset}
@@ -47,10 +47,11 @@ use Rattle.sctp_pair.proofs.BetweenDirections.{sound_after, spans_of}
 use Rattle.sctp_pair.proofs.PastReads.{given_does, given_is_read, given_is_sound, given_leaves_the_other}
 use Rattle.sctp_pair.proofs.PastReads.{given_leaves_what_comes, given_past, others_are_not_read}
 use Rattle.sctp_pair.proofs.PastSpans.{ChangesPast, changes_as, ends_are_not_peer_known, ends_change_past, past_coming}
-use Rattle.sctp_pair.proofs.PastSpans.{past_in_order, past_out, reading_changes_past}
+use Rattle.sctp_pair.proofs.PastSpans.{past_in_order, past_out, past_reads_open, reading_changes_past}
 use Rattle.sctp_pair.proofs.QuietCalls.{by_working, closed_on, fails_settle, open_on, same_settles, still}
 use Rattle.sctp_pair.proofs.HandshakeStages.{at_same, stays_put}
 use Rattle.sctp_pair.proofs.NoReset.{read_plainly, reads_plainly}
+use Rattle.sctp_pair.proofs.WindowTold.{read_so, telling_settles}
 
 -- what a read with this reply gives on stream s
 abbrev pub read_by : Reply → ℕ → ℕ → Option ReceivedMessage
@@ -202,6 +203,10 @@ module _ {x : Surroundings} {a b : Shown} (id : ℕ) (message : Option ReceivedM
             λ t within tight. past_in_order out t within
             (orderly_acts_keep_order x.loose (Act.WasRead id) (λ z n. n) (parts a s.past) t tight
             (s.in_order t within tight));
+        reads_open =
+            λ t within. past_reads_open come t within
+            (only_ends_close_reads (Act.WasRead id) (parts a s.past) t leads.1.can.0 (λ n. n)
+            (s.reads_open t (sym (same t) ∙ within)));
         same = the_same_status_is_the_same_stage a (with_read a id) (reads_keep_the_status a id).same;
         resets =
             more_are_past x.coming.over coming2.over (with_read a id) (λ t o. same t ∙ o)
@@ -356,6 +361,7 @@ module _ {x : Surroundings} {a : Shown} (id : ℕ) (message : Option ReceivedMes
         leads = on.1;
         nobody = tt;
         in_order = h.stands.in_order;
+        reads_open = h.stands.reads_open;
         same = the_same_status_is_the_same_stage c (exhausted c) stays.1;
         resets = exhaustion_resets_no_more c h.coming2.over h.stands.resets;
         size = refl;
@@ -372,23 +378,14 @@ read_open {x} {a} {b} id message live e f s =
     let at : IsAt (with_read a id) x.here =
     at_same a (with_read a id) x.here (the_same_status_is_the_same_stage a (with_read a id) reads.same) f.at in
     let left : (read_from_stream a id).0 ≡ b = ap (λ (z : Shown × Option ReceivedMessage). z.0) e in
-    subst (λ (z : Shown). Settles x z nothing_added (read_by (replies.Read message) id) None_brought) left
-    (⊎_elim
-    (λ (exhausts : read_exhausts a id ≡ true).
-    subst (λ (z : Shown). Settles x z nothing_added (read_by (replies.Read message) id) None_brought)
-    (sym (reads.exhausts exhausts))
+    let Settled : Shown → Type 0 = λ (z : Shown).
+    Settles x z nothing_added (read_by (replies.Read message) id) None_brought in
+    subst Settled left
+    (read_so Settled (λ tells z k. telling_settles tells z k) a id (read_in a.streams id)
+    (read_stays id message f h (with_read a id) at h.stands)
     (read_exhausted id message f h (is_closed_state (with_read a id).state) refl at))
-    (λ (plain : read_exhausts a id ≡ false).
-    subst (λ (z : Shown). Settles x z nothing_added (read_by (replies.Read message) id) None_brought)
-    (sym (reads.plainly plain)) (read_stays id message f h (with_read a id) at h.stands))
-    (cases_Bool (read_exhausts a id)))
 
 -- A closed association reads nothing
-
--- a read that gives nothing exhausts nothing
-none_exhausts : (a : Shown) (id : ℕ) → (read_in a.streams id).1 ≡ None → read_exhausts a id ≡ false
-none_exhausts a id none =
-    ap (λ (o : Option ReceivedMessage). is_some o && is_exhausted (drained_behind a id (read_in a.streams id).0)) none
 
 read_closed : {own : ℕ} {coming : Direction} (a b : Shown) (id : ℕ) (message : Option ReceivedMessage) → IsLive a id
     → read_from_stream a id ≡ (b, message) → StandsClosed own a coming
@@ -397,7 +394,7 @@ read_closed a b id message live e s =
     let nothing = what_holds_nothing_gives_nothing a id s.no_reset live s.nothing_left in
     let reads = reads_plainly a id s.no_reset in
     let left : (read_from_stream a id).0 ≡ b = ap (λ (x : Shown × Option ReceivedMessage). x.0) e in
-    let plain = reads.plainly (none_exhausts a id (sym reads.given ∙ nothing.0)) in
+    let plain = reads.plainly (sym reads.given ∙ nothing.0) in
     let same : KeepsTheStage a b =
     the_same_status_is_the_same_stage a b (subst (IsSameStatus a) (sym plain ∙ left) reads.same) in (
       sym (ap (λ (x : Shown × Option ReceivedMessage). x.1) e) ∙ nothing.0,

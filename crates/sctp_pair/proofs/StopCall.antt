@@ -13,10 +13,11 @@ use Rattle.sctp_directions.specs.Between.{IsSound}
 use Rattle.sctp_directions.proofs.Proved.{closed_receivers_are_not_open, its_spans_end, receivers_events_are_received}
 use Rattle.sctp_directions.proofs.Proved.{spans_of_what_comes_end}
 use Rattle.sctp_assoc.specs.Leads.{parts}
-use Rattle.sctp_assoc.specs.Calls.{is_established, stop_refusal, stop_refusal_at, stopped, stopped_open}
-use Rattle.sctp_assoc.specs.Calls.{stream_refusal}
+use Rattle.sctp_assoc.specs.Calls.{credit_in, holds_of, is_established, stop_refusal, stop_refusal_at, stopped}
+use Rattle.sctp_assoc.specs.Calls.{stopped_open, stream_refusal}
 use Rattle.sctp_assoc.specs.Closing.{exhausted, is_closed_state}
 use Rattle.sctp_assoc.specs.Shown.{Shown}
+use Rattle.sctp_streams.specs.Stream.{is_read_half_open}
 use Rattle.sctp_streams.specs.Streams.{stream_at}
 use Rattle.sctp_sides.specs.Meeting.{IsTruthful}
 use Rattle.sctp_sides.specs.NoReset.{HasNoReset}
@@ -32,8 +33,9 @@ use Rattle.sctp_pair.proofs.BetweenDirections.{By, ClosedAt, DoesEnding, Faces, 
 use Rattle.sctp_pair.proofs.BetweenDirections.{OtherStands, SettlesEnding, SettlesQuietly, SpansGoOn, StandsAt}
 use Rattle.sctp_pair.proofs.BetweenDirections.{Surroundings, goes_by_receiver, moved, nothing_added, nothing_read}
 use Rattle.sctp_pair.proofs.BetweenDirections.{other_by_receiver, sound_after, stands_between}
-use Rattle.sctp_pair.proofs.QuietCalls.{by_working, fails_settle, open_on, same_settles}
+use Rattle.sctp_pair.proofs.QuietCalls.{by_working, fails_settle, nothing_settles, open_on, same_settles}
 use Rattle.sctp_pair.proofs.ReadCall.{at_exhausted, does_on}
+use Rattle.sctp_pair.proofs.WindowTold.{stopped_so, telling_settles}
 use Rattle.sctp_pair.proofs.WriteCall.{first_none}
 use Rattle.sctp_pair.proofs.HandshakeStages.{at_same, stays_put}
 
@@ -205,6 +207,9 @@ module _ {x : Surroundings} {a : Shown} (id : ℕ) (f : Faces x a) where
         in_order = λ t within tight.
             λ v there. s.in_order t ((spans_then x.out id).within t within) tight v
             (sym (stops.others t (another_then x.out id t within)) ∙ there);
+        reads_open = λ t within.
+            λ v there. s.reads_open t ((spans_then x.coming id).within t within) v
+            (sym (stops.others t (another_then x.coming id t within)) ∙ there);
         same = the_same_status_is_the_same_stage a (stopped_open a id) stops.same;
         resets =
             open_stops_reset_that_stream coming_end.over a id (over_itself x.coming id)
@@ -294,6 +299,7 @@ module _ {x : Surroundings} {a : Shown} (id : ℕ) (f : Faces x a) where
         leads = on.1;
         nobody = tt;
         in_order = stands.in_order;
+        reads_open = stands.reads_open;
         same = the_same_status_is_the_same_stage c (exhausted c) stays.1;
         resets = exhaustion_resets_no_more c coming_end.over stands.resets;
         size = refl;
@@ -307,15 +313,11 @@ module _ {x : Surroundings} {a : Shown} (id : ℕ) (f : Faces x a) where
       let stops = stops_keep_the_status a id in
       let at : IsAt c x.here = at_same a c x.here (the_same_status_is_the_same_stage a c stops.same) f.at in
       let Settled : Shown → Type 0 = λ (z : Shown). SettlesEnding (That id) x z nothing_added nothing_read None_brought in
-      ⊎_elim
-      (λ (same : stopped a id ≡ a). quietly (same_settles same f))
-      (λ (r : (stopped a id ≡ c) ⊎ (stopped a id ≡ exhausted c)).
-      ⊎_elim
-      (λ (plain : stopped a id ≡ c). subst Settled (sym plain) (stop_stays c at (stopped_stands s)))
-      (λ (closes : stopped a id ≡ exhausted c).
-      subst Settled (sym closes) (stop_exhausted s (is_closed_state c.state) refl at))
-      r)
-      stops.either
+      stopped_so Settled (λ tells z k. telling_settles tells z k)
+      (holds_of (λ t. is_read_half_open t.halves) a id) (credit_in a) a c
+      (quietly (nothing_settles f))
+      (stop_stays c at (stopped_stands s))
+      (stop_exhausted s (is_closed_state c.state) refl at)
 
 -- a stop that is not refused is of an association that works
 works_where_unrefused : (failed : Bool) (rest : Option Error)

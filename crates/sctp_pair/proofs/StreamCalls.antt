@@ -53,6 +53,7 @@ adjusted_unseen x a id setting orderly = record {
   leads = setting_leads_on a (adjusted a id setting) id setting refl;
   nobody = (tt, tt);
   orderly = (orderly, tt);
+  ends_none = ((λ s n. n), tt);
   outgoing = λ h. settings_are_no_events (parts a h) id setting x.out;
   incoming = λ h. own_acts_leave_what_comes (Act.Adjusted id setting) (parts a h) x.coming tt;
 }

@@ -32,7 +32,7 @@ use Rattle.sctp_assoc.specs.declared.call.Reply.{Reply}
 use Rattle.sctp_assoc.specs.declared.call.Reply.TheVariants as replies
 use Rattle.sctp_assoc.specs.Replies.{Expires, PollsEndpointEvent, PollsEvent, ShutsDown}
 use Rattle.sctp_pair.proofs.BetweenDirections.{orderly_acts_keep_order}
-use Rattle.sctp_pair.proofs.BetweenDirections.{Faces, KeepsOrder, SettlesQuietly, Surroundings}
+use Rattle.sctp_pair.proofs.BetweenDirections.{EndsNoSpan, Faces, KeepsOrder, SettlesQuietly, Surroundings}
 use Rattle.sctp_pair.proofs.QuietCalls.{empty_still, fails_settle, idle_settles, refused_call_settles, same_settles}
 use Rattle.sctp_pair.proofs.QuietCalls.{stage_settles, unseen_settles}
 
@@ -115,6 +115,10 @@ timeouts_keep_order loose acts (inr marks) =
     subst (AllByRecursion (KeepsOrder loose)) (sym marks)
     (orderly_acts_keep_order loose Act.Marked (λ s n. n), tt)
 
+timeouts_end_no_span : (acts : List Act) → (acts ≡ []) ⊎ (acts ≡ Act.Marked ∷ []) → AllByRecursion EndsNoSpan acts
+timeouts_end_no_span acts (inl none) = subst (AllByRecursion EndsNoSpan) (sym none) tt
+timeouts_end_no_span acts (inr marks) = subst (AllByRecursion EndsNoSpan) (sym marks) ((λ s n. n), tt)
+
 expired_settles : {x : Surroundings} {a : Shown} (now : ℕ) → a.failed ≡ false → Faces x a
     → SettlesQuietly x (after_timeouts a now)
 expired_settles {x} {a} now working f =
@@ -129,6 +133,7 @@ expired_settles {x} {a} now working f =
       leads = timeouts_lead_on a (after_timeouts a now) now refl;
       nobody = timeouts_are_not_peer_known acts shape;
       orderly = timeouts_keep_order x.loose acts shape;
+      ends_none = timeouts_end_no_span acts shape;
       outgoing = λ h. timeouts_out acts (parts a h) x.out shape;
       incoming = λ h. timeouts_coming acts (parts a h) x.coming shape;
     } working f

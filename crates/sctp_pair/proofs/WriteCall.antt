@@ -32,7 +32,7 @@ use Rattle.sctp_pair.proofs.BetweenDirections.{orderly_acts_keep_order}
 use Rattle.sctp_pair.proofs.BetweenDirections.{Does, Faces, None_brought, OpenAt, Settles, Surroundings}
 use Rattle.sctp_pair.proofs.BetweenDirections.{does_by_goes, goes_nowhere, none_ends, nothing_read, other_by_sender}
 use Rattle.sctp_pair.proofs.BetweenDirections.{same_spans_go_on, sound_after}
-use Rattle.sctp_pair.proofs.QuietCalls.{by_working, open_on, same_settles, still_in_order}
+use Rattle.sctp_pair.proofs.QuietCalls.{by_working, open_on, same_settles, still_in_order, still_readable}
 use Rattle.sctp_pair.proofs.HandshakeStages.{at_same, stays_put}
 
 -- what a write with this reply adds to what was accepted on stream s
@@ -108,6 +108,7 @@ written_settles {x} {a} id n named bytes can f s =
           λ u within tight. still_in_order x (Act.Wrote id named bytes ∷ []) s
           (orderly_acts_keep_order x.loose (Act.Wrote id named bytes) (λ z n. n), tt) u
           (spans.within u within) tight;
+      reads_open = still_readable x (Act.Wrote id named bytes ∷ []) s m.1.can ((λ z n. n), tt);
       same = the_same_status_is_the_same_stage a (written a id named bytes) (writes_keep_the_status a id named bytes);
       resets = writes_reset_no_more a id named bytes x.coming.over s.resets;
       size = sent.0.size;

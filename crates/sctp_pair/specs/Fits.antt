@@ -5,7 +5,7 @@ use Rattle.sctp_wire_types.specs.declared.chunk.Chunk.{Chunk}
 use Rattle.sctp_wire_types.specs.declared.chunk.Chunk.TheVariants as chunks
 use Rattle.sctp_model.specs.Machine.{Direction}
 use Rattle.sctp_assoc.specs.Leads.{Binds, parts}
-use Rattle.sctp_directions.specs.Acts.{History, IsKeptInOrder}
+use Rattle.sctp_directions.specs.Acts.{HasReadOpen, History, IsKeptInOrder}
 use Rattle.sctp_assoc.specs.Calls.{is_established}
 use Rattle.sctp_assoc.specs.Closing.{is_closed_state}
 use Rattle.sctp_sides.specs.Ending.{IsInOrderOrLost}
@@ -41,6 +41,8 @@ pub record StandsOpen (loose : ℕ → Bool) (own peer : ℕ) (a : Shown) (out c
   pub between : FitsBetween (parts a past) out coming
   -- a stream within its span sends ordered, reliable messages as long as no step sets it otherwise
   pub in_order : (s : ℕ) → out.over s ≡ false → loose s ≡ false → IsKeptInOrder a.streams s
+  -- and it can be read
+  pub reads_open : (s : ℕ) → coming.over s ≡ false → HasReadOpen a.streams s
   pub resets : ResetsPastOnly coming.over a
 
 -- A closed one is lost and receives nothing more, the streams that were opened since then are empty, and what waits to

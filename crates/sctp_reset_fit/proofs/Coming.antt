@@ -65,6 +65,14 @@ offsets_inserted initial id p (d ∷ ds) (suc at) o =
     by true e l = rw e (omega arith)
     by false e l = rw e l
 
+-- offsets with one more hold each no less often
+no_fewer : (n o : ℕ) (os : List ℕ) → times n os ≤ times n (o ∷ os)
+no_fewer n o os = by (eqb o n)
+  where
+    by : (b : Bool) → times n os ≤ (if b then 1 else 0) + times n os
+    by true = omega arith
+    by false = omega arith
+
 module _ (initial id : ℕ) (P : ChunkPayloadData → Type 0) (IsHeld : Reassembly → List ℕ → Type 0)
     (tells : TellsHeld initial id P IsHeld) (g : GenerationsView) (in_progress : Option PeerRequestView) (c : Course)
     (inv : Invariant c) where
@@ -121,6 +129,59 @@ module _ (initial id : ℕ) (P : ChunkPayloadData → Type 0) (IsHeld : Reassemb
           once_named = h.once_named;
           once_live = subst (λ (n : StreamMap). times id (keys_of n.by_id) ≤ 1) (sym put)
               (set_once id (is_at (nat_cmp id)) (stream_pushed t p).0 m.by_id h.once_live);
+          once_marked = h.once_marked;
+          open_where_marked = λ some k e. opens some k e;
+          near = h.near;
+          still = h.still;
+        };
+        told = ap (λ (d : Course). d.told) (sym is_taken);
+      }
+        where
+          allowed : (is_idle c && (is_new c o && (is_some c.live && not (events.is_hidden c o)))) ≡ true
+          allowed =
+              and_from (is_idle c) _ (idle_now m h)
+              (and_from (is_new c o) _ new
+              (and_from (is_some c.live) _ (ap is_some live) (ap not (sym (hidden_as m p.tsn h near) ∙ shown))))
+
+          is_taken : happens c (Event.Takes o) ≡ taken_in c o
+          is_taken = ap (λ b. cond b (taken_in c o) c) allowed
+
+          opens : (c.marks ≡ [] → ⊥) → (k : Live) → with_held c.live o ≡ Some k → k.is_open ≡ true
+          opens some k e =
+              let f : record l { held = o ∷ l.held } ≡ k =
+              (let z : with_held (Some l) o ≡ Some k = ap (λ x. with_held x o) (sym live) ∙ e in cc) in
+              ap (λ (y : Live). y.is_open) (sym f) ∙ h.open_where_marked some l live
+
+  -- new DATA of that generation, of a live stream to which it does not go
+  pub leaves : (m : StreamMap) (p : ChunkPayloadData) (t : StreamView)
+      → StandsFor initial id P IsHeld g m in_progress c → IsNear initial p.tsn → stream_at m id ≡ Some t
+      → is_new c (offset_of initial p.tsn) ≡ true → is_hidden g id p.tsn (boundary_for in_progress id) ≡ false
+      → LeadsToOne initial id P IsHeld g m in_progress (happens c (Event.Takes (offset_of initial p.tsn)))
+  leaves m p t h near is new shown = by c.live refl (subst (λ x. LiveAs IsHeld x c.live) is h.live)
+    where
+      o : ℕ
+      o = offset_of initial p.tsn
+
+      by : (live : Option Live) → c.live ≡ live → LiveAs IsHeld (Some t) live
+          → LeadsToOne initial id P IsHeld g m in_progress (happens c (Event.Takes o))
+      by None live a = absurd a
+      by (Some l) live a = record {
+        after = taken_in c o;
+        leads = leads_same (happens c (Event.Takes o)) (taken_in c o) is_taken;
+        stands = record {
+          live = subst (λ x. LiveAs IsHeld x (with_held c.live o)) (sym is)
+              (subst (λ x. LiveAs IsHeld (Some t) (with_held x o)) (sym live) (record {
+                generation = a.generation;
+                is_open = a.is_open;
+                held = tells.more t.reassembly l.held (o ∷ l.held) (λ n. no_fewer n o l.held) a.held;
+              }));
+          next = h.next;
+          marks = h.marks;
+          kept = h.kept;
+          deferred = h.deferred;
+          waits = h.waits;
+          once_named = h.once_named;
+          once_live = h.once_live;
           once_marked = h.once_marked;
           open_where_marked = λ some k e. opens some k e;
           near = h.near;

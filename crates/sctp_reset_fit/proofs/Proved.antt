@@ -8,11 +8,11 @@ use Rattle.sctp_reset_requests.specs.Request.{PeerRequestView}
 use Rattle.sctp_streams.specs.Streams.{StreamMap}
 use Rattle.sctp_courses.specs.Course.{Course, boundary_at}
 use Rattle.sctp_reset_fit.specs.Held.{IsHeldOn, IsMadeOn}
-use Rattle.sctp_reset_fit.specs.Laws.{LaterDataWaits, LeadsOn, MessagesAreRead, NewDataIsTaken}
+use Rattle.sctp_reset_fit.specs.Laws.{LaterDataWaits, LeadsOn, LeftDataIsTaken, MessagesAreRead, NewDataIsTaken}
 use Rattle.sctp_reset_fit.specs.Laws.{NothingStandsForTheStart, RequestsArePerformed, StreamsAreReadOut}
 use Rattle.sctp_reset_fit.specs.Laws.{WhatIsHiddenIsHidden}
 use Rattle.sctp_reset_fit.specs.Stands.{last_below}
-use Rattle.sctp_reset_fit.proofs.Coming.{hidden_as, keeps, takes}
+use Rattle.sctp_reset_fit.proofs.Coming.{hidden_as, keeps, leaves, takes}
 use Rattle.sctp_reset_fit.proofs.Keeping.{tells}
 use Rattle.sctp_reset_fit.proofs.Numbers.{lte_both}
 use Rattle.sctp_reset_fit.proofs.Passing.{LeadsToOne, reads_out}
@@ -50,6 +50,12 @@ new_data_is_taken P initial limit p t g m o c inv h so near is accepted new show
     leads_on P (takes initial p.stream_identifier P (IsHeldOn P initial p.stream_identifier)
     (tells P initial p.stream_identifier) g o c inv
     m p limit t h refl so near is accepted new shown)
+
+pub left_data_is_taken : (P : ChunkPayloadData → Type 0) → LeftDataIsTaken P
+left_data_is_taken P initial p t g m o c inv h near is new shown =
+    leads_on P (leaves initial p.stream_identifier P (IsHeldOn P initial p.stream_identifier)
+    (tells P initial p.stream_identifier) g o c inv
+    m p t h near is new shown)
 
 pub later_data_waits : (P : ChunkPayloadData → Type 0) → LaterDataWaits P
 later_data_waits P initial p g m o c inv h so near new hidden =

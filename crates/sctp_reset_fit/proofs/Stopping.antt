@@ -27,11 +27,12 @@ use Rattle.sctp_reset_fit.specs.Held.{IsHeldOn}
 use Rattle.sctp_reset_fit.specs.Keeping.{KeepsCourse}
 use Rattle.sctp_reset_fit.specs.Laws.{LeadsTo, Stands}
 use Rattle.sctp_reset_fit.specs.Stands.{IsNear, IsOnce, LiveAs, MarksAs, offsets_of}
+use Rattle.sctp_reset_fit.proofs.Keeping.{keeps_then}
 use Rattle.sctp_reset_fit.proofs.Leading.{leads_by, leads_nowhere, leads_on}
 use Rattle.sctp_reset_fit.proofs.Once.{removed_none, removed_once, set_once}
 use Rattle.sctp_reset_fit.proofs.Parted.{offsets_chosen}
 use Rattle.sctp_reset_fit.proofs.Piles.{empty_on, more_on}
-use Rattle.sctp_reset_fit.proofs.Streams.{read_half_closed_keeps}
+use Rattle.sctp_reset_fit.proofs.Streams.{changed_keeps, read_half_closed_keeps}
 
 -- Where only this side's requests and what is owed are others
 
@@ -93,7 +94,7 @@ abbrev pub with_read_half_closed : StreamMap → ℕ → StreamMap
 with_read_half_closed m k = changed_stream (λ s. with_halves s (without_read_half s.halves)) m k
 
 -- and what waits to be read of it is dropped
-abbrev with_unread_dropped : StreamMap → ℕ → StreamMap
+abbrev pub with_unread_dropped : StreamMap → ℕ → StreamMap
 with_unread_dropped m k = changed_stream without_unread (with_read_half_closed m k) k
 
 dropped_next : (m : StreamMap) (k : ℕ) → (with_unread_dropped m k).next_generation ≡ m.next_generation
@@ -312,11 +313,23 @@ pub stopped_keeps : (P : ChunkPayloadData → Type 0) (initial id : ℕ) (r : Re
 stopped_keeps P initial id r m told k =
     left_keeps P initial id r m _ k (is_blocked (with_generations r (generations.discarded r.generations k)) k)
 
--- The read half of a stream closes: one whose generation ended is read no more, and another one is to be reset.
-abbrev pub with_reads_stopped : ℕ → ResetsView → StreamMap → List AssociationEvent → Beside
-with_reads_stopped k r m told =
+-- What waits to be read of a stream is dropped: the course has no less than is held.
+pub unread_dropped_keeps : (P : ChunkPayloadData → Type 0) (initial id : ℕ) (r : ResetsView) (m : StreamMap) (k : ℕ)
+    → KeepsCourse P initial id r m r (changed_stream without_unread m k)
+unread_dropped_keeps P initial id r m k =
+    changed_keeps P initial id r m k without_unread
+    (λ t l h. record {
+      generation = h.generation;
+      is_open = h.is_open;
+      held = more_on P initial id empty_reassembly [] l.held (λ o. omega arith) (empty_on P initial id);
+    })
+
+-- The read half of a stream closes: one whose generation ended is read no more, and another one is to be reset, and
+-- what waits of that is dropped or not.
+abbrev pub with_reads_stopped : Bool → ℕ → ResetsView → StreamMap → List AssociationEvent → Beside
+with_reads_stopped drops k r m told =
     if is_retiring r k then stopped_reading k r (with_read_half_closed m k) told
-    else (waiting_for r k, with_read_half_closed m k, told)
+    else (waiting_for r k, (if drops then with_unread_dropped m k else with_read_half_closed m k), told)
 
 none_at : (o : Option (List ℕ)) → is_some o ≡ false → o ≡ None
 none_at None e = refl
@@ -324,16 +337,27 @@ none_at (Some bs) e = absurd (true≢false e)
 
 -- The application stops a stream.
 pub stopped_open_keeps : (P : ChunkPayloadData → Type 0) (initial id : ℕ) (r : ResetsView) (m : StreamMap)
-    (told : List AssociationEvent) (k : ℕ)
-    → KeepsCourse P initial id r m (with_reads_stopped k r m told).0 (with_reads_stopped k r m told).1
-stopped_open_keeps P initial id r m told k = by (is_retiring r k) refl
+    (told : List AssociationEvent) (drops : Bool) (k : ℕ)
+    → KeepsCourse P initial id r m (with_reads_stopped drops k r m told).0 (with_reads_stopped drops k r m told).1
+stopped_open_keeps P initial id r m told drops k = by (is_retiring r k) refl
   where
+    half : is_retiring r k ≡ false → KeepsCourse P initial id r m (waiting_for r k) (with_read_half_closed m k)
+    half e = read_half_closed_keeps P initial id r m k (none_at (boundaries_at r.generations.retiring k) e)
+
+    left : (d : Bool) → is_retiring r k ≡ false
+        → KeepsCourse P initial id r m (waiting_for r k)
+        (if d then with_unread_dropped m k else with_read_half_closed m k)
+    left true e =
+        keeps_then P initial id r (waiting_for r k) (waiting_for r k) m (with_read_half_closed m k)
+        (with_unread_dropped m k) (half e)
+        (unread_dropped_keeps P initial id (waiting_for r k) (with_read_half_closed m k) k)
+    left false e = half e
+
     by : (b : Bool) → is_retiring r k ≡ b
         → KeepsCourse P initial id r m
         (cond {A = Beside} b (stopped_reading k r (with_read_half_closed m k) told)
-        (waiting_for r k, with_read_half_closed m k, told)).0
+        (waiting_for r k, (if drops then with_unread_dropped m k else with_read_half_closed m k), told)).0
         (cond {A = Beside} b (stopped_reading k r (with_read_half_closed m k) told)
-        (waiting_for r k, with_read_half_closed m k, told)).1
+        (waiting_for r k, (if drops then with_unread_dropped m k else with_read_half_closed m k), told)).1
     by true e = stopped_keeps P initial id r m told k
-    by false e =
-        read_half_closed_keeps P initial id r m k (none_at (boundaries_at r.generations.retiring k) e)
+    by false e = left drops e

@@ -92,6 +92,18 @@ NewDataIsTaken P = (initial limit : ℕ) (piece : ChunkPayloadData) (t : StreamV
     → LeadsOn P initial piece.stream_identifier g (pushed_in m piece.stream_identifier piece).0 in_progress
     (happens c (Event.Takes (offset_of initial piece.tsn)))
 
+-- New DATA of that generation which does not go to its live stream is taken in all the same: the course has no less
+-- than the stream holds.
+abbrev pub LeftDataIsTaken : (ChunkPayloadData → Type 0) → Type 0
+LeftDataIsTaken P = (initial : ℕ) (piece : ChunkPayloadData) (t : StreamView) (g : GenerationsView) (m : StreamMap)
+    (in_progress : Option PeerRequestView) (c : Course) → Invariant c
+    → Stands P initial piece.stream_identifier g m in_progress c → IsNear initial piece.tsn
+    → stream_at m piece.stream_identifier ≡ Some t → is_new c (offset_of initial piece.tsn) ≡ true
+    → generations.is_hidden g piece.stream_identifier piece.tsn
+    (boundary_for in_progress piece.stream_identifier) ≡ false
+    → LeadsOn P initial piece.stream_identifier g m in_progress
+    (happens c (Event.Takes (offset_of initial piece.tsn)))
+
 -- New DATA of a later one waits there.
 abbrev pub LaterDataWaits : (ChunkPayloadData → Type 0) → Type 0
 LaterDataWaits P = (initial : ℕ) (piece : ChunkPayloadData) (g : GenerationsView) (m : StreamMap)

@@ -6,15 +6,17 @@
 
 ghost use Rattle.std.specs.Prelude.{Bool};
 ghost use Rattle.sctp_wire_types.specs.declared.chunk.ChunkPayloadData.{ChunkPayloadData};
-ghost use Rattle.sctp_reset_fit.specs.Laws.{LaterDataWaits, MessagesAreRead, NewDataIsTaken, NothingStandsForTheStart};
-ghost use Rattle.sctp_reset_fit.specs.Laws.{Passes, RequestsArePerformed, StreamsAreReadOut, WhatIsHiddenIsHidden};
+ghost use Rattle.sctp_reset_fit.specs.Laws.{LaterDataWaits, LeftDataIsTaken, MessagesAreRead, NewDataIsTaken};
+ghost use Rattle.sctp_reset_fit.specs.Laws.{NothingStandsForTheStart, Passes, RequestsArePerformed, StreamsAreReadOut};
+ghost use Rattle.sctp_reset_fit.specs.Laws.{WhatIsHiddenIsHidden};
 
-/// DATA that comes for a stream: it is of a later generation where it is so in the stream's course, and is taken in or
-/// waits as there (RFC 6525 section 5.2.2).
+/// DATA that comes for a stream: it is of a later generation where it is so in the stream's course, and is taken in,
+/// whether or not it goes to the stream, or waits as there (RFC 6525 section 5.2.2).
 pub fn what_comes_follows_the_course()
     ensures start { (test : ChunkPayloadData → Bool) → NothingStandsForTheStart (Passes test) }
     ensures hidden { (test : ChunkPayloadData → Bool) → WhatIsHiddenIsHidden (Passes test) }
     ensures taken { (test : ChunkPayloadData → Bool) → NewDataIsTaken (Passes test) }
+    ensures left { (test : ChunkPayloadData → Bool) → LeftDataIsTaken (Passes test) }
     ensures kept { (test : ChunkPayloadData → Bool) → LaterDataWaits (Passes test) }
 {}
 

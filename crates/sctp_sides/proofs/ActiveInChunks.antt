@@ -55,7 +55,7 @@ use Rattle.sctp_assoc.specs.declared.inbound.Flow.TheVariants as flows
 use Rattle.sctp_assoc.specs.Calls.{is_beginning, is_cookie_echoed, is_cookie_wait, is_established, sends_data}
 use Rattle.sctp_assoc.specs.Chunks.{asks, asks_or_faults, checked_first, counted_data, counted_sack, deferred_unless}
 use Rattle.sctp_assoc.specs.Chunks.{deferred_where_admitted, dispatched, on_chunk, on_counted_sack, on_data}
-use Rattle.sctp_assoc.specs.Chunks.{on_new_data}
+use Rattle.sctp_assoc.specs.Chunks.{goes_unread, left_or_handed_over, on_new_data}
 use Rattle.sctp_assoc.specs.Chunks.{on_sack, stream_found, taken_in, taken_unless, taken_where_admitted, then_skips}
 use Rattle.sctp_assoc.specs.Chunks.{told, with_message}
 use Rattle.sctp_assoc.specs.Closing.{is_exhausted}
@@ -344,10 +344,15 @@ taken_unless_leaves : (refusal : Option Error) (a : Shown) (piece : ChunkPayload
 taken_unless_leaves (Some fault) a piece = by_active a _ refl
 taken_unless_leaves None a piece = message_leaves a piece (pushed_in a.streams piece.stream_identifier piece)
 
+left_leaves : (left : Bool) (a : Shown) (piece : ChunkPayloadData)
+    → LeavesActive a (left_or_handed_over left a piece).0
+left_leaves true a piece = by_active a _ refl
+left_leaves false a piece =
+    taken_unless_leaves (refusal_in a.streams piece.stream_identifier piece a.receiver.max_receive_message_size) a piece
+
 taken_leaves : (a : Shown) (piece : ChunkPayloadData) → LeavesActive a (taken_in a piece).0
 unfolding taken_in
-taken_leaves a piece =
-    taken_unless_leaves (refusal_in a.streams piece.stream_identifier piece a.receiver.max_receive_message_size) a piece
+taken_leaves a piece = left_leaves (goes_unread a piece) a piece
 
 then_skips_leaves : (x : Shown × Option Error) (id : ℕ) → LeavesActive x.0 (then_skips x id).0
 then_skips_leaves (a, None) id = skipping_leaves id a

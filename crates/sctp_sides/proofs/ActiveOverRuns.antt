@@ -4,6 +4,7 @@ use Rattle.std.proofs.Common.{if◌then◌else◌, is_some, length, List, [], �
 use Rattle.std.proofs.lemmas.Bool.{cases_Bool, eqb-true, false≢true, true≢false}
 use Rattle.std.specs.List.{list_any}
 use Rattle.std.specs.Prelude.{remove, slice_get, ⊤}
+use Rattle.sctp_wire_types.specs.Config.{is_rfc}
 use Rattle.sctp_wire_types.specs.declared.chunk.Chunk.{Chunk}
 use Rattle.sctp_wire_types.specs.declared.error.Error.{Error}
 use Rattle.sctp_wire_types.specs.declared.error.Error.TheVariants as errors
@@ -39,10 +40,10 @@ use Rattle.sctp_resets.specs.Telling.{next_told}
 use Rattle.sctp_directions.specs.Acts.{Act, History, Parts, done_all, message_of, type_on}
 use Rattle.sctp_assoc.specs.declared.inbound.Flow.{Flow}
 use Rattle.sctp_assoc.specs.declared.inbound.Flow.TheVariants as flows
-use Rattle.sctp_assoc.specs.Calls.{accepted_from, adjusted, after_ack_delay, after_read, after_t3, drained_behind}
-use Rattle.sctp_assoc.specs.Calls.{event_from, holds_of, is_established, retransmits, size_refusal, state_refusal}
-use Rattle.sctp_assoc.specs.Calls.{stopped_open, t3_expired, without_read_half_of, write_refusal, write_refusal_at}
-use Rattle.sctp_assoc.specs.Calls.{written_at}
+use Rattle.sctp_assoc.specs.Calls.{accepted_from, adjusted, after_ack_delay, after_read, after_t3, credit_in}
+use Rattle.sctp_assoc.specs.Calls.{drained_behind, eased, event_from, holds_of, is_established, retransmits}
+use Rattle.sctp_assoc.specs.Calls.{size_refusal, state_refusal, stopped_open, t3_expired, tells_window, told_if}
+use Rattle.sctp_assoc.specs.Calls.{unread_dropped, without_read_half_of, write_refusal, write_refusal_at, written_at}
 use Rattle.sctp_assoc.specs.Chunks.{after_chunks, after_packet_of, goes_on, on_chunk}
 use Rattle.sctp_assoc.specs.Closing.{closed_by, closed_open, exhausted, is_closed_state, is_exhausted, relieved}
 use Rattle.sctp_assoc.specs.Handshake.{after_t1_cookie, after_t1_init, init_queued, sends_cookie, sends_init}
@@ -123,7 +124,7 @@ stopped_leaves : (retires : Bool) (a : Shown) (id : ℕ)
     → LeavesActive a
     (let b = without_read_half_of a id in
     if retires then with_beside b (stopped_reading id b.resets b.streams b.events) else
-    record b { resets = waiting_for b.resets id })
+    record b { streams = unread_dropped (is_rfc b.profile) b.streams id; resets = waiting_for b.resets id })
 stopped_leaves true a id =
     let b : Shown = without_read_half_of a id in
     let x = stopped_reading id b.resets b.streams b.events in
@@ -152,18 +153,27 @@ relieved_if false a = by_active a _ refl
 relieved_leaves : (a : Shown) → LeavesActive a (relieved a)
 relieved_leaves a = relieved_if (is_exhausted a) a
 
+told_leaves : (c : Bool) (a : Shown) → LeavesActive a (told_if c a)
+told_leaves true a = by_active a _ refl
+told_leaves false a = by_active a _ refl
+
+eased_leaves : (before : ℕ) (a : Shown) → LeavesActive a (eased before a)
+eased_leaves before a =
+    let b : Shown = relieved a in
+    then_on a b (eased before a) (relieved_leaves a) (told_leaves (tells_window before b) b)
+
 read_leaves : (a : Shown) (id : ℕ) (x : StreamMap × Option ReceivedMessage) → LeavesActive a (after_read a id x).0
 read_leaves a id (streams, None) = draining_leaves a id streams
 read_leaves a id (streams, Some message) =
     let b : Shown = drained_behind a id streams in
-    then_on a b (relieved b) (draining_leaves a id streams) (relieved_leaves b)
+    then_on a b (eased (credit_in a) b) (draining_leaves a id streams) (eased_leaves (credit_in a) b)
 
-stop_leaves : (reads : Bool) (a : Shown) (id : ℕ)
-    → LeavesActive a (if reads then relieved (stopped_open a id) else a)
-stop_leaves true a id =
+stop_leaves : (reads : Bool) (before : ℕ) (a : Shown) (id : ℕ)
+    → LeavesActive a (if reads then eased before (stopped_open a id) else a)
+stop_leaves true before a id =
     let b : Shown = stopped_open a id in
-    then_on a b (relieved b) (stopped_leaves (is_retiring a.resets id) a id) (relieved_leaves b)
-stop_leaves false a id = by_active a _ refl
+    then_on a b (eased before b) (stopped_leaves (is_retiring a.resets id) a id) (eased_leaves before b)
+stop_leaves false before a id = by_active a _ refl
 
 -- Timers
 
@@ -385,10 +395,10 @@ plain_leaves Call.Poll a p =
 plain_leaves (Call.PollTransmit now) a p = absurd p
 plain_leaves (Call.HandleTimeout now) a p = timeouts_leave a now
 plain_leaves (Call.HandleEvent packet now) a p = packet_leaves_if a.lost packet a now
-plain_leaves (Call.Stop id) a p = stop_leaves (holds_of (λ s. is_read_half_open s.halves) a id) a id
+plain_leaves (Call.Stop id) a p = stop_leaves (holds_of (λ s. is_read_half_open s.halves) a id) (credit_in a) a id
 plain_leaves (Call.CloseStream id) a p =
     let b : Shown = adjusted a id settings.WriteHalfClosed in
-    record { from = (stop_leaves (holds_of (λ s. is_read_half_open s.halves) b id) b id).from }
+    record { from = (stop_leaves (holds_of (λ s. is_read_half_open s.halves) b id) (credit_in b) b id).from }
 
 plain_writes_nothing : (call : Call) (a : Shown) → IsPlain call → AreNoWrites (acts_of_call call a)
 plain_writes_nothing (Call.OpenStream id kind) a p = (tt, tt)

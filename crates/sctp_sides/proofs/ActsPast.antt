@@ -1,6 +1,6 @@
 -- Of which acts DATA, RE-CONFIG and FORWARD TSNs are made where resets concern streams past their span alone: behind
 -- what they do otherwise they only end spans that were over before.
-use Rattle.std.proofs.Common.{◌≡◌, refl, sym, ap, ◌∙◌, ◌⊎◌, ⊎_elim, inl, inr, ℕ, Bool, true, false, eqb, not}
+use Rattle.std.proofs.Common.{◌≡◌, refl, sym, ap, ◌∙◌, subst, ◌⊎◌, ⊎_elim, inl, inr, ℕ, Bool, true, false, eqb, not}
 use Rattle.std.proofs.Common.{if◌then◌else◌, List, [], ◌∷◌, ◌++◌, Option, Some, None, is_some, Result, Ok, Err}
 use Rattle.std.specs.List.{AllByRecursion}
 use Rattle.std.proofs.lemmas.List.{append_assoc}
@@ -33,10 +33,11 @@ use Rattle.sctp_resets.specs.declared.performing.Handled.{Handled}
 use Rattle.sctp_resets.proofs.KeptOver.{active_over, concerned_over, deferred_over, handled_over, hidden_is_over}
 use Rattle.sctp_resets.proofs.KeptOver.{request_ids_over, responded_over, retiring_is_over, skip_over}
 use Rattle.sctp_resets.proofs.KeptOver.{skips_done_of_over, unordered_over}
-use Rattle.sctp_directions.specs.Acts.{Act}
-use Rattle.sctp_assoc.specs.Chunks.{counted_data, deferred_unless, deferred_where_admitted, stream_found, taken_in}
+use Rattle.sctp_directions.specs.Acts.{Act, HasReadOpen}
+use Rattle.sctp_assoc.specs.Chunks.{counted_data, deferred_unless, deferred_where_admitted, goes_unread}
+use Rattle.sctp_assoc.specs.Chunks.{left_or_handed_over, stream_found, taken_in}
 use Rattle.sctp_assoc.specs.Chunks.{taken_unless, then_skips, told, with_message, with_new_stream}
-use Rattle.sctp_assoc.specs.Happened.{acts_of_checked, acts_of_forward, acts_of_found}
+use Rattle.sctp_assoc.specs.Happened.{acts_if_left, acts_of_checked, acts_of_forward, acts_of_found}
 use Rattle.sctp_assoc.specs.Happened.{acts_of_hidden, acts_of_skips_behind, acts_of_stream, acts_of_taking}
 use Rattle.sctp_assoc.specs.Happened.{acts_unless_faulty, acts_unless_refused}
 use Rattle.sctp_assoc.specs.ResetActs.{acts_of_keeping, acts_of_kept_skips, acts_of_param, acts_of_second}
@@ -47,8 +48,10 @@ use Rattle.sctp_assoc.specs.Resets.{with_beside, with_resetting}
 use Rattle.sctp_assoc.specs.Shown.{Shown, all_waiting}
 use Rattle.sctp_assoc.specs.Skipping.{skips_of, with_passed, with_skip, with_skips}
 use Rattle.sctp_fit.proofs.StreamsThere.{at_made}
+use Rattle.sctp_assoc.proofs.UnreadData.{acts_where_read, made_is_read, unread_is_over}
 use Rattle.sctp_sides.specs.PastSpan.{EndsPast, ParamIsPast, ParamIsPastIf, ResetsPast}
-use Rattle.sctp_sides.specs.SideLaws.{DataOpensOrTakes, ForwardsPassOver, IForwardsPassOver, IsPassingOver}
+use Rattle.sctp_sides.specs.SideLaws.{DataOpensOrTakes, DefersOnly, ForwardsPassOver, IForwardsPassOver}
+use Rattle.sctp_sides.specs.SideLaws.{IsPassingOver}
 use Rattle.sctp_sides.specs.SideLaws.{IsTaking, ReconfigsEndPast, WithEndsBehind}
 use Rattle.sctp_sides.proofs.ForwardKinds.{acts_are_one_of}
 
@@ -130,11 +133,16 @@ module _ (over : ℕ → Bool) where
   taken_unless_is_over None a piece h =
       message_is_over a piece (pushed_in a.streams piece.stream_identifier piece) h
 
-  taken_is_over : (a : Shown) (piece : ChunkPayloadData) → IsOver a → IsOver (taken_in a piece).0
-  unfolding taken_in
-  taken_is_over a piece h =
+  left_is_over : (left : Bool) (a : Shown) (piece : ChunkPayloadData) → IsOver a
+      → IsOver (left_or_handed_over left a piece).0
+  left_is_over true a piece h = h
+  left_is_over false a piece h =
       taken_unless_is_over
       (refusal_in a.streams piece.stream_identifier piece a.receiver.max_receive_message_size) a piece h
+
+  taken_is_over : (a : Shown) (piece : ChunkPayloadData) → IsOver a → IsOver (taken_in a piece).0
+  unfolding taken_in
+  taken_is_over a piece h = left_is_over (goes_unread a piece) a piece h
 
   beside_is_over : (a : Shown) (x : Beside) → ResetsOver over x.0 → IsOver (with_beside a x)
   beside_is_over a (r, m, queued) h = h
@@ -147,27 +155,45 @@ module _ (over : ℕ → Bool) where
 
   -- DATA that comes to its stream
 
+  -- it goes to its stream, or is refused or not admitted
   abbrev TakesOrNot : ChunkPayloadData → List Act → Type 0
   TakesOrNot piece acts = (acts ≡ []) ⊎ (acts ≡ Act.Took piece ∷ [])
+
+  -- or nobody reads that stream, which is past its span
+  abbrev TakesOrLeaves : ChunkPayloadData → List Act → Type 0
+  TakesOrLeaves piece acts = TakesOrNot piece acts ⊎ DefersOnly over piece acts
 
   takes_or_not : (refusal : Option Error) (piece : ChunkPayloadData)
       → TakesOrNot piece (acts_unless_refused refusal (Act.Took piece))
   takes_or_not None piece = inr refl
   takes_or_not (Some fault) piece = inl refl
 
-  found_if : (credit : Bool) (a : Shown) (piece : ChunkPayloadData) → IsOver a
-      → WithEndsBehind over (TakesOrNot piece)
+  takes_or_leaves : (left : Bool) (a : Shown) (piece : ChunkPayloadData)
+      → (left ≡ true → over piece.stream_identifier ≡ true) → TakesOrLeaves piece (acts_if_left left a piece)
+  takes_or_leaves true a piece past = inr (record { past = past refl; are = refl })
+  takes_or_leaves false a piece past =
+      inl (takes_or_not (refusal_in a.streams piece.stream_identifier piece a.receiver.max_receive_message_size) piece)
+
+  -- what is read goes to its stream
+  read_takes : (a : Shown) (piece : ChunkPayloadData) → goes_unread a piece ≡ false
+      → TakesOrNot piece (acts_of_taking a piece)
+  read_takes a piece read =
+      subst (TakesOrNot piece) (sym (acts_where_read a piece read))
+      (takes_or_not (refusal_in a.streams piece.stream_identifier piece a.receiver.max_receive_message_size) piece)
+
+  found_if : (P : List Act → Type 0) (credit : Bool) (a : Shown) (piece : ChunkPayloadData) → P []
+      → P (acts_of_taking a piece) → IsOver a
+      → WithEndsBehind over P
       ((if credit then
       acts_of_taking a piece ++ acts_of_skips_behind (taken_in a piece) piece.stream_identifier else [])
       ++ acts_unless_faulty (if credit then then_skips (taken_in a piece) piece.stream_identifier else (a, None)))
-  found_if true a piece h =
+  found_if P true a piece none taking h =
       let id = piece.stream_identifier in
       let x : Shown × Option Error = taken_in a piece in
       let h_taken : IsOver (taken_in a piece).0 = taken_is_over a piece h in
       record {
         front = acts_of_taking a piece;
-        front_are =
-            takes_or_not (refusal_in a.streams id piece a.receiver.max_receive_message_size) piece;
+        front_are = taking;
         behind = acts_of_skips_behind x id ++ acts_unless_faulty (then_skips x id);
         behind_are =
             all_join (EndsPast over) (acts_of_skips_behind x id) (acts_unless_faulty (then_skips x id))
@@ -175,34 +201,45 @@ module _ (over : ℕ → Bool) where
         are =
             append_assoc (acts_of_taking a piece) (acts_of_skips_behind x id) (acts_unless_faulty (then_skips x id));
       }
-  found_if false a piece h = ends_alone (TakesOrNot piece) (acts_of_settling a) (inl refl) (settling_ends a h)
+  found_if P false a piece none taking h = ends_alone P (acts_of_settling a) none (settling_ends a h)
 
-  found_acts : (a : Shown) (piece : ChunkPayloadData) → IsOver a
-      → WithEndsBehind over (TakesOrNot piece) (acts_of_found (a, true) piece)
-  found_acts a piece h = found_if (admits a.receiver piece.tsn (all_waiting a)) a piece h
+  found_acts : (P : List Act → Type 0) (a : Shown) (piece : ChunkPayloadData) → P [] → P (acts_of_taking a piece)
+      → IsOver a → WithEndsBehind over P (acts_of_found (a, true) piece)
+  found_acts P a piece none taking h = found_if P (admits a.receiver piece.tsn (all_waiting a)) a piece none taking h
+
+  -- all streams can be read that are within their span
+  abbrev AreReadWithin : Shown → Type 0
+  AreReadWithin a = (s : ℕ) → over s ≡ false → HasReadOpen a.streams s
 
   stream_acts : (o : Option StreamView) (left : Bool) (a : Shown) (piece : ChunkPayloadData) → IsOver a
+      → AreReadWithin a
       → stream_at a.streams piece.stream_identifier ≡ o → generation_left a.streams ≡ left
       → WithEndsBehind over (IsTaking over a piece) (acts_of_stream a piece.stream_identifier
       ++ acts_of_found (stream_found (counted_data a) piece.stream_identifier) piece)
   unfolding stream_found
-  stream_acts (Some t) left a piece h e f =
+  stream_acts (Some t) left a piece h reads e f =
       let there : is_some (stream_at a.streams piece.stream_identifier) ≡ true = ap is_some e in
-      rw there (with_front (TakesOrNot piece) (IsTaking over a piece) []
+      let taking : TakesOrLeaves piece (acts_of_taking (counted_data a) piece) =
+      takes_or_leaves (goes_unread a piece) (counted_data a) piece
+      (λ (unread : goes_unread a piece ≡ true). unread_is_over over a piece reads unread) in
+      rw there (with_front (TakesOrLeaves piece) (IsTaking over a piece) []
       (acts_of_found (counted_data a, true) piece)
-      (λ (front : List Act). ⊎_elim (λ (n : front ≡ []). inl n)
-      (λ (n : front ≡ Act.Took piece ∷ []). inr (inr (inr (inl (record { stream = t; live = e; are = n }))))))
-      (found_acts (counted_data a) piece h))
-  stream_acts None false a piece h e f =
+      (λ (front : List Act). ⊎_elim
+      (λ (takes : TakesOrNot piece front). ⊎_elim (λ (n : front ≡ []). inl n)
+      (λ (n : front ≡ Act.Took piece ∷ []). inr (inr (inr (inl (record { stream = t; live = e; are = n }))))) takes)
+      (λ (leaves : DefersOnly over piece front). inr (inr (inr (inr leaves)))))
+      (found_acts (TakesOrLeaves piece) (counted_data a) piece (inl (inl refl)) taking h))
+  stream_acts None false a piece h reads e f =
       let there : is_some (stream_at a.streams piece.stream_identifier) ≡ false = ap is_some e in
       rw (there, f) (none_behind (IsTaking over a piece) (inl refl))
-  stream_acts None true a piece h e f =
+  stream_acts None true a piece h reads e f =
       let there : is_some (stream_at a.streams piece.stream_identifier) ≡ false = ap is_some e in
       let id = piece.stream_identifier in
       let b : Shown = with_new_stream (counted_data a) id in
       let number = a.sender.queue.next_message_id in
       let act = Act.Opened id number kinds.Unknown in
       let made_at = at_made a.streams id number id kinds.Unknown e ∙ cond-true (eqb id id) _ _ (eq-eqb id id refl) in
+      let read : goes_unread b piece ≡ false = made_is_read a.profile a.streams id number kinds.Unknown e in
       rw (there, f) (with_front (TakesOrNot piece) (IsTaking over a piece) (act ∷ []) (acts_of_found (b, true) piece)
       (λ (front : List Act). ⊎_elim
       (λ (n : front ≡ []).
@@ -215,7 +252,7 @@ module _ (over : ℕ → Bool) where
         live = made_at;
         are = ap (λ z. act ∷ z) n;
       })))))
-      (found_acts b piece h))
+      (found_acts (TakesOrNot piece) b piece (inl refl) (read_takes b piece read) h))
 
   -- DATA of a generation that is not read yet
 
@@ -247,26 +284,28 @@ module _ (over : ℕ → Bool) where
 
   -- DATA
 
-  next_acts : (next hidden : Bool) (a : Shown) (piece : ChunkPayloadData) → IsOver a
+  next_acts : (next hidden : Bool) (a : Shown) (piece : ChunkPayloadData) → IsOver a → AreReadWithin a
       → is_hidden a.resets piece.stream_identifier piece.tsn ≡ hidden
       → WithEndsBehind over (IsTaking over a piece) (if not next then acts_of_settling (counted_data a) else
       if hidden then acts_of_hidden (counted_data a) piece else
       acts_of_stream a piece.stream_identifier
       ++ acts_of_found (stream_found (counted_data a) piece.stream_identifier) piece)
-  next_acts false hidden a piece h e =
+  next_acts false hidden a piece h reads e =
       ends_alone (IsTaking over a piece) (acts_of_settling (counted_data a)) (inl refl)
       (settling_ends (counted_data a) h)
-  next_acts true true a piece h e =
+  next_acts true true a piece h reads e =
       hidden_acts a (counted_data a) piece (hidden_is_over over a.resets piece.stream_identifier piece.tsn h e) h
-  next_acts true false a piece h e =
-      stream_acts (stream_at a.streams piece.stream_identifier) (generation_left a.streams) a piece h refl refl
+  next_acts true false a piece h reads e =
+      stream_acts (stream_at a.streams piece.stream_identifier) (generation_left a.streams) a piece h reads refl refl
 
   checked_acts : (r : Result (Unit {0}) Error) (a : Shown) (header : CommonHeader) (piece : ChunkPayloadData)
-      → IsOver a → WithEndsBehind over (IsTaking over a piece) (acts_of_checked r a header (chunks.Data piece))
-  checked_acts (Err fault) a header piece h =
+      → IsOver a → AreReadWithin a
+      → WithEndsBehind over (IsTaking over a piece) (acts_of_checked r a header (chunks.Data piece))
+  checked_acts (Err fault) a header piece h reads =
       none_behind (IsTaking over a piece) (inl refl)
-  checked_acts (Ok done) a header piece h =
-      next_acts (is_new_to a.receiver piece.tsn) (is_hidden a.resets piece.stream_identifier piece.tsn) a piece h refl
+  checked_acts (Ok done) a header piece h reads =
+      next_acts (is_new_to a.receiver piece.tsn) (is_hidden a.resets piece.stream_identifier piece.tsn) a piece h reads
+      refl
 
   -- RE-CONFIG
 
@@ -393,7 +432,8 @@ module _ (over : ℕ → Bool) where
   checked_i_forward (Ok done) a header x h = forward_acts a x.new_cumulative_tsn (skips_of x.entries) h
 
 pub data_opens_or_takes : DataOpensOrTakes
-data_opens_or_takes over a header piece h = checked_acts over (checked_chunk (chunks.Data piece)) a header piece h
+data_opens_or_takes over a header piece h reads =
+    checked_acts over (checked_chunk (chunks.Data piece)) a header piece h reads
 
 pub reconfigs_end_past : ReconfigsEndPast
 reconfigs_end_past over a header reconfig h past =

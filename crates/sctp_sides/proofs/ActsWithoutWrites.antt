@@ -30,11 +30,12 @@ use Rattle.sctp_assoc.specs.declared.inbound.Flow.{Flow}
 use Rattle.sctp_assoc.specs.declared.inbound.Flow.TheVariants as flows
 use Rattle.sctp_assoc.specs.Calls.{adjusted, drained_behind, exchanges_data, holds_of, is_beginning, is_cookie_wait}
 use Rattle.sctp_assoc.specs.Calls.{read_exhausts, sends_data, stopped_open}
-use Rattle.sctp_assoc.specs.Chunks.{counted_data, deferred_where_admitted, on_chunk, stream_found, taken_in}
-use Rattle.sctp_assoc.specs.Chunks.{taken_where_admitted}
+use Rattle.sctp_assoc.specs.Chunks.{counted_data, deferred_where_admitted, goes_unread, on_chunk, stream_found}
+use Rattle.sctp_assoc.specs.Chunks.{taken_in, taken_where_admitted}
 use Rattle.sctp_assoc.specs.Closing.{is_closed_state, is_exhausted}
 use Rattle.sctp_assoc.specs.Gather.{fast_polled, is_due, late_dropped, open_polled}
-use Rattle.sctp_assoc.specs.Happened.{acts_after, acts_of_ack, acts_of_checked, acts_of_chunk, acts_of_chunks}
+use Rattle.sctp_assoc.specs.Happened.{acts_after, acts_if_left, acts_of_ack, acts_of_checked, acts_of_chunk}
+use Rattle.sctp_assoc.specs.Happened.{acts_of_chunks}
 use Rattle.sctp_assoc.specs.Happened.{acts_of_close, acts_of_close_stream, acts_of_counted_data, acts_of_data_poll}
 use Rattle.sctp_assoc.specs.Happened.{acts_of_deferring, acts_of_ending, acts_of_exchange, acts_of_forward}
 use Rattle.sctp_assoc.specs.Happened.{acts_of_forwarding, acts_of_found, acts_of_hidden, acts_of_kind, acts_of_outcome}
@@ -88,6 +89,12 @@ taking_writes_nothing : (refusal : Option Error) (act : Act) → IsNoWrite act
 taking_writes_nothing None act e = (e, tt)
 taking_writes_nothing (Some fault) act e = tt
 
+left_writes_nothing : (left : Bool) (a : Shown) (piece : ChunkPayloadData) → AreNoWrites (acts_if_left left a piece)
+left_writes_nothing true a piece = (tt, tt)
+left_writes_nothing false a piece =
+    taking_writes_nothing (refusal_in a.streams piece.stream_identifier piece a.receiver.max_receive_message_size)
+    (Act.Took piece) tt
+
 found_writes_nothing : (x : Shown × Bool) (piece : ChunkPayloadData) → AreNoWrites (acts_of_found x piece)
 found_writes_nothing (a, false) piece = tt
 found_writes_nothing (a, true) piece =
@@ -97,8 +104,7 @@ found_writes_nothing (a, true) piece =
     (acts_unless_faulty (taken_where_admitted a piece))
     (give_if IsNoWrite (admits a.receiver piece.tsn (all_waiting a)) taking []
     (all_join IsNoWrite (acts_of_taking a piece) (acts_of_skips_behind (taken_in a piece) id)
-    (taking_writes_nothing (refusal_in a.streams id piece a.receiver.max_receive_message_size) (Act.Took piece) tt)
-    (skips_write_nothing (taken_in a piece) id)) tt)
+    (left_writes_nothing (goes_unread a piece) a piece) (skips_write_nothing (taken_in a piece) id)) tt)
     (rest_writes_nothing (taken_where_admitted a piece))
 
 hidden_writes_nothing : (a : Shown) (piece : ChunkPayloadData) → AreNoWrites (acts_of_hidden a piece)

@@ -1,24 +1,27 @@
 -- What is so of the live streams, where each change of streams keeps it, stays so over the calls of an application.
 use Rattle.std.proofs.Common.{◌≡◌, refl, ℕ, Bool, true, false, if◌then◌else◌, List, [], ◌∷◌, length, Option, Some, None}
+use Rattle.sctp_wire_types.specs.Config.{is_rfc}
 use Rattle.sctp_wire_types.specs.declared.ids.PayloadProtocolIdentifier.{PayloadProtocolIdentifier}
 use Rattle.sctp_receive_queues.specs.Messages.{ReceivedMessage}
 use Rattle.sctp_streams.specs.declared.event.Event.{Event}
 use Rattle.sctp_streams.specs.declared.setting.Setting.{Setting}
 use Rattle.sctp_streams.specs.declared.setting.Setting.TheVariants as settings
 use Rattle.sctp_streams.specs.Stream.{StreamView, accepted_by, is_read_half_open, with_halves, with_setting}
-use Rattle.sctp_streams.specs.Stream.{without_read_half}
+use Rattle.sctp_streams.specs.Stream.{without_read_half, without_unread}
 use Rattle.sctp_streams.specs.Streams.{StreamMap, read_in, stream_at}
 use Rattle.sctp_directions.specs.Acts.{type_on}
 use Rattle.sctp_resets.specs.Channels.{channels}
 use Rattle.sctp_resets.specs.Resets.{ResetsView, event_told, is_retiring, read_out, stopped_reading, waiting_for}
-use Rattle.sctp_assoc.specs.Calls.{accepted_from, accepted_stream, adjusted, after_read, drained_behind, event_from}
+use Rattle.sctp_assoc.specs.Calls.{accepted_from, accepted_stream, adjusted, after_read, credit_in, drained_behind}
+use Rattle.sctp_assoc.specs.Calls.{eased, event_from}
 use Rattle.sctp_assoc.specs.Calls.{event_polled, holds_of, opened, read_from_stream, stopped, stopped_open}
-use Rattle.sctp_assoc.specs.Calls.{with_max_send_message_size, without_read_half_of, written, written_at, written_under}
-use Rattle.sctp_assoc.specs.Closing.{relieved}
+use Rattle.sctp_assoc.specs.Calls.{unread_dropped, with_max_send_message_size, without_read_half_of, written}
+use Rattle.sctp_assoc.specs.Calls.{written_at, written_under}
 use Rattle.sctp_assoc.specs.Resets.{with_beside}
 use Rattle.sctp_assoc.specs.Shown.{Shown}
+use Rattle.sctp_assoc.proofs.StopsLeadOn.{dropped_or_not}
 use Rattle.sctp_sides.proofs.AscendingInResets.{read_out_holds, stopped_reading_holds}
-use Rattle.sctp_sides.proofs.AscendingSteps.{IsKept, Keeps, beside_kept, name_of, read_in_kept, relieved_kept}
+use Rattle.sctp_sides.proofs.AscendingSteps.{IsKept, Keeps, beside_kept, eased_kept, name_of, read_in_kept}
 use Rattle.sctp_sides.proofs.AscendingSteps.{resetting_holds, same_kept, stays_kept, streams_kept, then_kept}
 
 -- What is so of the live streams.
@@ -97,7 +100,7 @@ module _ (P : StreamMap → Type 0) (law : IsKept P) where
       → P (after_read a id x).0.streams
   read_holds_if (streams, None) a id h = drained_holds a id streams h
   read_holds_if (streams, Some message) a id h =
-      (relieved_kept P law (drained_behind a id streams)).holds (drained_holds a id streams h)
+      (eased_kept P law (credit_in a) (drained_behind a id streams)).holds (drained_holds a id streams h)
 
   pub read_kept : (a : Shown) (id : ℕ) → Keeps P a (read_from_stream a id).0
   read_kept a id = record {
@@ -114,20 +117,24 @@ module _ (P : StreamMap → Type 0) (law : IsKept P) where
   stopped_kept_if : (retires : Bool) (b : Shown) (id : ℕ)
       → Keeps P b
       (if retires then with_beside b (stopped_reading id b.resets b.streams b.events) else
-      record b { resets = waiting_for b.resets id })
+      record b { streams = unread_dropped (is_rfc b.profile) b.streams id; resets = waiting_for b.resets id })
   stopped_kept_if true b id =
       beside_kept P b (stopped_reading id b.resets b.streams b.events)
       (stopped_reading_holds P law id b.resets b.streams b.events)
-  stopped_kept_if false b id = same_kept P b _ refl
+  stopped_kept_if false b id = record {
+    holds = λ h.
+        dropped_or_not P (is_rfc b.profile) b.streams id h (law.change without_unread (λ s. refl) b.streams id h);
+  }
 
   stopped_open_kept : (a : Shown) (id : ℕ) → Keeps P a (stopped_open a id)
   stopped_open_kept a id =
       then_kept P (half_kept a id) (stopped_kept_if (is_retiring a.resets id) (without_read_half_of a id) id)
 
-  stop_kept_if : (reads : Bool) (a : Shown) (id : ℕ)
-      → Keeps P a (if reads then relieved (stopped_open a id) else a)
-  stop_kept_if true a id = then_kept P (stopped_open_kept a id) (relieved_kept P law (stopped_open a id))
-  stop_kept_if false a id = stays_kept P a
+  stop_kept_if : (reads : Bool) (before : ℕ) (a : Shown) (id : ℕ)
+      → Keeps P a (if reads then eased before (stopped_open a id) else a)
+  stop_kept_if true before a id =
+      then_kept P (stopped_open_kept a id) (eased_kept P law before (stopped_open a id))
+  stop_kept_if false before a id = stays_kept P a
 
   pub stopped_kept : (a : Shown) (id : ℕ) → Keeps P a (stopped a id)
-  stopped_kept a id = stop_kept_if (holds_of (λ s. is_read_half_open s.halves) a id) a id
+  stopped_kept a id = stop_kept_if (holds_of (λ s. is_read_half_open s.halves) a id) (credit_in a) a id

@@ -44,7 +44,7 @@ use Rattle.sctp_assoc.specs.Calls.{is_beginning, is_cookie_echoed, is_cookie_wai
 use Rattle.sctp_assoc.specs.Chunks.{after_packet, after_packet_of, after_sack, asks, asks_or_faults, checked_first}
 use Rattle.sctp_assoc.specs.Chunks.{counted_data, counted_sack, deferred, deferred_unless, deferred_where_admitted}
 use Rattle.sctp_assoc.specs.Chunks.{dispatched, ended, on_chunk, on_counted_data, on_counted_sack, on_data}
-use Rattle.sctp_assoc.specs.Chunks.{on_new_data, on_sack}
+use Rattle.sctp_assoc.specs.Chunks.{goes_unread, left_or_handed_over, on_new_data, on_sack}
 use Rattle.sctp_assoc.specs.Chunks.{stream_found, taken_in, taken_unless, taken_where_admitted, then_skips, told}
 use Rattle.sctp_assoc.specs.Chunks.{with_acknowledged, with_message, with_new_stream}
 use Rattle.sctp_assoc.specs.Closing.{is_exhausted}
@@ -145,11 +145,15 @@ module _ (P : StreamMap → Type 0) (law : IsKept P) where
       message_keeps a piece (pushed_in a.streams piece.stream_identifier piece)
       (λ h. pushed_in_kept P law a.streams piece.stream_identifier piece h)
 
-  taken_in_keeps : (a : Shown) (piece : ChunkPayloadData) → Keeps P a (taken_in a piece).0
-  unfolding taken_in
-  taken_in_keeps a piece =
+  left_keeps : (left : Bool) (a : Shown) (piece : ChunkPayloadData) → Keeps P a (left_or_handed_over left a piece).0
+  left_keeps true a piece = same_kept P a _ refl
+  left_keeps false a piece =
       taken_unless_keeps (refusal_in a.streams piece.stream_identifier piece a.receiver.max_receive_message_size) a
       piece refl
+
+  taken_in_keeps : (a : Shown) (piece : ChunkPayloadData) → Keeps P a (taken_in a piece).0
+  unfolding taken_in
+  taken_in_keeps a piece = left_keeps (goes_unread a piece) a piece
 
   then_skips_keep : (x : Shown × Option Error) (id : ℕ) → Keeps P x.0 (then_skips x id).0
   then_skips_keep (a, None) id = skips_applied_of_keep id a

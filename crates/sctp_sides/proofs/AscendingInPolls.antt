@@ -23,8 +23,8 @@ use Rattle.sctp_sides.proofs.PollsLeave.{PolledFrom, after_requests, control_lea
 use Rattle.sctp_sides.proofs.AscendingInResets.{given_up_holds}
 use Rattle.sctp_sides.proofs.AscendingInSending.{data_poll_holds}
 use Rattle.sctp_sides.proofs.AscendingInChunks.{sends_cookie_keeps}
-use Rattle.sctp_sides.proofs.AscendingSteps.{IsKept, Keeps, beside_kept, closed_kept, queued_kept, same_kept}
-use Rattle.sctp_sides.proofs.AscendingSteps.{stays_kept, streams_kept, then_kept}
+use Rattle.sctp_sides.proofs.AscendingSteps.{IsKept, Keeps, beside_kept, closed_kept, same_kept, stays_kept}
+use Rattle.sctp_sides.proofs.AscendingSteps.{streams_kept, then_kept}
 
 -- What is so of the live streams.
 module _ (P : StreamMap → Type 0) (law : IsKept P) where
@@ -82,7 +82,7 @@ module _ (P : StreamMap → Type 0) (law : IsKept P) where
 
   offered_kept : (o : Option Offer) (a : Shown) → Keeps P a (init_queued o a)
   offered_kept None a = stays_kept P a
-  offered_kept (Some offer) a = queued_kept P a _
+  offered_kept (Some offer) a = same_kept P a _ refl
 
   sends_init_kept : (a : Shown) (now : ℕ) → Keeps P a (sends_init a now)
   unfolding sends_init

@@ -16,6 +16,7 @@ use Rattle.sctp_streams.specs.Streams.{passed_in, pushed_at, pushed_in, read_at,
 use Rattle.sctp_streams.specs.Streams.{without_stream, without_streams}
 use Rattle.sctp_resets.specs.Resets.{Beside, Resetting}
 use Rattle.sctp_resets.proofs.ListsOver.{of_chosen}
+use Rattle.sctp_assoc.specs.Calls.{eased, tells_window, told_if}
 use Rattle.sctp_assoc.specs.Closing.{closed_by, closed_open, exhausted, is_closed_state, is_exhausted, out_of_resource}
 use Rattle.sctp_assoc.specs.Closing.{relieved}
 use Rattle.sctp_assoc.specs.Control.{asking, queued}
@@ -154,3 +155,12 @@ module _ (P : StreamMap → Type 0) (law : IsKept P) where
   -- an exhausted receive buffer closes, or nothing changes
   pub relieved_kept : (a : Shown) → Keeps P a (relieved a)
   relieved_kept a = relieved_kept_if (is_exhausted a) a
+
+  told_kept : (c : Bool) (a : Shown) → Keeps P a (told_if c a)
+  told_kept true a = same_kept P a (told_if true a) refl
+  told_kept false a = stays_kept P a
+
+  -- so it is where a window that opened is told besides
+  pub eased_kept : (before : ℕ) (a : Shown) → Keeps P a (eased before a)
+  eased_kept before a =
+      let b : Shown = relieved a in then_kept P (relieved_kept a) (told_kept (tells_window before b) b)

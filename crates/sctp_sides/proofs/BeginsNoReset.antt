@@ -44,19 +44,21 @@ use Rattle.sctp_resets.specs.Resets.{Beside, ResetsView, event_told_at, is_hidde
 use Rattle.sctp_resets.specs.Telling.{debts_told, next_told}
 use Rattle.sctp_assoc.specs.declared.inbound.Flow.{Flow}
 use Rattle.sctp_assoc.specs.declared.inbound.Flow.TheVariants as flows
-use Rattle.sctp_assoc.specs.Calls.{accepted_from, after_ack_delay, after_read, after_t3, drained_behind, event_from}
-use Rattle.sctp_assoc.specs.Calls.{exchanges_data}
+use Rattle.sctp_assoc.specs.Calls.{accepted_from, after_ack_delay, after_read, after_t3, credit_in, drained_behind}
+use Rattle.sctp_assoc.specs.Calls.{eased, event_from, exchanges_data}
 use Rattle.sctp_assoc.specs.Calls.{is_beginning, is_cookie_echoed, is_cookie_wait, is_established, retransmits}
 use Rattle.sctp_assoc.specs.Calls.{sends_data}
 use Rattle.sctp_assoc.specs.Shutdown.{shutdown_answered, shutdown_continued, shutdown_taken}
-use Rattle.sctp_assoc.specs.Calls.{t3_expired, written_at}
+use Rattle.sctp_assoc.specs.Calls.{t3_expired, tells_window, told_if, written_at}
 use Rattle.sctp_assoc.specs.Chunks.{after_sack, asks, asks_or_faults, checked_first, counted_data, counted_sack}
-use Rattle.sctp_assoc.specs.Chunks.{deferred_where_admitted, dispatched, on_chunk, on_counted_data, on_counted_sack}
+use Rattle.sctp_assoc.specs.Chunks.{deferred_where_admitted, dispatched, goes_unread, left_or_handed_over, on_chunk}
+use Rattle.sctp_assoc.specs.Chunks.{on_counted_data, on_counted_sack}
 use Rattle.sctp_assoc.specs.Chunks.{on_data, on_new_data, on_sack, stream_found, taken_in, taken_unless}
 use Rattle.sctp_assoc.specs.Chunks.{taken_where_admitted, then_skips, told, with_acknowledged, with_message}
 use Rattle.sctp_assoc.specs.Chunks.{with_new_stream}
 use Rattle.sctp_assoc.specs.Closing.{closed_by, closed_open, exhausted, is_closed_state, is_exhausted, out_of_resource}
-use Rattle.sctp_assoc.specs.Control.{queued}
+use Rattle.sctp_assoc.specs.Closing.{relieved}
+use Rattle.sctp_assoc.specs.Control.{queued, queued_under, untagged}
 use Rattle.sctp_assoc.specs.Gather.{ack_after, ack_polled, after_both, data_after, data_polled, exchange_after}
 use Rattle.sctp_assoc.specs.Gather.{exchange_polled, forward_after, forward_polled, is_due, open_polled}
 use Rattle.sctp_assoc.specs.Gather.{reconfig_run_after, requests_after}
@@ -96,9 +98,10 @@ same_resets a b resets control = λ n. record {
   control = subst (AllByRecursion IsOfNoReset) (sym control) n.control;
 }
 
--- one packet more waits
-pub one_more_waits : (a : Shown) (chunk : Chunk) → IsNoReconfig chunk → BeginsNoReset a (queued a chunk)
-one_more_waits a chunk plain = λ n. record {
+-- one packet more waits, under whatever header
+waits_under : (header : CommonHeader) (a : Shown) (chunk : Chunk) → IsNoReconfig chunk
+    → BeginsNoReset a (queued_under header a chunk)
+waits_under header a chunk plain = λ n. record {
   waiting = n.waiting;
   queued = n.queued;
   active = n.active;
@@ -107,6 +110,9 @@ one_more_waits a chunk plain = λ n. record {
   kept = n.kept;
   control = all_join IsOfNoReset a.control _ n.control (plain, tt);
 }
+
+pub one_more_waits : (a : Shown) (chunk : Chunk) → IsNoReconfig chunk → BeginsNoReset a (queued a chunk)
+one_more_waits a chunk plain = waits_under (header_of a.handshake) a chunk plain
 
 -- nothing waits
 none_waits : (a : Shown) → BeginsNoReset a (without_control a)
@@ -127,7 +133,7 @@ same_side a b e = λ n. subst HasNoReset (sym e) n
 
 offered_nothing : (o : Option Offer) (a : Shown) → BeginsNoReset a (init_queued o a)
 offered_nothing None a = λ n. n
-offered_nothing (Some offer) a = one_more_waits a _ tt
+offered_nothing (Some offer) a = waits_under (untagged (header_of a.handshake)) a _ tt
 
 offers_nothing : (a : Shown) (now : ℕ) → BeginsNoReset a (sends_init a now)
 unfolding sends_init
@@ -228,6 +234,15 @@ relieved_if : (e : Bool) (a : Shown) → BeginsNoReset a (if e then exhausted a 
 relieved_if true a = exhaustion_begins_no_reset a
 relieved_if false a = λ n. n
 
+-- a window that is told changes nothing of that
+told_window_begins_none : (tells : Bool) (a : Shown) → BeginsNoReset a (told_if tells a)
+told_window_begins_none true a = same_resets a _ refl refl
+told_window_begins_none false a = λ n. n
+
+eased_begins_none : (before : ℕ) (a : Shown) → BeginsNoReset a (eased before a)
+eased_begins_none before a = λ n.
+    told_window_begins_none (tells_window before (relieved a)) (relieved a) (relieved_if (is_exhausted a) a n)
+
 drained_none : (a : Shown) (id : ℕ) (streams : StreamMap) → BeginsNoReset a (drained_behind a id streams)
 drained_none a id streams = λ n.
     subst HasNoReset (sym (nothing_is_drained a id streams n.kept))
@@ -236,8 +251,7 @@ drained_none a id streams = λ n.
 read_none : (a : Shown) (id : ℕ) (x : StreamMap × Option ReceivedMessage) → BeginsNoReset a (after_read a id x).0
 read_none a id (streams, None) = drained_none a id streams
 read_none a id (streams, Some message) = λ n.
-    relieved_if (is_exhausted (drained_behind a id streams)) (drained_behind a id streams)
-    (drained_none a id streams n)
+    eased_begins_none (credit_in a) (drained_behind a id streams) (drained_none a id streams n)
 
 pub reads_begin_no_reset : ReadsBeginNoReset
 reads_begin_no_reset a id = read_none a id (read_in a.streams id)
@@ -431,10 +445,14 @@ unless_none : (refusal : Option Error) (a : Shown) (piece : ChunkPayloadData)
 unless_none (Some fault) a piece = λ n. n
 unless_none None a piece = message_none a piece (pushed_in a.streams piece.stream_identifier piece)
 
+left_none : (left : Bool) (a : Shown) (piece : ChunkPayloadData) → BeginsNoReset a (left_or_handed_over left a piece).0
+left_none true a piece = same_resets a _ refl refl
+left_none false a piece =
+    unless_none (refusal_in a.streams piece.stream_identifier piece a.receiver.max_receive_message_size) a piece
+
 pub taken_none : (a : Shown) (piece : ChunkPayloadData) → BeginsNoReset a (taken_in a piece).0
 unfolding taken_in
-taken_none a piece =
-    unless_none (refusal_in a.streams piece.stream_identifier piece a.receiver.max_receive_message_size) a piece
+taken_none a piece = left_none (goes_unread a piece) a piece
 
 skips_none : (x : Shown × Option Error) (id : ℕ) → BeginsNoReset x.0 (then_skips x id).0
 skips_none (a, None) id = λ n. subst HasNoReset (sym (no_skip_is_applied id a n.kept)) n

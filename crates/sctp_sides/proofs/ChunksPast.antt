@@ -45,7 +45,7 @@ use Rattle.sctp_assoc.specs.declared.inbound.Flow.TheVariants as flows
 use Rattle.sctp_assoc.specs.Calls.{is_beginning, is_cookie_echoed, is_cookie_wait, is_established, sends_data}
 use Rattle.sctp_assoc.specs.Shutdown.{shutdown_answered, shutdown_continued, shutdown_taken}
 use Rattle.sctp_assoc.specs.Chunks.{after_sack, asks, asks_or_faults, checked_first, counted_data, counted_sack}
-use Rattle.sctp_assoc.specs.Chunks.{deferred}
+use Rattle.sctp_assoc.specs.Chunks.{deferred, goes_unread, left_or_handed_over}
 use Rattle.sctp_assoc.specs.Chunks.{deferred_unless, deferred_where_admitted, dispatched, on_chunk, on_counted_sack}
 use Rattle.sctp_assoc.specs.Chunks.{on_data, on_new_data, on_sack, stream_found, taken_in, taken_unless}
 use Rattle.sctp_assoc.specs.Chunks.{taken_where_admitted, then_skips, told, with_acknowledged, with_message}
@@ -206,11 +206,16 @@ module _ (over : ℕ → Bool) where
   taken_unless_keeps (Some fault) a piece = stays a
   taken_unless_keeps None a piece = message_keeps a piece (pushed_in a.streams piece.stream_identifier piece)
 
-  pub taken_in_keeps : (a : Shown) (piece : ChunkPayloadData) → KeepsPast over a (taken_in a piece).0
-  unfolding taken_in
-  taken_in_keeps a piece =
+  left_keeps : (left : Bool) (a : Shown) (piece : ChunkPayloadData)
+      → KeepsPast over a (left_or_handed_over left a piece).0
+  left_keeps true a piece = keeps_same a _ refl refl
+  left_keeps false a piece =
       taken_unless_keeps (refusal_in a.streams piece.stream_identifier piece a.receiver.max_receive_message_size) a
       piece
+
+  pub taken_in_keeps : (a : Shown) (piece : ChunkPayloadData) → KeepsPast over a (taken_in a piece).0
+  unfolding taken_in
+  taken_in_keeps a piece = left_keeps (goes_unread a piece) a piece
 
   then_skips_keep : (x : Shown × Option Error) (id : ℕ) → KeepsPast over x.0 (then_skips x id).0
   then_skips_keep (a, None) id = skips_applied_of_keep id a

@@ -51,6 +51,7 @@ use Rattle.sctp_assoc.specs.Handshake.{acknowledged_cookie, answered, connected,
 use Rattle.sctp_assoc.specs.Handshake.{on_cookie_ack, on_cookie_echo, on_heartbeat, on_init, on_init_ack, sends_cookie}
 use Rattle.sctp_assoc.specs.Chunks.{after_sack}
 use Rattle.sctp_assoc.specs.Chunks.{after_chunks, after_packet_of, asks_or_faults, checked_first, dispatched, goes_on}
+use Rattle.sctp_assoc.specs.Chunks.{goes_unread, left_or_handed_over}
 use Rattle.sctp_assoc.specs.Chunks.{on_chunk, on_counted_data, on_counted_sack, on_data, on_new_data}
 use Rattle.sctp_assoc.specs.Chunks.{on_sack, stream_found, taken_in, taken_unless, told, with_acknowledged}
 use Rattle.sctp_assoc.specs.Chunks.{asks, deferred_unless, deferred_where_admitted, taken_where_admitted, then_skips}
@@ -78,7 +79,8 @@ use Rattle.sctp_assoc.specs.Control.{queued as with_queued}
 use Rattle.sctp_assoc.specs.Skipping.{acknowledged_at_once, asks_behind, on_forward, readable_told, skips_of}
 use Rattle.sctp_assoc.specs.Skipping.{unrecognized_chunk, with_passed, with_skip, with_skips}
 use Rattle.sctp_sides.proofs.ForwardKinds.{forward_is_one_of}
-use Rattle.sctp_assoc.specs.Calls.{after_read, drained_behind, holds_of, stopped_open, without_read_half_of}
+use Rattle.sctp_assoc.specs.Calls.{after_read, credit_in, drained_behind, eased, holds_of, stopped_open, tells_window}
+use Rattle.sctp_assoc.specs.Calls.{told_if, without_read_half_of}
 use Rattle.std.proofs.Common.{subst}
 use Rattle.sctp_parts.specs.declared.state.AssociationState.{AssociationState}
 use Rattle.sctp_streams.specs.Stream.{is_read_half_open}
@@ -254,6 +256,14 @@ taking_goes_on : (o : Option Error) (a : Shown) (piece : ChunkPayloadData) → R
 taking_goes_on (Some fault) a piece = remains a a refl refl refl refl
 taking_goes_on None a piece = message_goes_on a piece (pushed_in a.streams piece.stream_identifier piece)
 
+-- what nobody reads is left, and other DATA goes to its stream
+leaving_goes_on : (left : Bool) (a : Shown) (piece : ChunkPayloadData)
+    → Remains a (left_or_handed_over left a piece).0
+leaving_goes_on true a piece =
+    record { state = refl; lost = refl; handshake = refl; told = tells a.events DatagramReceived refl }
+leaving_goes_on false a piece =
+    taking_goes_on (refusal_in a.streams piece.stream_identifier piece a.receiver.max_receive_message_size) a piece
+
 asks_goes_on_if : (e : Bool) (a : Shown) (f g : Flow)
     → Remains a (if◌then◌else◌ {A = Shown × Flow} e (a, f) (a, g)).0
 asks_goes_on_if true a f g = remains a a refl refl refl refl
@@ -284,7 +294,7 @@ admitted_goes_on : (c : Bool) (b : Shown) (piece : ChunkPayloadData)
 unfolding taken_in
 admitted_goes_on true b piece e =
     rw e (skips_behind_go_on b (taken_in b piece) piece.stream_identifier
-    (taking_goes_on (refusal_in b.streams piece.stream_identifier piece _) b piece))
+    (leaving_goes_on (goes_unread b piece) b piece))
 admitted_goes_on false b piece e = rw e (remains b b refl refl refl refl)
 
 deferring_goes_on : (o : Option Error) (b : Shown) (piece : ChunkPayloadData)
@@ -647,6 +657,19 @@ relieved_closes : (e : Bool) (a b : Shown) → StaysOpen a b
 relieved_closes true a b m = exhausted_closes a b m
 relieved_closes false a b m = closed_from false a b b m (stays_open b b refl refl refl)
 
+-- a window that is told changes nothing of that
+told_window_closes : (is_told closing : Bool) (a b : Shown) → IsClosedIf closing a b
+    → IsClosedIf closing a (told_if is_told b)
+told_window_closes true closing a b n =
+    record { closed = n.closed; still_open = n.still_open; lost = n.lost; told = n.told }
+told_window_closes false closing a b n = n
+
+eased_closes : (before : ℕ) (a b : Shown) → StaysOpen a b
+    → IsClosedIf (is_exhausted b && not (is_closed_state b.state)) a (eased before b)
+eased_closes before a b m =
+    told_window_closes (tells_window before (relieved b)) (is_exhausted b && not (is_closed_state b.state)) a
+    (relieved b) (relieved_closes (is_exhausted b) a b m)
+
 pub drained_goes_on : (a : Shown) (id : ℕ) (streams : StreamMap) → Remains a (drained_behind a id streams)
 drained_goes_on a id streams =
     let first = a.sender.queue.next_message_id in
@@ -664,8 +687,8 @@ read_closes_if (streams, Some message) a id =
     let b : Shown = drained_behind a id streams in
     let m : Remains a b = drained_goes_on a id streams in
     subst (λ (state : AssociationState).
-    IsClosedIf (is_exhausted b && not (is_closed_state state)) a (relieved b)) m.state
-    (relieved_closes (is_exhausted b) a b (remains_open a b m))
+    IsClosedIf (is_exhausted b && not (is_closed_state state)) a (eased (credit_in a) b)) m.state
+    (eased_closes (credit_in a) a b (remains_open a b m))
 
 pub exhausting_reads_alone_close : ExhaustingReadsAloneClose
 exhausting_reads_alone_close a id = read_closes_if (read_in a.streams id) a id
@@ -688,16 +711,17 @@ stopped_goes_on_if false a id e = rw e (remains a _ refl refl refl refl)
 pub stopped_goes_on : (a : Shown) (id : ℕ) → Remains a (stopped_open a id)
 stopped_goes_on a id = stopped_goes_on_if (is_retiring a.resets id) a id refl
 
-stop_closes_if : (opened : Bool) (a : Shown) (id : ℕ)
+stop_closes_if : (opened : Bool) (before : ℕ) (a : Shown) (id : ℕ)
     → IsClosedIf ((opened && is_exhausted (stopped_open a id)) && not (is_closed_state a.state)) a
-    (if opened then relieved (stopped_open a id) else a)
-stop_closes_if true a id =
+    (if opened then eased before (stopped_open a id) else a)
+stop_closes_if true before a id =
     let b : Shown = stopped_open a id in
     let m : Remains a b = stopped_goes_on a id in
     subst (λ (state : AssociationState).
-    IsClosedIf (is_exhausted b && not (is_closed_state state)) a (relieved b)) m.state
-    (relieved_closes (is_exhausted b) a b (remains_open a b m))
-stop_closes_if false a id = stays_open a a refl refl refl
+    IsClosedIf (is_exhausted b && not (is_closed_state state)) a (eased before b)) m.state
+    (eased_closes before a b (remains_open a b m))
+stop_closes_if false before a id = stays_open a a refl refl refl
 
 pub exhausting_stops_alone_close : ExhaustingStopsAloneClose
-exhausting_stops_alone_close a id = stop_closes_if (holds_of (λ s. is_read_half_open s.halves) a id) a id
+exhausting_stops_alone_close a id =
+    stop_closes_if (holds_of (λ s. is_read_half_open s.halves) a id) (credit_in a) a id

@@ -29,10 +29,11 @@ use Rattle.sctp_assoc.specs.declared.inbound.Flow.TheVariants as flows
 use Rattle.sctp_directions.specs.Acts.{Act, History, IsNewTsn}
 use Rattle.sctp_model.proofs.Lists.{all_join}
 use Rattle.sctp_assoc.specs.Chunks.{asks, asks_or_faults, counted_data, deferred, deferred_unless}
-use Rattle.sctp_assoc.specs.Chunks.{deferred_where_admitted, on_chunk, on_data, on_new_data, stream_found, taken_in}
-use Rattle.sctp_assoc.specs.Chunks.{taken_unless, taken_where_admitted, then_skips}
+use Rattle.sctp_assoc.specs.Chunks.{deferred_where_admitted, goes_unread, intake_refusal, left_or_handed_over, on_chunk}
+use Rattle.sctp_assoc.specs.Chunks.{on_data, on_new_data, refusal_unless_left, stream_found, taken_in}
+use Rattle.sctp_assoc.specs.Chunks.{taken_unless, taken_where_admitted, then_skips, with_new_stream}
 use Rattle.sctp_assoc.specs.Closing.{is_exhausted}
-use Rattle.sctp_assoc.specs.Happened.{acts_of_data, acts_of_found}
+use Rattle.sctp_assoc.specs.Happened.{acts_if_left, acts_of_data, acts_of_found}
 use Rattle.sctp_assoc.specs.Happened.{acts_of_hidden, acts_of_skips_behind}
 use Rattle.sctp_assoc.specs.Happened.{acts_of_stream, acts_of_taking, acts_unless_faulty, acts_unless_refused}
 use Rattle.sctp_assoc.specs.Leads.{Binds}
@@ -40,11 +41,12 @@ use Rattle.sctp_assoc.specs.ResetActs.{acts_of_settling, spans_end_if}
 use Rattle.sctp_assoc.specs.Resets.{settled, settling_takes_memory, skips_applied_of}
 use Rattle.sctp_assoc.specs.Shown.{Shown, all_waiting}
 use Rattle.sctp_assoc.proofs.DataCame.{from_new_tsn, new_tsn}
+use Rattle.sctp_assoc.proofs.UnreadData.{absent_is_read, left_is_live, made_is_read, refusal_where_read}
 use Rattle.sctp_fit.proofs.StreamsThere.{at_made}
 use Rattle.sctp_sides.specs.Intake.{DataIsTakenIn, FillsAGap, HasRoomFor, IsEndOfSpans, LaterDataIsKeptApart}
-use Rattle.sctp_sides.specs.Intake.{MayKeepApart, MayTakeIn}
-use Rattle.sctp_sides.specs.Intake.{held_by, is_for_later, later_refusal_of}
-use Rattle.sctp_sides.specs.Intake.{receive_limit, refusal_of}
+use Rattle.sctp_sides.specs.Intake.{MayKeepApart, MayTakeIn, UnreadDataIsLeft}
+use Rattle.sctp_sides.specs.Intake.{held_by, is_for_later, later_refusal_of, misfit_of}
+use Rattle.sctp_sides.specs.Intake.{receive_limit, refusal_of, unless_unread}
 use Rattle.sctp_sides.specs.SideLaws.{OpensAndTakes, TakesOnly}
 use Rattle.sctp_sides.proofs.GapsFilled.{came_passed, passed_came}
 
@@ -98,12 +100,19 @@ made_waits m id first free =
 abbrev pub has_room : Shown → ChunkPayloadData → Bool
 has_room a piece = admits a.receiver piece.tsn (all_waiting a)
 
--- its stream was found or made: then it has room and holds what it did
+-- its stream was found or made: then it has room, is read and holds what it did
 pub record Found (a : Shown) (piece : ChunkPayloadData) (x : Shown × Bool) : Type 0 where
   pub found : x.1 ≡ (is_some (stream_at a.streams piece.stream_identifier) || generation_left a.streams)
   pub room : has_room x.0 piece ≡ has_room a piece
-  pub refused : x.1 ≡ true
-      → refusal_in x.0.streams piece.stream_identifier piece (receive_limit x.0) ≡ refusal_of a piece
+  pub unread : x.1 ≡ true → goes_unread x.0 piece ≡ goes_unread a piece
+  pub refused : x.1 ≡ true → intake_refusal x.0 piece ≡ refusal_of a piece
+
+-- what a stream refuses that holds what it did
+refused_as_held : (left : Bool) (a b : Shown) (piece : ChunkPayloadData)
+    → refusal_in b.streams piece.stream_identifier piece (receive_limit b) ≡ misfit_of a piece
+    → refusal_unless_left left b piece ≡ unless_unread left (misfit_of a piece)
+refused_as_held true a b piece e = refl
+refused_as_held false a b piece e = e
 
 found_if : (o : Option StreamView) (left : Bool) (a : Shown) (piece : ChunkPayloadData)
     → stream_at a.streams piece.stream_identifier ≡ o → generation_left a.streams ≡ left
@@ -111,10 +120,21 @@ found_if : (o : Option StreamView) (left : Bool) (a : Shown) (piece : ChunkPaylo
 unfolding stream_found
 found_if (Some t) left a piece e f =
     let there : is_some (stream_at a.streams piece.stream_identifier) ≡ true = ap is_some e in
-    rw there (record { found = rw there refl; room = refl; refused = λ b. rw e refl })
+    let same : refusal_in a.streams piece.stream_identifier piece (receive_limit a) ≡ misfit_of a piece = rw e refl in
+    rw there (record {
+      found = rw there refl;
+      room = refl;
+      unread = λ b. refl;
+      refused = λ b. refused_as_held (goes_unread a piece) a (counted_data a) piece same;
+    })
 found_if None false a piece e f =
     let there : is_some (stream_at a.streams piece.stream_identifier) ≡ false = ap is_some e in
-    rw (there, f) (record { found = rw (there, f) refl; room = refl; refused = λ b. absurd (false≢true b) })
+    rw (there, f) (record {
+      found = rw (there, f) refl;
+      room = refl;
+      unread = λ b. absurd (false≢true b);
+      refused = λ b. absurd (false≢true b);
+    })
 found_if None true a piece e f =
     let there : is_some (stream_at a.streams piece.stream_identifier) ≡ false = ap is_some e in
     let id = piece.stream_identifier in
@@ -124,14 +144,21 @@ found_if None true a piece e f =
     ≡ Some (fresh_stream piece.stream_identifier a.streams.next_generation a.sender.queue.next_message_id
     kinds.Unknown) =
     at_made a.streams id number id kinds.Unknown e ∙ cond-true (eqb id id) _ _ (eq-eqb id id refl) in
+    let made_one : Shown = with_new_stream (counted_data a) piece.stream_identifier in
+    let read_before : goes_unread a piece ≡ false = absent_is_read a.profile a.streams id e in
+    let read_now : goes_unread made_one piece ≡ false = made_is_read a.profile a.streams id number kinds.Unknown e in
+    let same : refusal_in made_one.streams piece.stream_identifier piece (receive_limit a) ≡ misfit_of a piece =
+    ap (λ (o : Option StreamView). refusal_at o piece (receive_limit a)) made_at
+    ∙ sym (ap (λ (o : Option StreamView). refusal (held_by o) piece (receive_limit a)) e) in
     rw (there, f) (record {
       found = rw (there, f) refl;
       room =
           ap (λ (n : ℕ). admits a.receiver piece.tsn (min (n + bytes_of a.resets.generations.deferred) (2 ^ 64 - 1)))
           (made_waits a.streams piece.stream_identifier a.sender.queue.next_message_id e);
+      unread = λ b. read_now ∙ sym read_before;
       refused =
-          λ b. ap (λ (o : Option StreamView). refusal_at o piece (receive_limit a)) made_at
-          ∙ sym (ap (λ (o : Option StreamView). refusal (held_by o) piece (receive_limit a)) e);
+          λ b. refusal_where_read made_one piece read_now ∙ same
+          ∙ sym (ap (λ (left : Bool). unless_unread left (misfit_of a piece)) read_before);
     })
 
 pub stream_is_found : (a : Shown) (piece : ChunkPayloadData)
@@ -194,15 +221,18 @@ refuses_if : (room : Bool) (x : Shown) (y : Shown × Option Error) (o : Option E
 refuses_if true x y o e = e
 refuses_if false x y o e = refl
 
-taken_refuses : (x : Shown) (piece : ChunkPayloadData)
-    → (taken_in x piece).1 ≡ refusal_in x.streams piece.stream_identifier piece (receive_limit x)
-unfolding taken_in
-taken_refuses x piece =
+left_refuses : (left : Bool) (x : Shown) (piece : ChunkPayloadData)
+    → (left_or_handed_over left x piece).1 ≡ refusal_unless_left left x piece
+left_refuses true x piece = refl
+left_refuses false x piece =
     taking_refuses (refusal_in x.streams piece.stream_identifier piece x.receiver.max_receive_message_size) x piece
 
+taken_refuses : (x : Shown) (piece : ChunkPayloadData) → (taken_in x piece).1 ≡ intake_refusal x piece
+unfolding taken_in
+taken_refuses x piece = left_refuses (goes_unread x piece) x piece
+
 admitted_refuses : (x : Shown) (piece : ChunkPayloadData)
-    → (taken_where_admitted x piece).1
-    ≡ (if has_room x piece then refusal_in x.streams piece.stream_identifier piece (receive_limit x) else None)
+    → (taken_where_admitted x piece).1 ≡ (if has_room x piece then intake_refusal x piece else None)
 admitted_refuses x piece =
     refuses_if (has_room x piece) x (then_skips (taken_in x piece) piece.stream_identifier) _
     (skips_refuse (taken_in x piece) piece.stream_identifier ∙ taken_refuses x piece)
@@ -223,7 +253,7 @@ found_flow a (x, false) piece trigger f = ap (λ (b : Bool). decided b (has_room
 found_flow a (x, true) piece trigger f =
     behind_flow (taken_where_admitted x piece) piece.immediate_sack trigger
     ∙ admitted_refuses x piece
-    ∙ ap (λ (b : Bool). decided true b (refusal_in x.streams piece.stream_identifier piece (receive_limit x))) f.room
+    ∙ ap (λ (b : Bool). decided true b (intake_refusal x piece)) f.room
     ∙ ap (λ (o : Option Error). decided true (has_room a piece) o) (f.refused refl)
     ∙ ap (λ (b : Bool). decided b (has_room a piece) (refusal_of a piece)) f.found
 
@@ -285,23 +315,37 @@ then_if true first more rest e f =
     record { others = more ++ rest; ends = all_join IsEndOfSpans more rest e f; are = append_assoc first more rest }
 then_if false first more rest e f = record { others = rest; ends = f; are = refl }
 
-abbrev pub decided_acts : Bool → Bool → Option Error → ChunkPayloadData → List Act
-decided_acts found room o piece =
-    if found then (if room then acts_unless_refused o (Act.Took piece) else []) else []
+-- where there is room for it, by whether nobody reads its stream any more, and else by why that refuses it
+abbrev pub admitted_acts : Bool → Option Error → ChunkPayloadData → List Act
+admitted_acts true o piece = Act.Deferred piece ∷ []
+admitted_acts false o piece = acts_unless_refused o (Act.Took piece)
+
+abbrev pub decided_acts : Bool → Bool → Bool → Option Error → ChunkPayloadData → List Act
+decided_acts found room left o piece = if found then (if room then admitted_acts left o piece else []) else []
+
+taking_is : (left : Bool) (x : Shown) (piece : ChunkPayloadData)
+    → acts_if_left left x piece ≡ admitted_acts left (refusal_unless_left left x piece) piece
+taking_is true x piece = refl
+taking_is false x piece = refl
 
 found_acts : (a : Shown) (x : Shown × Bool) (piece : ChunkPayloadData) → Found a piece x
-    → Then (decided_acts (is_found a piece) (has_room a piece) (refusal_of a piece) piece) (acts_of_found x piece)
+    → Then (decided_acts (is_found a piece) (has_room a piece) (goes_unread a piece) (refusal_of a piece) piece)
+    (acts_of_found x piece)
 found_acts a (x, false) piece f =
-    then_by [] _ [] (ap (λ (b : Bool). decided_acts b (has_room a piece) (refusal_of a piece) piece) f.found)
+    then_by [] _ []
+    (ap (λ (b : Bool). decided_acts b (has_room a piece) (goes_unread a piece) (refusal_of a piece) piece) f.found)
     (record { others = []; ends = tt; are = refl })
 found_acts a (x, true) piece f =
-    let here = refusal_in x.streams piece.stream_identifier piece (receive_limit x) in
+    let here : Option Error = intake_refusal x piece in
+    let unread : Bool = goes_unread x piece in
     let acts = acts_of_found (x, true) piece in
-    then_by (decided_acts true (has_room x piece) here piece)
-    (decided_acts (is_found a piece) (has_room a piece) (refusal_of a piece) piece) acts
-    (ap (λ (b : Bool). decided_acts true b here piece) f.room
-    ∙ ap (λ (o : Option Error). decided_acts true (has_room a piece) o piece) (f.refused refl)
-    ∙ ap (λ (b : Bool). decided_acts b (has_room a piece) (refusal_of a piece) piece) f.found)
+    then_by (if has_room x piece then acts_of_taking x piece else [])
+    (decided_acts (is_found a piece) (has_room a piece) (goes_unread a piece) (refusal_of a piece) piece) acts
+    (ap (λ (z : List Act). if has_room x piece then z else []) (taking_is (goes_unread x piece) x piece)
+    ∙ ap (λ (b : Bool). decided_acts true b unread here piece) f.room
+    ∙ ap (λ (b : Bool). decided_acts true (has_room a piece) b here piece) (f.unread refl)
+    ∙ ap (λ (o : Option Error). decided_acts true (has_room a piece) (goes_unread a piece) o piece) (f.refused refl)
+    ∙ ap (λ (b : Bool). decided_acts b (has_room a piece) (goes_unread a piece) (refusal_of a piece) piece) f.found)
     (then_if (has_room x piece) (acts_of_taking x piece)
     (acts_of_skips_behind (taken_in x piece) piece.stream_identifier)
     (acts_unless_faulty (taken_where_admitted x piece))
@@ -332,7 +376,7 @@ first_acts next later a piece =
     if not next then [] else
     if later then kept_acts (has_room a piece) (later_refusal_of a piece) piece else
     acts_of_stream a piece.stream_identifier
-    ++ decided_acts (is_found a piece) (has_room a piece) (refusal_of a piece) piece
+    ++ decided_acts (is_found a piece) (has_room a piece) (goes_unread a piece) (refusal_of a piece) piece
 
 data_acts_if : (next later : Bool) (a : Shown) (piece : ChunkPayloadData) → is_new a piece ≡ next
     → is_for_later a piece ≡ later → Then (first_acts next later a piece) (acts_of_data a piece)
@@ -519,16 +563,37 @@ taken_if None false a piece e f found first are =
     let no : false ≡ true = rw (there, f) at found in
     absurd (false≢true no)
 
+-- what DATA does first, by the tests that it passes
+tested_acts : (next later : Bool) (a : Shown) (piece : ChunkPayloadData) → next ≡ true → later ≡ false
+    → first_acts next later a piece
+    ≡ acts_of_stream a piece.stream_identifier
+    ++ decided_acts (is_found a piece) (has_room a piece) (goes_unread a piece) (refusal_of a piece) piece
+tested_acts next later a piece n l = rw (n, l) refl
+
+taken_acts : (found room left : Bool) (o : Option Error) (piece : ChunkPayloadData) → found ≡ true → room ≡ true
+    → left ≡ false → o ≡ None → decided_acts found room left o piece ≡ Act.Took piece ∷ []
+taken_acts found room left o piece f r l n = rw (f, r, l, n) refl
+
+left_acts : (found room left : Bool) (o : Option Error) (piece : ChunkPayloadData) → found ≡ true → room ≡ true
+    → left ≡ true → decided_acts found room left o piece ≡ Act.Deferred piece ∷ []
+left_acts found room left o piece f r l = rw (f, r, l) refl
+
+live_makes_nothing : (a : Shown) (id : ℕ) → is_some (stream_at a.streams id) ≡ true → acts_of_stream a id ≡ []
+live_makes_nothing a id there = rw there refl
+
 pub data_is_taken_in : DataIsTakenIn
 unfolding on_chunk
-data_is_taken_in a h header piece binds may =
+data_is_taken_in a h header piece binds may read =
     let p = may_passes a h piece binds may in
     let acts = data_acts a piece in
     record {
       taken = λ none.
           let first = first_acts (is_new a piece) (is_for_later a piece) a piece in
           let are : first ≡ acts_of_stream a piece.stream_identifier ++ Act.Took piece ∷ [] =
-          rw (p.new, p.read_now, p.found, p.room, none) refl in
+          tested_acts (is_new a piece) (is_for_later a piece) a piece p.new p.read_now
+          ∙ ap (λ (z : List Act). acts_of_stream a piece.stream_identifier ++ z)
+          (taken_acts (is_found a piece) (has_room a piece) (goes_unread a piece) (refusal_of a piece) piece p.found
+          p.room read none) in
           record {
             first = first;
             taking = taken_if _ _ a piece refl refl p.found first are;
@@ -538,6 +603,31 @@ data_is_taken_in a h header piece binds may =
           };
       refused =
           λ trigger now error e. fault_from (on_data a piece trigger).1 error (refused_data a piece trigger p ∙ e);
+    }
+
+pub unread_data_is_left : UnreadDataIsLeft
+unfolding on_chunk
+unread_data_is_left a h header piece binds may unread =
+    let p = may_passes a h piece binds may in
+    let acts = data_acts a piece in
+    let live : is_some (stream_at a.streams piece.stream_identifier) ≡ true =
+    left_is_live a.profile a.streams piece.stream_identifier unread in
+    let first : first_acts (is_new a piece) (is_for_later a piece) a piece ≡ Act.Deferred piece ∷ [] =
+    tested_acts (is_new a piece) (is_for_later a piece) a piece p.new p.read_now
+    ∙ ap (λ (z : List Act). acts_of_stream a piece.stream_identifier ++ z)
+    (left_acts (is_found a piece) (has_room a piece) (goes_unread a piece) (refusal_of a piece) piece p.found p.room
+    unread)
+    ∙ ap (λ (z : List Act). z ++ Act.Deferred piece ∷ []) (live_makes_nothing a piece.stream_identifier live) in
+    let none : refusal_of a piece ≡ None = ap (λ (left : Bool). unless_unread left (misfit_of a piece)) unread in
+    record {
+      left = record {
+        others = acts.others;
+        ends = acts.ends;
+        are = acts.are ∙ ap (λ (z : List Act). z ++ acts.others) first;
+      };
+      no_fault =
+          λ trigger now error e. false≢true
+          (ap is_some (sym none ∙ sym (refused_data a piece trigger p) ∙ ap fault_of e));
     }
 
 pub later_data_is_kept_apart : LaterDataIsKeptApart

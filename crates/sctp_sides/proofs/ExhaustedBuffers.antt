@@ -33,7 +33,8 @@ use Rattle.sctp_inbound.specs.declared.receiver.AckTrigger.TheVariants as trigge
 use Rattle.sctp_inbound.specs.Receiver.{asked}
 use Rattle.sctp_assoc.specs.Chunks.{asks, asks_or_faults, counted_data, deferred, deferred_unless}
 use Rattle.sctp_assoc.specs.Chunks.{deferred_where_admitted, on_chunk, on_data, on_new_data, stream_found, taken_in}
-use Rattle.sctp_assoc.specs.Chunks.{taken_unless, taken_where_admitted, then_skips, told}
+use Rattle.sctp_assoc.specs.Chunks.{goes_unread, left_or_handed_over, taken_unless, taken_where_admitted, then_skips}
+use Rattle.sctp_assoc.specs.Chunks.{told}
 use Rattle.sctp_assoc.specs.Closing.{is_exhausted}
 use Rattle.sctp_assoc.specs.Resets.{settled}
 use Rattle.sctp_assoc.specs.Shown.{Shown, all_waiting}
@@ -241,6 +242,12 @@ behind_size (b, None) immediate trigger =
     ap size_of (asks_keeps (settled b) immediate trigger) ∙ ap (λ (r : Receiver). r.buffer_size) (settled_receiver b)
 behind_size (b, Some fault) immediate trigger = refl
 
+left_size : (left : Bool) (x : Shown) (piece : ChunkPayloadData)
+    → size_of (left_or_handed_over left x piece).0 ≡ size_of x
+left_size true x piece = refl
+left_size false x piece =
+    taken_size (refusal_in x.streams piece.stream_identifier piece (receive_limit x)) x piece
+
 new_size : (x : Shown × Bool) (piece : ChunkPayloadData) (trigger : AckTrigger)
     → size_of (on_new_data x piece trigger).0 ≡ size_of x.0
 unfolding taken_in
@@ -249,7 +256,7 @@ new_size (x, true) piece trigger =
     behind_size (taken_where_admitted x piece) piece.immediate_sack trigger
     ∙ admitted_size (has_room x piece) x (then_skips (taken_in x piece) piece.stream_identifier)
     (skips_size (taken_in x piece) piece.stream_identifier
-    ∙ taken_size (refusal_in x.streams piece.stream_identifier piece (receive_limit x)) x piece)
+    ∙ left_size (goes_unread x piece) x piece)
 
 deferring_size : (o : Option Error) (x : Shown) (piece : ChunkPayloadData)
     → size_of (deferred_unless o x piece).0 ≡ size_of x

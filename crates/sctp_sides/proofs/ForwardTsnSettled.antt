@@ -31,8 +31,8 @@ use Rattle.sctp_parts.specs.declared.state.AssociationState.TheVariants as state
 use Rattle.sctp_outbound.specs.declared.sender.SackOutcome.{SackOutcome}
 use Rattle.sctp_outbound.specs.declared.sender.SackOutcome.TheVariants as outcomes
 use Rattle.sctp_outbound.specs.Sender.{sack_outcome}
-use Rattle.sctp_assoc.specs.Calls.{adjusted, after_read, drained_behind, event_polled, holds_of, is_beginning}
-use Rattle.sctp_assoc.specs.Calls.{is_established, sends_data, stopped_open}
+use Rattle.sctp_assoc.specs.Calls.{adjusted, after_read, credit_in, drained_behind, eased, event_polled, holds_of}
+use Rattle.sctp_assoc.specs.Calls.{is_beginning, is_established, sends_data, stopped_open, tells_window, told_if}
 use Rattle.sctp_assoc.specs.Chunks.{after_chunks, after_packet, after_packet_of, checked_first, dispatched, ended}
 use Rattle.sctp_assoc.specs.Chunks.{after_sack, counted_sack, on_chunk, on_counted_sack, on_sack}
 use Rattle.sctp_assoc.specs.Closing.{closed_by, exhausted, is_closed_state, is_exhausted, relieved}
@@ -294,21 +294,31 @@ relieved_settles : (exhausts used : Bool) (b : Shown) → IsSettled used b
 relieved_settles true used b h = exhausted_settles used b h
 relieved_settles false used b h = h
 
+-- a window that is told changes nothing of that
+told_window_settles : (tells used : Bool) (b : Shown) → IsSettled used b → IsSettled used (told_if tells b)
+told_window_settles true used b h = record { over = h.over; uses = h.uses }
+told_window_settles false used b h = h
+
+eased_settles : (before : ℕ) (used : Bool) (b : Shown) → IsSettled used b → IsSettled used (eased before b)
+eased_settles before used b h =
+    told_window_settles (tells_window before (relieved b)) used (relieved b)
+    (relieved_settles (is_exhausted b) used b h)
+
 read_settles : (x : StreamMap × Option ReceivedMessage) (used : Bool) (a : Shown) (id : ℕ) → IsSettled used a
     → IsSettled used (after_read a id x).0
 read_settles (streams, None) used a id h =
     remaining_settles used a (drained_behind a id streams) (drained_goes_on a id streams) h
 read_settles (streams, Some message) used a id h =
     let b : Shown = drained_behind a id streams in
-    relieved_settles (is_exhausted b) used b (remaining_settles used a b (drained_goes_on a id streams) h)
+    eased_settles (credit_in a) used b (remaining_settles used a b (drained_goes_on a id streams) h)
 
 -- a stop of a stream, where its read half is open
-stop_settles : (opened used : Bool) (a : Shown) (id : ℕ) → IsSettled used a
-    → IsSettled used (if opened then relieved (stopped_open a id) else a)
-stop_settles true used a id h =
+stop_settles : (opened used : Bool) (before : ℕ) (a : Shown) (id : ℕ) → IsSettled used a
+    → IsSettled used (if opened then eased before (stopped_open a id) else a)
+stop_settles true used before a id h =
     let b : Shown = stopped_open a id in
-    relieved_settles (is_exhausted b) used b (remaining_settles used a b (stopped_goes_on a id) h)
-stop_settles false used a id h = h
+    eased_settles before used b (remaining_settles used a b (stopped_goes_on a id) h)
+stop_settles false used before a id h = h
 
 told_settles : (x : Shown × Option Event) (used : Bool) (a : Shown) → event_polled a ≡ x → IsSettled used a
     → IsSettled used (with_told x).0
@@ -348,8 +358,9 @@ carried_settles (Call.PollTransmit now) used a h =
     poll_settles (completes_shutdown (open_polled a now).0) used a now refl h
 carried_settles (Call.HandleTimeout now) used a h = same_settles used a _ (timers_keep_the_status a now).0 h
 carried_settles (Call.HandleEvent packet now) used a h = packet_settles a.lost used a packet now refl h
-carried_settles (Call.Stop id) used a h = stop_settles (holds_of (λ s. is_read_half_open s.halves) a id) used a id h
+carried_settles (Call.Stop id) used a h =
+    stop_settles (holds_of (λ s. is_read_half_open s.halves) a id) used (credit_in a) a id h
 carried_settles (Call.CloseStream id) used a h =
     let b : Shown = adjusted a id settings.WriteHalfClosed in
-    stop_settles (holds_of (λ s. is_read_half_open s.halves) b id) used b id
+    stop_settles (holds_of (λ s. is_read_half_open s.halves) b id) used (credit_in b) b id
     (same_settles used a b (settings_keep_the_status a id settings.WriteHalfClosed) h)

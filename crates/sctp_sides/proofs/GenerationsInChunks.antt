@@ -1,6 +1,7 @@
 -- No packet, no read and no stop changes how often a generation is accounted for.
 use Rattle.std.proofs.Common.{◌≡◌, refl, ◌∙◌, ℕ, Bool, true, false, ◌&&◌, if◌then◌else◌, List, [], ◌∷◌, ◌++◌}
 use Rattle.std.proofs.Common.{Option, Some, None, Result, Ok, Err, is_some}
+use Rattle.sctp_wire_types.specs.Config.{is_rfc}
 use Rattle.sctp_wire_types.specs.declared.chunk.Chunk.{Chunk}
 use Rattle.sctp_wire_types.specs.declared.chunk.Chunk.TheVariants as chunks
 use Rattle.sctp_wire_types.specs.declared.chunk.ChunkHeartbeat.{ChunkHeartbeat}
@@ -28,6 +29,7 @@ use Rattle.sctp_streams.specs.declared.event.Event.TheVariants.{Connected, Datag
 use Rattle.sctp_streams.specs.declared.event.Event.TheVariants as events
 use Rattle.sctp_streams.specs.LowMarks.{fallen}
 use Rattle.sctp_streams.specs.Stream.{StreamView, is_read_half_open, stream_skipped, with_halves, without_read_half}
+use Rattle.sctp_streams.specs.Stream.{without_unread}
 use Rattle.sctp_streams.specs.Streams.{StreamMap, becomes_ready_in, changed_stream, generation_left, is_readable_in}
 use Rattle.sctp_streams.specs.Streams.{made, passed_in, pushed_in, read_in, refusal_in, stream_at}
 use Rattle.sctp_inbound.specs.declared.receiver.AckTrigger.{AckTrigger}
@@ -50,11 +52,12 @@ use Rattle.sctp_resets.specs.Resets.{responded, stopped_reading}
 use Rattle.sctp_resets.specs.Resets as resets
 use Rattle.sctp_assoc.specs.declared.inbound.Flow.{Flow}
 use Rattle.sctp_assoc.specs.declared.inbound.Flow.TheVariants as flows
-use Rattle.sctp_assoc.specs.Calls.{after_read, drained_behind, holds_of, is_beginning, is_cookie_echoed, is_cookie_wait}
-use Rattle.sctp_assoc.specs.Calls.{is_established, read_from_stream, sends_data, stopped, stopped_open}
-use Rattle.sctp_assoc.specs.Calls.{without_read_half_of}
+use Rattle.sctp_assoc.specs.Calls.{after_read, credit_in, drained_behind, eased, holds_of, is_beginning}
+use Rattle.sctp_assoc.specs.Calls.{is_cookie_echoed, is_cookie_wait, is_established, read_from_stream, sends_data}
+use Rattle.sctp_assoc.specs.Calls.{stopped, stopped_open, tells_window, told_if, unread_dropped, without_read_half_of}
 use Rattle.sctp_assoc.specs.Chunks.{after_chunks, after_packet, after_packet_of, asks, asks_or_faults, checked_first}
-use Rattle.sctp_assoc.specs.Chunks.{deferred_unless, deferred_where_admitted, dispatched, goes_on, on_chunk}
+use Rattle.sctp_assoc.specs.Chunks.{deferred_unless, deferred_where_admitted, dispatched, goes_on, goes_unread}
+use Rattle.sctp_assoc.specs.Chunks.{left_or_handed_over, on_chunk}
 use Rattle.sctp_assoc.specs.Chunks.{on_counted_data, on_counted_sack, on_data, on_new_data, on_sack, stream_found}
 use Rattle.sctp_assoc.specs.Chunks.{taken_in, taken_unless, taken_where_admitted, then_skips, told, with_acknowledged}
 use Rattle.sctp_assoc.specs.Chunks.{with_message}
@@ -185,6 +188,13 @@ module _ (g : ℕ) where
       message_keeps a piece (pushed_in a.streams id piece)
       ∙ same_tally g a.streams (pushed_in a.streams id piece).0 a.events (pushed_same a.streams id piece)
 
+  -- what nobody reads is left, and other DATA goes to its stream
+  leaving_keeps : (left : Bool) (a : Shown) (piece : ChunkPayloadData)
+      → tally_of (left_or_handed_over left a piece).0 ≡ tally_of a
+  leaving_keeps true a piece = one_told g a.streams a.events DatagramReceived refl
+  leaving_keeps false a piece =
+      taking_keeps (refusal_in a.streams piece.stream_identifier piece a.receiver.max_receive_message_size) a piece
+
   either_keeps : (c : Bool) (a : Shown) (f h : Flow)
       → tally_of (if◌then◌else◌ {A = Shown × Flow} c (a, f) (a, h)).0 ≡ tally_of a
   either_keeps true a f h = refl
@@ -212,7 +222,7 @@ module _ (g : ℕ) where
   unfolding taken_in
   admitted_keeps true b piece e =
       rw e (skips_behind_keep (taken_in b piece) piece.stream_identifier
-      ∙ taking_keeps (refusal_in b.streams piece.stream_identifier piece _) b piece)
+      ∙ leaving_keeps (goes_unread b piece) b piece)
   admitted_keeps false b piece e = rw e refl
 
   deferring_keeps : (o : Option Error) (b : Shown) (piece : ChunkPayloadData)
@@ -466,6 +476,14 @@ module _ (g : ℕ) where
   relieved_keeps : (a : Shown) → tally_of (relieved a) ≡ tally_of a
   relieved_keeps a = relieved_keeps_if (is_exhausted a) a
 
+  -- a window that is told changes nothing of that
+  told_window_keeps : (tells : Bool) (a : Shown) → tally_of (told_if tells a) ≡ tally_of a
+  told_window_keeps true a = refl
+  told_window_keeps false a = refl
+
+  eased_keeps : (before : ℕ) (a : Shown) → tally_of (eased before a) ≡ tally_of a
+  eased_keeps before a = told_window_keeps (tells_window before (relieved a)) (relieved a) ∙ relieved_keeps a
+
   drained_keeps : (a : Shown) (id : ℕ) (streams : StreamMap)
       → tally_of (drained_behind a id streams) ≡ tally g streams a.events
   drained_keeps a id streams =
@@ -476,7 +494,7 @@ module _ (g : ℕ) where
       → tally_of (after_read a id x).0 ≡ tally g x.0 a.events
   after_read_keeps (streams, None) a id = drained_keeps a id streams
   after_read_keeps (streams, Some message) a id =
-      relieved_keeps (drained_behind a id streams) ∙ drained_keeps a id streams
+      eased_keeps (credit_in a) (drained_behind a id streams) ∙ drained_keeps a id streams
 
   pub reads_keep : (a : Shown) (id : ℕ) → tally_of (read_from_stream a id).0 ≡ tally_of a
   reads_keep a id =
@@ -488,18 +506,27 @@ module _ (g : ℕ) where
       let f : StreamView → StreamView = λ s. with_halves s (without_read_half s.halves) in
       same_tally g a.streams (changed_stream f a.streams id) a.events (changed_same f (λ u. refl) a.streams id)
 
+  -- what waits of a stream is dropped or not, and no generation changes
+  dropping_keeps : (drops : Bool) (m : StreamMap) (id : ℕ) (es : List Event)
+      → tally g (unread_dropped drops m id) es ≡ tally g m es
+  dropping_keeps true m id es =
+      same_tally g m (changed_stream without_unread m id) es (changed_same without_unread (λ u. refl) m id)
+  dropping_keeps false m id es = refl
+
   stopped_open_keeps : (retires : Bool) (a : Shown) (id : ℕ) → is_retiring a.resets id ≡ retires
       → tally_of (stopped_open a id) ≡ tally_of a
   stopped_open_keeps true a id e =
       let b : Shown = without_read_half_of a id in
       rw e (stopped_reading_keeps g id b.resets b.streams b.events ∙ half_keeps a id)
-  stopped_open_keeps false a id e = rw e (half_keeps a id)
+  stopped_open_keeps false a id e =
+      let b : Shown = without_read_half_of a id in
+      rw e (dropping_keeps (is_rfc a.profile) b.streams id b.events ∙ half_keeps a id)
 
-  stop_keeps_if : (is_open : Bool) (a : Shown) (id : ℕ)
-      → tally_of (if is_open then relieved (stopped_open a id) else a) ≡ tally_of a
-  stop_keeps_if true a id =
-      relieved_keeps (stopped_open a id) ∙ stopped_open_keeps (is_retiring a.resets id) a id refl
-  stop_keeps_if false a id = refl
+  stop_keeps_if : (is_open : Bool) (before : ℕ) (a : Shown) (id : ℕ)
+      → tally_of (if is_open then eased before (stopped_open a id) else a) ≡ tally_of a
+  stop_keeps_if true before a id =
+      eased_keeps before (stopped_open a id) ∙ stopped_open_keeps (is_retiring a.resets id) a id refl
+  stop_keeps_if false before a id = refl
 
   pub stops_keep : (a : Shown) (id : ℕ) → tally_of (stopped a id) ≡ tally_of a
-  stops_keep a id = stop_keeps_if (holds_of (λ s. is_read_half_open s.halves) a id) a id
+  stops_keep a id = stop_keeps_if (holds_of (λ s. is_read_half_open s.halves) a id) (credit_in a) a id

@@ -1,5 +1,6 @@
 -- What the calls of an application leave to be read is what was held before.
 use Rattle.std.proofs.Common.{refl, ℕ, Bool, true, false, if◌then◌else◌, List, [], ◌∷◌, length, Option, Some, None}
+use Rattle.sctp_wire_types.specs.Config.{is_rfc}
 use Rattle.sctp_wire_types.specs.declared.chunk.ChunkPayloadData.{ChunkPayloadData}
 use Rattle.sctp_wire_types.specs.declared.ids.PayloadProtocolIdentifier.{PayloadProtocolIdentifier}
 use Rattle.sctp_receive_queues.specs.Messages.{ReceivedMessage}
@@ -7,22 +8,25 @@ use Rattle.sctp_streams.specs.declared.event.Event.{Event}
 use Rattle.sctp_streams.specs.declared.setting.Setting.{Setting}
 use Rattle.sctp_streams.specs.declared.setting.Setting.TheVariants as settings
 use Rattle.sctp_streams.specs.Stream.{StreamView, accepted_by, is_read_half_open, with_halves, with_setting}
-use Rattle.sctp_streams.specs.Stream.{without_read_half}
+use Rattle.sctp_streams.specs.Stream.{without_read_half, without_unread}
 use Rattle.sctp_streams.specs.Streams.{StreamMap, read_in, stream_at}
 use Rattle.sctp_directions.specs.Acts.{type_on}
 use Rattle.sctp_resets.specs.Channels.{channels}
 use Rattle.sctp_resets.specs.Resets.{ResetsView, event_told, is_retiring, read_out, stopped_reading, waiting_for}
-use Rattle.sctp_assoc.specs.Calls.{accepted_from, accepted_stream, adjusted, after_read, drained_behind, event_from}
+use Rattle.sctp_assoc.specs.Calls.{accepted_from, accepted_stream, adjusted, after_read, credit_in, drained_behind}
+use Rattle.sctp_assoc.specs.Calls.{eased, event_from}
 use Rattle.sctp_assoc.specs.Calls.{event_polled, holds_of, opened, read_from_stream, stopped, stopped_open}
-use Rattle.sctp_assoc.specs.Calls.{with_max_send_message_size, without_read_half_of, written, written_at, written_under}
-use Rattle.sctp_assoc.specs.Closing.{relieved}
+use Rattle.sctp_assoc.specs.Calls.{unread_dropped, with_max_send_message_size, without_read_half_of, written}
+use Rattle.sctp_assoc.specs.Calls.{written_at, written_under}
 use Rattle.sctp_assoc.specs.Resets.{with_beside}
 use Rattle.sctp_assoc.specs.Shown.{Shown}
+use Rattle.sctp_assoc.proofs.StopsLeadOn.{dropped_or_not}
 use Rattle.sctp_sides.specs.Brought.{SideHoldsOnly}
 use Rattle.sctp_reset_fit.specs.Pieces.{HoldsOnly, IsMadeOfWhereThere}
-use Rattle.sctp_sides.specs.Held.{IsHeldOnly}
+use Rattle.sctp_reset_fit.proofs.HeldPieces.{empty_holds}
+use Rattle.sctp_sides.specs.Held.{IsHeldOnly, StreamsHoldOnly}
 use Rattle.sctp_sides.proofs.HeldInResets.{event_told_holds, read_out_holds, stopped_reading_holds}
-use Rattle.sctp_sides.proofs.HeldSteps.{KeepsHeld, beside_held, relieved_held, resetting_holds, same_held, stays_held}
+use Rattle.sctp_sides.proofs.HeldSteps.{KeepsHeld, beside_held, eased_held, resetting_holds, same_held, stays_held}
 use Rattle.sctp_sides.proofs.HeldSteps.{streams_held, then_held}
 use Rattle.sctp_sides.proofs.HeldStreams.{changed_holds, made_holds, read_in_holds}
 
@@ -107,7 +111,7 @@ module _ (P : ChunkPayloadData → Type 0) where
       → SideHoldsOnly P (after_read a id x).0
   read_holds_if (streams, None) a id h = drained_holds a id streams h
   read_holds_if (streams, Some message) a id h =
-      (relieved_held P (drained_behind a id streams)).holds (drained_holds a id streams h)
+      (eased_held P (credit_in a) (drained_behind a id streams)).holds (drained_holds a id streams h)
 
   pub read_held : (a : Shown) (id : ℕ) → KeepsHeld P a (read_from_stream a id).0
   read_held a id = record {
@@ -136,20 +140,27 @@ module _ (P : ChunkPayloadData → Type 0) where
   stopped_held_if : (retires : Bool) (b : Shown) (id : ℕ)
       → KeepsHeld P b
       (if retires then with_beside b (stopped_reading id b.resets b.streams b.events) else
-      record b { resets = waiting_for b.resets id })
+      record b { streams = unread_dropped (is_rfc b.profile) b.streams id; resets = waiting_for b.resets id })
   stopped_held_if true b id =
       beside_held P b (stopped_reading id b.resets b.streams b.events)
       (stopped_reading_holds P id b.resets b.streams b.events)
-  stopped_held_if false b id = same_held P b _ refl refl
+  stopped_held_if false b id = record {
+    holds = λ h. record {
+      streams =
+          dropped_or_not (StreamsHoldOnly P) (is_rfc b.profile) b.streams id h.streams
+          (changed_holds P without_unread (λ k s held. empty_holds P k) b.streams id h.streams);
+      kept = h.kept;
+    };
+  }
 
   stopped_open_held : (a : Shown) (id : ℕ) → KeepsHeld P a (stopped_open a id)
   stopped_open_held a id =
       then_held P (half_held a id) (stopped_held_if (is_retiring a.resets id) (without_read_half_of a id) id)
 
-  stop_held_if : (reads : Bool) (a : Shown) (id : ℕ)
-      → KeepsHeld P a (if reads then relieved (stopped_open a id) else a)
-  stop_held_if true a id = then_held P (stopped_open_held a id) (relieved_held P (stopped_open a id))
-  stop_held_if false a id = stays_held P a
+  stop_held_if : (reads : Bool) (before : ℕ) (a : Shown) (id : ℕ)
+      → KeepsHeld P a (if reads then eased before (stopped_open a id) else a)
+  stop_held_if true before a id = then_held P (stopped_open_held a id) (eased_held P before (stopped_open a id))
+  stop_held_if false before a id = stays_held P a
 
   pub stopped_held : (a : Shown) (id : ℕ) → KeepsHeld P a (stopped a id)
-  stopped_held a id = stop_held_if (holds_of (λ s. is_read_half_open s.halves) a id) a id
+  stopped_held a id = stop_held_if (holds_of (λ s. is_read_half_open s.halves) a id) (credit_in a) a id

@@ -22,8 +22,8 @@ use Rattle.sctp_sides.proofs.EndedPolls.{with_answer_timed}
 use Rattle.sctp_sides.proofs.HeldInChunks.{sends_cookie_keeps}
 use Rattle.sctp_sides.proofs.HeldInResets.{given_up_holds}
 use Rattle.sctp_sides.proofs.HeldInSending.{data_poll_holds}
-use Rattle.sctp_sides.proofs.HeldSteps.{KeepsHeld, beside_held, closed_held, queued_held, same_held, stays_held}
-use Rattle.sctp_sides.proofs.HeldSteps.{streams_held, then_held}
+use Rattle.sctp_sides.proofs.HeldSteps.{KeepsHeld, beside_held, closed_held, same_held, stays_held, streams_held}
+use Rattle.sctp_sides.proofs.HeldSteps.{then_held}
 use Rattle.sctp_sides.proofs.PollsLeave.{PolledFrom, after_requests, control_leaves, polled_from, silent_is}
 
 -- The DATA of which something is so.
@@ -82,7 +82,7 @@ module _ (P : ChunkPayloadData → Type 0) where
 
   offered_held : (o : Option Offer) (a : Shown) → KeepsHeld P a (init_queued o a)
   offered_held None a = stays_held P a
-  offered_held (Some offer) a = queued_held P a _
+  offered_held (Some offer) a = same_held P a _ refl refl
 
   sends_init_held : (a : Shown) (now : ℕ) → KeepsHeld P a (sends_init a now)
   unfolding sends_init

@@ -8,6 +8,7 @@ use Rattle.sctp_wire_types.specs.declared.param.ReconfigResult.{ReconfigResult}
 use Rattle.sctp_streams.specs.declared.event.AssociationError.{AssociationError}
 use Rattle.sctp_streams.specs.declared.event.AssociationError.TheVariants as reasons
 use Rattle.sctp_resets.specs.Resets.{Beside, Resetting}
+use Rattle.sctp_assoc.specs.Calls.{eased, tells_window, told_if}
 use Rattle.sctp_assoc.specs.Closing.{closed_by, closed_open, exhausted, is_closed_state, is_exhausted, out_of_resource}
 use Rattle.sctp_assoc.specs.Closing.{relieved}
 use Rattle.sctp_assoc.specs.Control.{asking, queued}
@@ -102,3 +103,12 @@ module _ (P : ChunkPayloadData → Type 0) where
   -- an exhausted receive buffer closes, or nothing changes
   pub relieved_held : (a : Shown) → KeepsHeld P a (relieved a)
   relieved_held a = relieved_held_if (is_exhausted a) a
+
+  told_held : (c : Bool) (a : Shown) → KeepsHeld P a (told_if c a)
+  told_held true a = same_held a (told_if true a) refl refl
+  told_held false a = stays_held a
+
+  -- so it is where a window that opened is told besides
+  pub eased_held : (before : ℕ) (a : Shown) → KeepsHeld P a (eased before a)
+  eased_held before a =
+      let b : Shown = relieved a in then_held (relieved_held a) (told_held (tells_window before b) b)

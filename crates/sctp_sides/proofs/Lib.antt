@@ -103,5 +103,6 @@ pub mod TimesGiven
 pub mod WaitingGoesOut
 pub mod WaitingInTime
 pub mod WindowsHold
+pub mod WindowsTold
 pub mod WithoutResets
 pub mod WrittenIsHeld

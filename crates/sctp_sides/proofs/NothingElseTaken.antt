@@ -1,6 +1,6 @@
 -- Nothing but DATA that may be is taken in or kept apart.
-use Rattle.std.proofs.Common.{◌≡◌, refl, sym, ap, ◌∙◌, subst, ℕ, zero, suc, Bool, true, false, if◌then◌else◌}
-use Rattle.std.proofs.Common.{List, [], ◌∷◌, ◌++◌, Option, Some, None, is_some, Result, Ok, Err}
+use Rattle.std.proofs.Common.{◌≡◌, refl, sym, ap, ◌∙◌, subst, ◌⊎◌, ⊎_elim, inl, inr, ℕ, zero, suc, Bool, true, false}
+use Rattle.std.proofs.Common.{if◌then◌else◌, List, [], ◌∷◌, ◌++◌, Option, Some, None, is_some, Result, Ok, Err}
 use Rattle.std.specs.Prelude.{slice_get, ⊤}
 use Rattle.std.specs.List.{AllByRecursion}
 use Rattle.std.proofs.lemmas.Bool.{false≢true}
@@ -24,6 +24,7 @@ use Rattle.sctp_resets.specs.Concerned.{retiring_ids}
 use Rattle.sctp_directions.specs.Acts.{Act, History}
 use Rattle.sctp_model.proofs.Lists.{all_get, all_join, all_weaker}
 use Rattle.sctp_assoc.specs.Calls.{is_beginning, is_cookie_wait, sends_data}
+use Rattle.sctp_assoc.specs.Chunks.{goes_unread}
 use Rattle.sctp_assoc.specs.Happened.{acts_of_checked, acts_of_chunk, acts_of_data, acts_of_forward}
 use Rattle.sctp_assoc.specs.Happened.{acts_of_kind, acts_of_outcome}
 use Rattle.sctp_assoc.specs.Leads.{Binds}
@@ -33,7 +34,7 @@ use Rattle.sctp_assoc.specs.Resets.{after_param}
 use Rattle.sctp_assoc.specs.Shown.{Shown, uses_forward_tsn}
 use Rattle.sctp_assoc.specs.Skipping.{is_ahead, skips_of, with_passed, with_skips}
 use Rattle.sctp_sides.specs.Intake.{IsEndOfSpans, NothingElseIsKeptApart, NothingElseIsTakenIn, WasToBeKeptApart}
-use Rattle.sctp_sides.specs.Intake.{WasToBeTakenIn, is_for_later, later_refusal_of, refusal_of}
+use Rattle.sctp_sides.specs.Intake.{WasToBeLeft, WasToBeTakenIn, is_for_later, later_refusal_of, refusal_of}
 use Rattle.sctp_wire_types.specs.declared.chunk.SkippedStream.{SkippedStream}
 use Rattle.sctp_sides.proofs.DataIntake.{PassesLater, PassesTests, data_acts, decided_acts, first_acts, has_room}
 use Rattle.sctp_sides.proofs.DataIntake.{is_found, is_new, kept_acts, passes_may, passes_may_later, settling_ends_spans}
@@ -95,15 +96,36 @@ record PassedAll (there fits : Bool) (o : Option Error) (piece came : ChunkPaylo
 nothing_at : (x : Act) → None ≡ Some x → ⊥
 nothing_at x e = false≢true (ap is_some e)
 
-passed_all : (found room : Bool) (o : Option Error) (piece came : ChunkPayloadData) (index : ℕ)
-    → slice_get (decided_acts found room o piece) index ≡ Some (Act.Took came)
-    → PassedAll found room o piece came
-passed_all false room o piece came index e = absurd (nothing_at (Act.Took came) e)
-passed_all true false o piece came index e = absurd (nothing_at (Act.Took came) e)
-passed_all true true (Some error) piece came index e = absurd (nothing_at (Act.Took came) e)
-passed_all true true None piece came zero e =
-    record { found = refl; room = refl; unrefused = refl; same = sym (ap (taken_by piece) e) }
-passed_all true true None piece came (suc index) e = absurd (nothing_at (Act.Took came) e)
+passed_all : (found room left : Bool) (o : Option Error) (piece came : ChunkPayloadData) (index : ℕ)
+    → slice_get (decided_acts found room left o piece) index ≡ Some (Act.Took came)
+    → PassedAll found room o piece came × (left ≡ false)
+passed_all false room left o piece came index e = absurd (nothing_at (Act.Took came) e)
+passed_all true false left o piece came index e = absurd (nothing_at (Act.Took came) e)
+passed_all true true true o piece came zero e = absurd (false≢true (ap is_took e))
+passed_all true true true o piece came (suc index) e = absurd (nothing_at (Act.Took came) e)
+passed_all true true false (Some error) piece came index e = absurd (nothing_at (Act.Took came) e)
+passed_all true true false None piece came zero e =
+    (record { found = refl; room = refl; unrefused = refl; same = sym (ap (taken_by piece) e) }, refl)
+passed_all true true false None piece came (suc index) e = absurd (nothing_at (Act.Took came) e)
+
+-- the tests that were passed where this DATA was left unread
+record LeftUnread (there fits left : Bool) (piece came : ChunkPayloadData) : Type 0 where
+  found : there ≡ true
+  room : fits ≡ true
+  unread : left ≡ true
+  same : came ≡ piece
+
+left_unread : (found room left : Bool) (o : Option Error) (piece came : ChunkPayloadData) (index : ℕ)
+    → slice_get (decided_acts found room left o piece) index ≡ Some (Act.Deferred came)
+    → LeftUnread found room left piece came
+left_unread false room left o piece came index e = absurd (nothing_at (Act.Deferred came) e)
+left_unread true false left o piece came index e = absurd (nothing_at (Act.Deferred came) e)
+left_unread true true true o piece came zero e =
+    record { found = refl; room = refl; unread = refl; same = sym (ap (taken_by piece) e) }
+left_unread true true true o piece came (suc index) e = absurd (nothing_at (Act.Deferred came) e)
+left_unread true true false (Some error) piece came index e = absurd (nothing_at (Act.Deferred came) e)
+left_unread true true false None piece came zero e = absurd (false≢true (ap is_deferred e))
+left_unread true true false None piece came (suc index) e = absurd (nothing_at (Act.Deferred came) e)
 
 kept_all : (room : Bool) (o : Option Error) (piece came : ChunkPayloadData) (index : ℕ)
     → slice_get (kept_acts room o piece) index ≡ Some (Act.Deferred came)
@@ -114,21 +136,13 @@ kept_all true None piece came zero e =
     record { found = refl; room = refl; unrefused = refl; same = sym (ap (taken_by piece) e) }
 kept_all true None piece came (suc index) e = absurd (nothing_at (Act.Deferred came) e)
 
--- none of these takes DATA in for later, or none at all
+-- none of these takes DATA in by its stream
 not_kept : (room : Bool) (o : Option Error) (piece came : ChunkPayloadData) (index : ℕ)
     → slice_get (kept_acts room o piece) index ≡ Some (Act.Took came) → ⊥
 not_kept false o piece came index e = nothing_at (Act.Took came) e
 not_kept true (Some error) piece came index e = nothing_at (Act.Took came) e
 not_kept true None piece came zero e = false≢true (ap is_took e)
 not_kept true None piece came (suc index) e = nothing_at (Act.Took came) e
-
-not_taken : (found room : Bool) (o : Option Error) (piece came : ChunkPayloadData) (index : ℕ)
-    → slice_get (decided_acts found room o piece) index ≡ Some (Act.Deferred came) → ⊥
-not_taken false room o piece came index e = nothing_at (Act.Deferred came) e
-not_taken true false o piece came index e = nothing_at (Act.Deferred came) e
-not_taken true true (Some error) piece came index e = nothing_at (Act.Deferred came) e
-not_taken true true None piece came zero e = false≢true (ap is_deferred e)
-not_taken true true None piece came (suc index) e = nothing_at (Act.Deferred came) e
 
 -- the stream is made first
 behind_opened : (there left : Bool) (id first : ℕ) (acts : List Act) (index : ℕ) (x : Act) → (IsNoIntake x → ⊥)
@@ -148,34 +162,42 @@ deferred_takes : (piece : ChunkPayloadData) → IsNoIntake (Act.Deferred piece) 
 deferred_takes piece n = n
 
 module _ (a : Shown) (piece came : ChunkPayloadData) (index : ℕ) where
-  -- DATA was taken in where it passed the tests
+  -- DATA was taken in by its stream where it passed the tests
   passed_data : (next later : Bool) → is_new a piece ≡ next → is_for_later a piece ≡ later
       → slice_get (first_acts next later a piece) index ≡ Some (Act.Took came)
-      → PassesTests a piece × (refusal_of a piece ≡ None) × (came ≡ piece)
+      → PassesTests a piece × (refusal_of a piece ≡ None) × (came ≡ piece) × (goes_unread a piece ≡ false)
   passed_data false later n l e = absurd (nothing_at (Act.Took came) e)
   passed_data true true n l e =
       absurd (not_kept (has_room a piece) (later_refusal_of a piece) piece came index e)
   passed_data true false n l e =
       let behind = behind_opened (is_some (stream_at a.streams piece.stream_identifier)) (generation_left a.streams)
       piece.stream_identifier a.sender.queue.next_message_id
-      (decided_acts (is_found a piece) (has_room a piece) (refusal_of a piece) piece) index (Act.Took came)
-      (took_takes came) e in
-      let p = passed_all (is_found a piece) (has_room a piece) (refusal_of a piece) piece came behind.0 behind.1 in
-      (record { new = n; read_now = l; found = p.found; room = p.room }, p.unrefused, p.same)
+      (decided_acts (is_found a piece) (has_room a piece) (goes_unread a piece) (refusal_of a piece) piece) index
+      (Act.Took came) (took_takes came) e in
+      let passed =
+      passed_all (is_found a piece) (has_room a piece) (goes_unread a piece) (refusal_of a piece) piece came behind.0
+      behind.1 in
+      let p = passed.0 in
+      (record { new = n; read_now = l; found = p.found; room = p.room }, p.unrefused, p.same, passed.1)
 
+  -- and it did not go to its stream where it passed those of DATA that is kept apart, or nobody reads its stream
   kept_data : (next later : Bool) → is_new a piece ≡ next → is_for_later a piece ≡ later
       → slice_get (first_acts next later a piece) index ≡ Some (Act.Deferred came)
-      → PassesLater a piece × (later_refusal_of a piece ≡ None) × (came ≡ piece)
+      → (PassesLater a piece × (later_refusal_of a piece ≡ None) × (came ≡ piece))
+      ⊎ (PassesTests a piece × (goes_unread a piece ≡ true) × (came ≡ piece))
   kept_data false later n l e = absurd (nothing_at (Act.Deferred came) e)
   kept_data true true n l e =
       let p = kept_all (has_room a piece) (later_refusal_of a piece) piece came index e in
-      (record { new = n; read_later = l; room = p.room }, p.unrefused, p.same)
+      inl (record { new = n; read_later = l; room = p.room }, p.unrefused, p.same)
   kept_data true false n l e =
       let behind = behind_opened (is_some (stream_at a.streams piece.stream_identifier)) (generation_left a.streams)
       piece.stream_identifier a.sender.queue.next_message_id
-      (decided_acts (is_found a piece) (has_room a piece) (refusal_of a piece) piece) index (Act.Deferred came)
-      (deferred_takes came) e in
-      absurd (not_taken (is_found a piece) (has_room a piece) (refusal_of a piece) piece came behind.0 behind.1)
+      (decided_acts (is_found a piece) (has_room a piece) (goes_unread a piece) (refusal_of a piece) piece) index
+      (Act.Deferred came) (deferred_takes came) e in
+      let p =
+      left_unread (is_found a piece) (has_room a piece) (goes_unread a piece) (refusal_of a piece) piece came behind.0
+      behind.1 in
+      inr (record { new = n; read_now = l; found = p.found; room = p.room }, p.unread, p.same)
 
 data_was : (a : Shown) (h : History) (piece came : ChunkPayloadData) (index : ℕ) → Binds a h
     → slice_get (acts_of_data a piece) index ≡ Some (Act.Took came) → WasToBeTakenIn a h (chunks.Data piece) came
@@ -187,20 +209,25 @@ data_was a h piece came index binds e =
     (ap (λ (zs : List Act). slice_get zs index) (sym acts.are) ∙ e) in
     let p = passed_data a piece came there.0 (is_new a piece) (is_for_later a piece) refl refl there.1 in
     subst (λ (z : ChunkPayloadData). WasToBeTakenIn a h (chunks.Data piece) z) (sym p.2)
-    (record { data_itself = refl; may = passes_may a h piece binds p.0; unrefused = p.1 })
+    (record { data_itself = refl; may = passes_may a h piece binds p.0; read = p.3; unrefused = p.1 })
 
 data_was_kept : (a : Shown) (h : History) (piece came : ChunkPayloadData) (index : ℕ) → Binds a h
     → slice_get (acts_of_data a piece) index ≡ Some (Act.Deferred came)
-    → WasToBeKeptApart a h (chunks.Data piece) came
+    → WasToBeKeptApart a h (chunks.Data piece) came ⊎ WasToBeLeft a h (chunks.Data piece) came
 data_was_kept a h piece came index binds e =
     let acts = data_acts a piece in
     let first = first_acts (is_new a piece) (is_for_later a piece) a piece in
     let there = found_first (Act.Deferred came) (deferred_takes came) first acts.others index
     (ends_are_no_intake acts.others acts.ends)
     (ap (λ (zs : List Act). slice_get zs index) (sym acts.are) ∙ e) in
-    let p = kept_data a piece came there.0 (is_new a piece) (is_for_later a piece) refl refl there.1 in
-    subst (λ (z : ChunkPayloadData). WasToBeKeptApart a h (chunks.Data piece) z) (sym p.2)
-    (record { data_itself = refl; may = passes_may_later a h piece binds p.0; unrefused = p.1 })
+    ⊎_elim
+    (λ (p : PassesLater a piece × (later_refusal_of a piece ≡ None) × (came ≡ piece)).
+    inl (subst (λ (z : ChunkPayloadData). WasToBeKeptApart a h (chunks.Data piece) z) (sym p.2)
+    (record { data_itself = refl; may = passes_may_later a h piece binds p.0; unrefused = p.1 })))
+    (λ (p : PassesTests a piece × (goes_unread a piece ≡ true) × (came ≡ piece)).
+    inr (subst (λ (z : ChunkPayloadData). WasToBeLeft a h (chunks.Data piece) z) (sym p.2)
+    (record { data_itself = refl; may = passes_may a h piece binds p.0; unread = p.1 })))
+    (kept_data a piece came there.0 (is_new a piece) (is_for_later a piece) refl refl there.1)
 
 -- Other chunks
 

@@ -3,11 +3,13 @@ use Rattle.std.proofs.Common.{◌≡◌, sym, subst, ℕ, Bool, true, false, Lis
 use Rattle.std.specs.List.{AllByRecursion}
 use Rattle.sctp_wire_types.specs.declared.chunk.Chunk.{Chunk}
 use Rattle.sctp_wire_types.specs.declared.chunk.Chunk.TheVariants as chunks
+use Rattle.sctp_wire_types.specs.declared.packet.CommonHeader.{CommonHeader}
 use Rattle.sctp_wire_types.specs.declared.param.Param.{Param}
 use Rattle.sctp_wire_types.specs.declared.param.Param.TheVariants as params
 use Rattle.sctp_wire_types.specs.declared.param.ReconfigResult.{ReconfigResult}
 use Rattle.sctp_model.proofs.Lists.{all_join, all_weaker}
 use Rattle.sctp_generations.specs.Generations.{no_generations}
+use Rattle.sctp_inbound.specs.Handshake.{header_of}
 use Rattle.sctp_reset_requests.specs.declared.own_request.OwnRequest.{OwnRequest}
 use Rattle.sctp_reset_requests.specs.declared.own_request.SentRequest.{SentRequest}
 use Rattle.sctp_reset_requests.specs.Request.{PeerRequestView}
@@ -16,7 +18,7 @@ use Rattle.sctp_resets.specs.Resets.{Beside, ResetsView, Resetting}
 use Rattle.sctp_resets.specs.Within.{AreOver, AsksOver, InProgressOver, KeptOver, NamesOver, ResetsOver, SentOver}
 use Rattle.sctp_assoc.specs.declared.control.Control.{Control}
 use Rattle.sctp_assoc.specs.declared.control.Control.TheVariants as controls
-use Rattle.sctp_assoc.specs.Control.{asking, queued}
+use Rattle.sctp_assoc.specs.Control.{asking, queued, queued_under}
 use Rattle.sctp_assoc.specs.Resets.{asking_if, responding, with_beside, with_resetting}
 use Rattle.sctp_assoc.specs.Shown.{Shown}
 use Rattle.sctp_sides.specs.NoReset.{IsNoReconfig, IsOfNoReset}
@@ -44,12 +46,16 @@ module _ (over : ℕ → Bool) where
   one_more_is_past cs c one each = all_join (WaitsPast over) cs (c ∷ []) each (one, tt)
 
   -- one packet more waits, of a chunk that is no RE-CONFIG or a RE-CONFIG of streams past their span
-  pub queued_is_past : (a : Shown) (chunk : Chunk) → ResetsPastIfAny over chunk → ResetsPastOnly over a
-      → ResetsPastOnly over (queued a chunk)
-  queued_is_past a chunk one h = record {
+  pub queued_under_is_past : (header : CommonHeader) (a : Shown) (chunk : Chunk) → ResetsPastIfAny over chunk
+      → ResetsPastOnly over a → ResetsPastOnly over (queued_under header a chunk)
+  queued_under_is_past header a chunk one h = record {
     resets = h.resets;
     control = one_more_is_past a.control _ one h.control;
   }
+
+  pub queued_is_past : (a : Shown) (chunk : Chunk) → ResetsPastIfAny over chunk → ResetsPastOnly over a
+      → ResetsPastOnly over (queued a chunk)
+  queued_is_past a chunk one h = queued_under_is_past (header_of a.handshake) a chunk one h
 
   -- the response to a request waits
   pub responding_is_past : (a : Shown) (number : ℕ) (result : ReconfigResult) → ResetsPastOnly over a

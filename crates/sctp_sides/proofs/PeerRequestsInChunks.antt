@@ -50,7 +50,7 @@ use Rattle.sctp_assoc.specs.declared.inbound.Flow.{Flow}
 use Rattle.sctp_assoc.specs.Calls.{is_beginning, is_cookie_echoed, is_cookie_wait, is_established, sends_data}
 use Rattle.sctp_assoc.specs.Chunks.{asks, asks_or_faults, checked_first, counted_data, counted_sack, deferred_unless}
 use Rattle.sctp_assoc.specs.Chunks.{deferred_where_admitted, dispatched, on_chunk, on_counted_sack, on_data}
-use Rattle.sctp_assoc.specs.Chunks.{after_sack, on_new_data}
+use Rattle.sctp_assoc.specs.Chunks.{after_sack, goes_unread, left_or_handed_over, on_new_data}
 use Rattle.sctp_assoc.specs.Chunks.{on_sack, stream_found, taken_in, taken_unless, taken_where_admitted, then_skips}
 use Rattle.sctp_assoc.specs.Chunks.{told, with_message}
 use Rattle.sctp_assoc.specs.Closing.{is_exhausted}
@@ -312,10 +312,14 @@ module _ (P : PeerView → Type 0) (kept : IsKept P) where
   taken_unless_goes (Some fault) a piece = same a
   taken_unless_goes None a piece = message_goes a piece (pushed_in a.streams piece.stream_identifier piece)
 
+  left_goes : (left : Bool) (a : Shown) (piece : ChunkPayloadData) → GoesOn a (left_or_handed_over left a piece).0
+  left_goes true a piece = by_parts a _ refl refl
+  left_goes false a piece =
+      taken_unless_goes (refusal_in a.streams piece.stream_identifier piece a.receiver.max_receive_message_size) a piece
+
   taken_goes : (a : Shown) (piece : ChunkPayloadData) → GoesOn a (taken_in a piece).0
   unfolding taken_in
-  taken_goes a piece =
-      taken_unless_goes (refusal_in a.streams piece.stream_identifier piece a.receiver.max_receive_message_size) a piece
+  taken_goes a piece = left_goes (goes_unread a piece) a piece
 
   then_skips_goes : (x : Shown × Option Error) (id : ℕ) → GoesOn x.0 (then_skips x id).0
   then_skips_goes (a, None) id = keeping a _ (skipping_keeps id a)

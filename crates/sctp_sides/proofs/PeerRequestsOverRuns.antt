@@ -4,6 +4,7 @@ use Rattle.std.proofs.Common.{◌≡◌, refl, sym, ap, ◌∙◌, subst, ⊎_el
 use Rattle.std.proofs.Common.{if◌then◌else◌, List, [], ◌∷◌, Option, Some, None}
 use Rattle.std.proofs.lemmas.Bool.{false≢true}
 use Rattle.std.specs.Prelude.{remove, slice_get}
+use Rattle.sctp_wire_types.specs.Config.{is_rfc}
 use Rattle.sctp_wire_types.specs.declared.chunk.Chunk.{Chunk}
 use Rattle.sctp_wire_types.specs.declared.error.Error.TheVariants as errors
 use Rattle.sctp_wire_types.specs.declared.ids.PayloadProtocolIdentifier.{PayloadProtocolIdentifier}
@@ -36,9 +37,10 @@ use Rattle.sctp_resets.specs.Resets.{with_read}
 use Rattle.sctp_resets.specs.Telling.{next_told}
 use Rattle.sctp_assoc.specs.declared.inbound.Flow.{Flow}
 use Rattle.sctp_assoc.specs.declared.inbound.Flow.TheVariants as flows
-use Rattle.sctp_assoc.specs.Calls.{accepted_from, adjusted, after_ack_delay, after_read, after_t3, drained_behind}
-use Rattle.sctp_assoc.specs.Calls.{event_from, holds_of, is_beginning, retransmits, stopped_open}
-use Rattle.sctp_assoc.specs.Calls.{t3_expired, without_read_half_of, written_at}
+use Rattle.sctp_assoc.specs.Calls.{accepted_from, adjusted, after_ack_delay, after_read, after_t3, credit_in}
+use Rattle.sctp_assoc.specs.Calls.{drained_behind, eased, event_from, holds_of, is_beginning, retransmits}
+use Rattle.sctp_assoc.specs.Calls.{stopped_open, t3_expired, tells_window, told_if, unread_dropped}
+use Rattle.sctp_assoc.specs.Calls.{without_read_half_of, written_at}
 use Rattle.sctp_assoc.specs.Chunks.{after_chunks, after_packet, after_packet_of, goes_on, on_chunk}
 use Rattle.sctp_assoc.specs.Closing.{closed_by, closed_open, exhausted, is_closed_state, is_exhausted, relieved}
 use Rattle.sctp_assoc.specs.Gather.{open_polled, polled}
@@ -115,7 +117,10 @@ stop_keeps : (retires : Bool) (a : Shown) (id : ℕ)
     → KeepsRequests a
     (let b = without_read_half_of a id in
     if retires then with_beside b (stopped_reading id b.resets b.streams b.events) else
-    record b { resets = (let r = b.resets in record r { own = own.with_waiting r.own id }) })
+    record b {
+      streams = unread_dropped (is_rfc b.profile) b.streams id;
+      resets = (let r = b.resets in record r { own = own.with_waiting r.own id });
+    })
 stop_keeps true a id =
     let b : Shown = without_read_half_of a id in
     requests_then a b (with_beside b (stopped_reading id b.resets b.streams b.events))
@@ -279,19 +284,27 @@ module _ (P : PeerView → Type 0) (kept : IsKept P) where
   relieved_stands : (a : Shown) → Stands a → Stands (relieved a)
   relieved_stands a h = relieved_if (is_exhausted a) a h
 
+  told_stands : (c : Bool) (a : Shown) → Stands a → Stands (told_if c a)
+  told_stands true a h = stands_by a (told_if true a) (requests_kept a (told_if true a) refl refl refl) h
+  told_stands false a h = h
+
+  eased_stands : (before : ℕ) (a : Shown) → Stands a → Stands (eased before a)
+  eased_stands before a h =
+      let b : Shown = relieved a in told_stands (tells_window before b) b (relieved_stands a h)
+
   read_stands : (a : Shown) (id : ℕ) (x : StreamMap × Option ReceivedMessage) → Stands a
       → Stands (after_read a id x).0
   read_stands a id (streams, None) h = stands_by a (drained_behind a id streams) (draining_keeps a id streams) h
   read_stands a id (streams, Some message) h =
-      relieved_stands (drained_behind a id streams)
+      eased_stands (credit_in a) (drained_behind a id streams)
       (stands_by a (drained_behind a id streams) (draining_keeps a id streams) h)
 
-  stop_stands : (reads : Bool) (a : Shown) (id : ℕ) → Stands a
-      → Stands (if reads then relieved (stopped_open a id) else a)
-  stop_stands true a id h =
-      relieved_stands (stopped_open a id)
+  stop_stands : (reads : Bool) (before : ℕ) (a : Shown) (id : ℕ) → Stands a
+      → Stands (if reads then eased before (stopped_open a id) else a)
+  stop_stands true before a id h =
+      eased_stands before (stopped_open a id)
       (stands_by a (stopped_open a id) (stop_keeps (is_retiring a.resets id) a id) h)
-  stop_stands false a id h = h
+  stop_stands false before a id h = h
 
   -- packets
 
@@ -372,10 +385,11 @@ module _ (P : PeerView → Type 0) (kept : IsKept P) where
       poll_stands a now h
   carried_stands (Call.HandleTimeout now) a h = stands_by a (after_timeouts a now) (timeouts_keep a now) h
   carried_stands (Call.HandleEvent packet now) a h = packet_stands packet a now h
-  carried_stands (Call.Stop id) a h = stop_stands (holds_of (λ s. is_read_half_open s.halves) a id) a id h
+  carried_stands (Call.Stop id) a h =
+      stop_stands (holds_of (λ s. is_read_half_open s.halves) a id) (credit_in a) a id h
   carried_stands (Call.CloseStream id) a h =
       let b : Shown = adjusted a id settings.WriteHalfClosed in
-      stop_stands (holds_of (λ s. is_read_half_open s.halves) b id) b id
+      stop_stands (holds_of (λ s. is_read_half_open s.halves) b id) (credit_in b) b id
       (stands_by a b (requests_kept a b refl refl refl) h)
 
   -- and lists of calls

@@ -31,7 +31,8 @@ pub use Rattle.sctp_sides.proofs.ActsOfPolls.{other_polls_do_nothing_in_front, p
 pub use Rattle.sctp_sides.proofs.StatusOfPolls.{polls_keep_the_stage, the_same_status_is_the_same_stage}
 pub use Rattle.sctp_sides.proofs.Status.{accepted_streams_keep_the_status, limits_keep_the_status}
 pub use Rattle.sctp_sides.proofs.Status.{reads_change_streams_alone, settings_keep_the_status}
-pub use Rattle.sctp_sides.proofs.Status.{timers_keep_the_status, told_events_keep_the_status, writes_keep_the_status}
+pub use Rattle.sctp_sides.proofs.Status.{timers_keep_the_status, told_events_keep_the_status}
+pub use Rattle.sctp_sides.proofs.Status.{told_windows_keep_the_status, writes_keep_the_status}
 pub use Rattle.sctp_sides.proofs.ChunksPast.{chunks_reset_no_more}
 pub use Rattle.sctp_sides.proofs.ShutdownCalls.{endpoint_event_leads_on, endpoint_events_begin_no_reset}
 pub use Rattle.sctp_sides.proofs.ShutdownCalls.{endpoint_events_keep_the_status, endpoint_events_reset_no_more}
@@ -56,7 +57,8 @@ pub use Rattle.sctp_sides.proofs.ResetsNoMore.{exhaustion_resets_no_more, limits
 pub use Rattle.sctp_sides.proofs.ResetsNoMore.{open_stops_reset_that_stream, opened_streams_reset_no_more}
 pub use Rattle.sctp_sides.proofs.ResetsNoMore.{packet_ends_reset_no_more, polls_reset_no_more, reads_end_past}
 pub use Rattle.sctp_sides.proofs.ResetsNoMore.{reads_reset_no_more, settings_reset_no_more, stops_reset_that_stream}
-pub use Rattle.sctp_sides.proofs.ResetsNoMore.{timers_reset_no_more, told_events_reset_no_more, writes_reset_no_more}
+pub use Rattle.sctp_sides.proofs.ResetsNoMore.{timers_reset_no_more, told_events_reset_no_more}
+pub use Rattle.sctp_sides.proofs.ResetsNoMore.{told_windows_reset_no_more, writes_reset_no_more}
 pub use Rattle.sctp_sides.proofs.ShutdownsStayInOrder.{polls_complete_what_is_due, shutdowns_stay_in_order}
 pub use Rattle.sctp_sides.proofs.HeldOverCalls.{calls_hold_what_came, lists_hold_what_came, reads_give_what_is_held}
 pub use Rattle.sctp_sides.proofs.HeldWeaker.{held_weaker}

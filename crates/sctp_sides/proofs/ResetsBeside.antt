@@ -2,6 +2,7 @@
 -- DATA, and the timer of the active request.
 use Rattle.std.proofs.Common.{◌≡◌, refl, ap, ◌∙◌, ℕ, ◌&&◌, not, is_some, Bool, true, false, if◌then◌else◌}
 use Rattle.std.proofs.Common.{Option, Some, None}
+use Rattle.sctp_wire_types.specs.Config.{is_rfc}
 use Rattle.sctp_wire_types.specs.declared.chunk.ChunkReconfig.{ChunkReconfig}
 use Rattle.sctp_wire_types.specs.declared.param.Param.{Param}
 use Rattle.sctp_wire_types.specs.declared.param.Param.TheVariants as params
@@ -22,7 +23,7 @@ use Rattle.sctp_resets.specs.Channels.{channels}
 use Rattle.sctp_resets.specs.Resets.{Beside, Resetting, ResetsView, given_up, handled, is_retiring, read_out}
 use Rattle.sctp_resets.specs.Resets.{responded, skips_done, skips_done_of, stopped_reading, waiting_for}
 use Rattle.sctp_resets.specs.Resets as resets
-use Rattle.sctp_assoc.specs.Calls.{drained_behind, stopped_open, without_read_half_of}
+use Rattle.sctp_assoc.specs.Calls.{drained_behind, stopped_open, unread_dropped, without_read_half_of}
 use Rattle.sctp_assoc.specs.Resets.{after_param, after_reconfig_timer, asking_if, asks_again, behind_first}
 use Rattle.sctp_assoc.specs.Resets.{behind_params}
 use Rattle.sctp_assoc.specs.Resets.{channels_of, gives_up, handled_with, on_reconfig, on_request, on_response}
@@ -155,18 +156,18 @@ draining_changes a id streams =
 
 -- Stops
 
-stop_changes_if : (retires : Bool) (a : Shown) (id : ℕ) (x : Beside) (r : ResetsView)
+stop_changes_if : (retires : Bool) (a : Shown) (id : ℕ) (x : Beside) (n : StreamMap) (r : ResetsView)
     → ChangesResets a
     (if retires then with_beside (without_read_half_of a id) x else
-    record (without_read_half_of a id) { resets = r })
-stop_changes_if true a id (r, m, told) left = refl
-stop_changes_if false a id x left = refl
+    record (without_read_half_of a id) { streams = n; resets = r })
+stop_changes_if true a id (r, m, told) n left = refl
+stop_changes_if false a id x n left = refl
 
 pub stop_changes : (a : Shown) (id : ℕ) → ChangesResets a (stopped_open a id)
 stop_changes a id =
     let b : Shown = without_read_half_of a id in
     stop_changes_if (is_retiring a.resets id) a id (stopped_reading id b.resets b.streams b.events)
-    (waiting_for b.resets id)
+    (unread_dropped (is_rfc a.profile) b.streams id) (waiting_for b.resets id)
 
 -- The timer of the active request
 

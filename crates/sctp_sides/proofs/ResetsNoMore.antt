@@ -2,6 +2,7 @@
 use Rattle.std.proofs.Common.{◌≡◌, refl, ℕ, Bool, true, false, if◌then◌else◌, List, [], ◌∷◌, ◌-◌, ◌==◌, length, fold}
 use Rattle.std.proofs.Common.{Option, Some, None}
 use Rattle.std.specs.List.{AllByRecursion}
+use Rattle.sctp_wire_types.specs.Config.{is_rfc}
 use Rattle.sctp_wire_types.specs.declared.chunk.ChunkPayloadData.{ChunkPayloadData}
 use Rattle.sctp_wire_types.specs.declared.error.Error.TheVariants as errors
 use Rattle.sctp_wire_types.specs.declared.ids.PayloadProtocolIdentifier.{PayloadProtocolIdentifier}
@@ -26,8 +27,9 @@ use Rattle.sctp_resets.proofs.KeptOver.{retiring_is_over, sent_over, stopped_rea
 use Rattle.sctp_resets.proofs.ListsOver.{all_taken}
 use Rattle.sctp_assoc.specs.declared.control.Control.{Control}
 use Rattle.sctp_assoc.specs.declared.control.Control.TheVariants as controls
-use Rattle.sctp_assoc.specs.Calls.{accepted_from, after_ack_delay, after_read, after_t3, drained_behind, event_from}
-use Rattle.sctp_assoc.specs.Calls.{exchanges_data, holds_of, is_established, retransmits, stopped_open, t3_expired}
+use Rattle.sctp_assoc.specs.Calls.{accepted_from, after_ack_delay, after_read, after_t3, credit_in, drained_behind}
+use Rattle.sctp_assoc.specs.Calls.{eased, event_from, exchanges_data, holds_of, is_established, retransmits}
+use Rattle.sctp_assoc.specs.Calls.{stopped_open, t3_expired, tells_window, told_if, unread_dropped}
 use Rattle.sctp_assoc.specs.Calls.{without_read_half_of, written_at}
 use Rattle.sctp_assoc.specs.Closing.{closed_by, closed_open, exhausted, is_closed_state, is_exhausted, out_of_resource}
 use Rattle.sctp_assoc.specs.Closing.{relieved}
@@ -55,7 +57,7 @@ use Rattle.sctp_sides.specs.SideLaws.{OpenStopsResetThatStream, ReadsEndPast, wi
 use Rattle.sctp_sides.proofs.EndedPolls.{by_poll_end, complete_given, with_answer_timed}
 use Rattle.sctp_sides.proofs.BeginsNoReset.{one_more_waits}
 use Rattle.sctp_sides.proofs.PastOnly.{asking_if_is_past, asking_is_past, beside_is_past, others_are_past}
-use Rattle.sctp_sides.proofs.PastOnly.{queued_is_past, resetting_is_past, same_stays_past}
+use Rattle.sctp_sides.proofs.PastOnly.{queued_is_past, queued_under_is_past, resetting_is_past, same_stays_past}
 
 -- Calls of the application
 
@@ -137,6 +139,16 @@ relieved_past_if false a over h = h
 pub relieved_past : (a : Shown) → ResetsNoMore a (relieved a)
 relieved_past a = relieved_past_if (is_exhausted a) a
 
+-- a window that opened is told, and no reset changes
+pub told_windows_reset_no_more : (c : Bool) (a : Shown) → ResetsNoMore a (told_if c a)
+told_windows_reset_no_more true a over h = same_stays_past a (told_if true a) refl refl over h
+told_windows_reset_no_more false a over h = h
+
+pub eased_past : (before : ℕ) (a : Shown) → ResetsNoMore a (eased before a)
+eased_past before a over h =
+    let b : Shown = relieved a in
+    told_windows_reset_no_more (tells_window before b) b over (relieved_past a over h)
+
 -- Reads and stops
 
 drained_past : (a : Shown) (id : ℕ) (streams : StreamMap) → ResetsNoMore a (drained_behind a id streams)
@@ -151,7 +163,7 @@ drained_past a id streams over h =
 read_past : (a : Shown) (id : ℕ) (x : StreamMap × Option ReceivedMessage) → ResetsNoMore a (after_read a id x).0
 read_past a id (streams, None) over h = drained_past a id streams over h
 read_past a id (streams, Some message) over h =
-    relieved_past (drained_behind a id streams) over (drained_past a id streams over h)
+    eased_past (credit_in a) (drained_behind a id streams) over (drained_past a id streams over h)
 
 pub reads_reset_no_more : ReadsResetNoMore
 reads_reset_no_more a id = read_past a id (read_in a.streams id)
@@ -172,7 +184,7 @@ stopped_open_past_if : (retires : Bool) (over : ℕ → Bool) (a : Shown) (id : 
     → ResetsPastOnly over
     (let b = without_read_half_of a id in
     if retires then with_beside b (stopped_reading id b.resets b.streams b.events) else
-    record b { resets = waiting_for b.resets id })
+    record b { streams = unread_dropped (is_rfc b.profile) b.streams id; resets = waiting_for b.resets id })
 stopped_open_past_if true over a id one h =
     let b : Shown = without_read_half_of a id in
     beside_is_past over b (stopped_reading id b.resets b.streams b.events)
@@ -184,15 +196,15 @@ pub open_stops_reset_that_stream : OpenStopsResetThatStream
 open_stops_reset_that_stream over a id one h =
     stopped_open_past_if (is_retiring a.resets id) over a id one h
 
-stopped_past_if : (reads : Bool) (over : ℕ → Bool) (a : Shown) (id : ℕ) → over id ≡ true → ResetsPastOnly over a
-    → ResetsPastOnly over (if reads then relieved (stopped_open a id) else a)
-stopped_past_if true over a id one h =
-    relieved_past (stopped_open a id) over (open_stops_reset_that_stream over a id one h)
-stopped_past_if false over a id one h = h
+stopped_past_if : (reads : Bool) (before : ℕ) (over : ℕ → Bool) (a : Shown) (id : ℕ) → over id ≡ true
+    → ResetsPastOnly over a → ResetsPastOnly over (if reads then eased before (stopped_open a id) else a)
+stopped_past_if true before over a id one h =
+    eased_past before (stopped_open a id) over (open_stops_reset_that_stream over a id one h)
+stopped_past_if false before over a id one h = h
 
 pub stops_reset_that_stream : StopsResetThatStream
 stops_reset_that_stream over a id one h =
-    stopped_past_if (holds_of (λ s. is_read_half_open s.halves) a id) over a id one h
+    stopped_past_if (holds_of (λ s. is_read_half_open s.halves) a id) (credit_in a) over a id one h
 
 -- Events
 
@@ -209,7 +221,7 @@ told_events_reset_no_more a over h =
 
 offered_past : (o : Option Offer) (a : Shown) → ResetsNoMore a (init_queued o a)
 offered_past None a over h = h
-offered_past (Some offer) a over h = queued_is_past over a _ tt h
+offered_past (Some offer) a over h = queued_under_is_past over _ a _ tt h
 
 -- an INIT that goes out names no stream
 pub offers_past : (a : Shown) (now : ℕ) → ResetsNoMore a (sends_init a now)

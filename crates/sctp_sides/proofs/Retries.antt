@@ -45,8 +45,9 @@ use Rattle.sctp_generations.specs.Generations.{has_retiring, has_skips}
 use Rattle.sctp_resets.specs.Concerned.{in_reset, retiring_ids, skipped_ids}
 use Rattle.sctp_resets.specs.Resets.{is_hidden, is_retiring, refusal_of}
 use Rattle.sctp_assoc.specs.Calls.{drained_behind, is_beginning, is_cookie_wait}
-use Rattle.sctp_assoc.specs.Chunks.{counted_data, deferred_where_admitted, stream_found, taken_in, taken_where_admitted}
-use Rattle.sctp_assoc.specs.Happened.{acts_of_checked, acts_of_data, acts_of_deferring, acts_of_forward}
+use Rattle.sctp_assoc.specs.Chunks.{counted_data, deferred_where_admitted, goes_unread, stream_found, taken_in}
+use Rattle.sctp_assoc.specs.Chunks.{taken_where_admitted}
+use Rattle.sctp_assoc.specs.Happened.{acts_if_left, acts_of_checked, acts_of_data, acts_of_deferring, acts_of_forward}
 use Rattle.sctp_assoc.specs.Happened.{acts_of_found, acts_of_hidden, acts_of_kind, acts_of_outcome}
 use Rattle.sctp_assoc.specs.Happened.{acts_of_skips_behind, acts_of_stream, acts_of_taking}
 use Rattle.sctp_assoc.specs.Happened.{acts_of_taking_where_admitted, acts_unless_faulty, acts_unless_refused}
@@ -133,12 +134,17 @@ unfaulty_acts : (x : Shown × Option Error) → GiveNoneAgain (acts_unless_fault
 unfaulty_acts (b, None) = settling_acts b
 unfaulty_acts (b, Some error) = tt
 
+left_acts : (left : Bool) (b : Shown) (piece : ChunkPayloadData) → GiveNoneAgain (acts_if_left left b piece)
+left_acts true b piece = (tt, tt)
+left_acts false b piece =
+    unrefused_acts (refusal_in b.streams piece.stream_identifier piece b.receiver.max_receive_message_size)
+    (Act.Took piece) tt
+
 taking_acts : (b : Shown) (piece : ChunkPayloadData) → GiveNoneAgain (acts_of_taking_where_admitted b piece)
 taking_acts b piece =
     some_if (admits b.receiver piece.tsn (all_waiting b)) _
     (join_acts (acts_of_taking b piece) (acts_of_skips_behind (taken_in b piece) piece.stream_identifier)
-    (unrefused_acts (refusal_in b.streams piece.stream_identifier piece b.receiver.max_receive_message_size)
-    (Act.Took piece) tt) (skips_acts (taken_in b piece) piece.stream_identifier))
+    (left_acts (goes_unread b piece) b piece) (skips_acts (taken_in b piece) piece.stream_identifier))
 
 found_acts : (x : Shown × Bool) (piece : ChunkPayloadData) → GiveNoneAgain (acts_of_found x piece)
 found_acts (b, false) piece = tt

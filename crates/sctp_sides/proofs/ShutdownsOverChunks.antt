@@ -39,9 +39,10 @@ use Rattle.sctp_assoc.specs.declared.inbound.Flow.TheVariants as flows
 use Rattle.sctp_assoc.specs.Calls.{is_beginning, is_cookie_echoed, is_cookie_wait, is_established, sends_data}
 use Rattle.sctp_assoc.specs.Chunks.{after_chunks, after_packet, after_packet_of, after_sack, asks, asks_or_faults}
 use Rattle.sctp_assoc.specs.Chunks.{checked_first, counted_data, counted_sack, deferred, deferred_unless}
-use Rattle.sctp_assoc.specs.Chunks.{deferred_where_admitted, dispatched, ended, goes_on, on_chunk, on_counted_data}
+use Rattle.sctp_assoc.specs.Chunks.{deferred_where_admitted, dispatched, ended, goes_on, goes_unread}
+use Rattle.sctp_assoc.specs.Chunks.{left_or_handed_over, left_unread, on_chunk, on_counted_data}
 use Rattle.sctp_assoc.specs.Chunks.{on_counted_sack, on_data, on_new_data, on_sack, stream_found, taken_in}
-use Rattle.sctp_assoc.specs.Chunks.{taken_where_admitted, then_skips, told, with_acknowledged}
+use Rattle.sctp_assoc.specs.Chunks.{taken_unless, taken_where_admitted, then_skips, told, with_acknowledged}
 use Rattle.sctp_assoc.specs.Closing.{closed_open, is_closed_state, is_exhausted, out_of_resource}
 use Rattle.sctp_assoc.specs.Control.{queued}
 use Rattle.sctp_assoc.specs.Handshake.{acknowledged_cookie, answered, connected, echoed, information_returned}
@@ -81,16 +82,25 @@ told_order true true a id e h = rw e (order_by a _ refl refl refl refl h)
 told_order false true a id e h = rw e (order_by a _ refl refl refl refl h)
 told_order readable false a id e h = order_by a _ refl refl refl refl h
 
-taken_in_order : (refusal : Option Error) (a : Shown) (piece : ChunkPayloadData)
-    → refusal_in a.streams piece.stream_identifier piece a.receiver.max_receive_message_size ≡ refusal
-    → IsInOrder a → IsInOrder (taken_in a piece).0
-unfolding taken_in
-taken_in_order (Some fault) a piece e h = rw e h
-taken_in_order None a piece e h =
+taken_unless_order : (refusal : Option Error) (a : Shown) (piece : ChunkPayloadData) → IsInOrder a
+    → IsInOrder (taken_unless refusal a piece).0
+taken_unless_order (Some fault) a piece h = h
+taken_unless_order None a piece h =
     let put = pushed_in a.streams piece.stream_identifier piece in
     let b : Shown = record a { streams = put.0; receiver = taken_to a.receiver piece.tsn } in
-    rw e (told_order (is_readable_in b.streams piece.stream_identifier) put.1 b piece.stream_identifier refl
-    (order_by a b refl refl refl refl h))
+    told_order (is_readable_in b.streams piece.stream_identifier) put.1 b piece.stream_identifier refl
+    (order_by a b refl refl refl refl h)
+
+left_order : (left : Bool) (a : Shown) (piece : ChunkPayloadData) → IsInOrder a
+    → IsInOrder (left_or_handed_over left a piece).0
+left_order true a piece h = order_by a (left_unread a piece) refl refl refl refl h
+left_order false a piece h =
+    taken_unless_order (refusal_in a.streams piece.stream_identifier piece a.receiver.max_receive_message_size) a piece
+    h
+
+taken_in_order : (a : Shown) (piece : ChunkPayloadData) → IsInOrder a → IsInOrder (taken_in a piece).0
+unfolding taken_in
+taken_in_order a piece h = left_order (goes_unread a piece) a piece h
 
 asks_order : (a : Shown) (immediate : Bool) (trigger : AckTrigger) → IsInOrder a
     → IsInOrder (asks a immediate trigger).0
@@ -115,9 +125,7 @@ new_data_order (a, false) piece trigger h = h
 new_data_order (a, true) piece trigger h =
     behind_order (taken_where_admitted a piece) piece.immediate_sack trigger
     (order_if (admits a.receiver piece.tsn (all_waiting a)) (then_skips (taken_in a piece) piece.stream_identifier)
-    (a, None) (skips_behind_order (taken_in a piece) piece.stream_identifier
-    (taken_in_order (refusal_in a.streams piece.stream_identifier piece a.receiver.max_receive_message_size) a piece
-    refl h)) h)
+    (a, None) (skips_behind_order (taken_in a piece) piece.stream_identifier (taken_in_order a piece h)) h)
 
 kept_order : (refusal : Option Error) (a : Shown) (piece : ChunkPayloadData) → IsInOrder a
     → IsInOrder (deferred_unless refusal a piece).0

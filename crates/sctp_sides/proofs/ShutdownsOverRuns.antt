@@ -14,9 +14,9 @@ use Rattle.sctp_streams.specs.Streams.{StreamMap, read_in, stream_at}
 use Rattle.sctp_receive_queues.specs.Messages.{ReceivedMessage}
 use Rattle.sctp_resets.specs.Resets.{ResetsView, event_told}
 use Rattle.sctp_assoc.specs.declared.shutdown.ShutdownDue.{ShutdownDue}
-use Rattle.sctp_assoc.specs.Calls.{accepted_from, adjusted, after_read, drained_behind, event_from, holds_of}
-use Rattle.sctp_assoc.specs.Calls.{is_established, stopped_open, written_at}
-use Rattle.sctp_assoc.specs.Closing.{exhausted, is_closed_state, is_exhausted, relieved}
+use Rattle.sctp_assoc.specs.Calls.{accepted_from, adjusted, after_read, credit_in, drained_behind, eased, event_from}
+use Rattle.sctp_assoc.specs.Calls.{holds_of, is_established, stopped_open, tells_window, told_if, written_at}
+use Rattle.sctp_assoc.specs.Closing.{is_closed_state, is_exhausted}
 use Rattle.sctp_assoc.specs.Shown.{Shown}
 use Rattle.sctp_assoc.specs.Shutdown.{all_acknowledged, awaits_answer}
 use Rattle.sctp_sides.specs.Ending.{IsInOrder, IsMade, is_any_due}
@@ -32,6 +32,7 @@ use Rattle.sctp_sides.proofs.ShutdownsOverChunks.{closed_order, exhausted_order,
 use Rattle.sctp_sides.proofs.TimersOverChunks.{IsSound}
 use Rattle.sctp_sides.proofs.TimersOverRuns.{call_rests, call_sound, fresh_ticks, is_lost}
 use Rattle.sctp_sides.proofs.TimersRun.{AtRest, Ticks, begins_established, closed_gives_nothing, unarmed}
+use Rattle.sctp_sides.proofs.WindowsTold.{eased_exhausted, eased_plainly}
 
 -- One call
 
@@ -62,23 +63,31 @@ event_order : (x : ResetsView × List Event × Option Event) (a : Shown) → IsI
 event_order (r, left, None) a h = order_by a _ refl refl refl refl h
 event_order (r, left, Some e) a h = order_by a _ refl refl refl refl h
 
-relieved_order : (exhausts : Bool) (b : Shown) → IsInOrder b → IsOrderedOrRests (if exhausts then exhausted b else b)
-relieved_order true b h = exhausted_order (is_closed_state b.state) b h
-relieved_order false b h = inl h
+-- a window that is told changes nothing of that
+told_window_order : (tells : Bool) (b : Shown) → IsInOrder b → IsInOrder (told_if tells b)
+told_window_order true b h = order_by b _ refl refl refl refl h
+told_window_order false b h = h
+
+eased_order : (exhausts : Bool) (before : ℕ) (b : Shown) → is_exhausted b ≡ exhausts → IsInOrder b
+    → IsOrderedOrRests (eased before b)
+eased_order true before b e h =
+    subst IsOrderedOrRests (sym (eased_exhausted before b e)) (exhausted_order (is_closed_state b.state) b h)
+eased_order false before b e h =
+    subst IsOrderedOrRests (sym (eased_plainly before b e)) (inl (told_window_order (tells_window before b) b h))
 
 read_order : (x : StreamMap × Option ReceivedMessage) (a : Shown) (id : ℕ) → IsInOrder a
     → IsOrderedOrRests (after_read a id x).0
 read_order (streams, None) a id h = inl (order_beside a _ (draining_changes a id streams) h)
 read_order (streams, Some message) a id h =
     let b : Shown = drained_behind a id streams in
-    relieved_order (is_exhausted b) b (order_beside a b (draining_changes a id streams) h)
+    eased_order (is_exhausted b) (credit_in a) b refl (order_beside a b (draining_changes a id streams) h)
 
-stop_order : (opened : Bool) (a : Shown) (id : ℕ) → IsInOrder a
-    → IsOrderedOrRests (if opened then relieved (stopped_open a id) else a)
-stop_order true a id h =
+stop_order : (opened : Bool) (before : ℕ) (a : Shown) (id : ℕ) → IsInOrder a
+    → IsOrderedOrRests (if opened then eased before (stopped_open a id) else a)
+stop_order true before a id h =
     let b : Shown = stopped_open a id in
-    relieved_order (is_exhausted b) b (order_beside a b (stop_changes a id) h)
-stop_order false a id h = inl h
+    eased_order (is_exhausted b) before b refl (order_beside a b (stop_changes a id) h)
+stop_order false before a id h = inl h
 
 pub carried_order : (call : Call) (a : Shown) → IsMade call a → IsInOrder a
     → IsOrderedOrRests (carried_out call a).0
@@ -98,10 +107,11 @@ carried_order Call.PollEndpointEvent a e h = inl (order_by a _ refl refl refl re
 carried_order (Call.PollTransmit now) a e h = poll_order a now h
 carried_order (Call.HandleTimeout now) a e h = inl (timeouts_order a now h)
 carried_order (Call.HandleEvent packet now) a e h = packets_order packet a now h
-carried_order (Call.Stop id) a e h = stop_order (holds_of (λ s. is_read_half_open s.halves) a id) a id h
+carried_order (Call.Stop id) a e h =
+    stop_order (holds_of (λ s. is_read_half_open s.halves) a id) (credit_in a) a id h
 carried_order (Call.CloseStream id) a e h =
     let b : Shown = adjusted a id settings.WriteHalfClosed in
-    stop_order (holds_of (λ s. is_read_half_open s.halves) b id) b id (order_by a b refl refl refl refl h)
+    stop_order (holds_of (λ s. is_read_half_open s.halves) b id) (credit_in b) b id (order_by a b refl refl refl refl h)
 
 is_made : (call : Call) (a : Shown) → call_refusal call a ≡ None → IsMade call a
 is_made (Call.Write id named bytes) a e = e

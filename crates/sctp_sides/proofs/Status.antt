@@ -36,7 +36,7 @@ use Rattle.sctp_resets.specs.Resets as resets
 use Rattle.sctp_assoc.specs.declared.control.Control.{Control}
 use Rattle.sctp_assoc.specs.declared.control.Control.TheVariants as controls
 use Rattle.sctp_assoc.specs.declared.inbound.Flow.{Flow}
-use Rattle.sctp_assoc.specs.Calls.{drained_behind}
+use Rattle.sctp_assoc.specs.Calls.{credit_in, drained_behind, tells_window, told_if}
 use Rattle.sctp_assoc.specs.Chunks.{asks, asks_or_faults, deferred_unless, deferred_where_admitted, taken_unless}
 use Rattle.sctp_assoc.specs.Chunks.{taken_where_admitted, then_skips, with_message}
 use Rattle.sctp_assoc.specs.Gather.{IsPlainControl}
@@ -64,7 +64,7 @@ use Rattle.sctp_assoc.specs.Calls.{accepted_from, after_ack_delay, after_t3, eve
 use Rattle.sctp_assoc.specs.Calls.{is_cookie_wait, is_established, retransmits, sends_data, t3_expired, written_at}
 use Rattle.sctp_assoc.specs.Chunks.{after_sack, checked_first, counted_data, dispatched, counted_sack}
 use Rattle.sctp_assoc.specs.Chunks.{on_chunk, on_counted_sack, on_data, on_new_data, on_sack, stream_found, taken_in}
-use Rattle.sctp_assoc.specs.Chunks.{told}
+use Rattle.sctp_assoc.specs.Chunks.{goes_unread, left_or_handed_over, told}
 use Rattle.sctp_assoc.specs.Handshake.{after_t1_init, cookie_queued, echoed, information_returned, init_queued}
 use Rattle.sctp_assoc.specs.Handshake.{on_cookie_ack, on_cookie_echo, on_heartbeat, on_init, on_init_ack, sends_cookie}
 use Rattle.sctp_assoc.specs.Handshake.{sends_init, t1_cookie_expired, t1_init_expired}
@@ -82,7 +82,7 @@ use Rattle.sctp_sides.specs.SideLaws.{ReadsChangeStreamsAlone}
 use Rattle.sctp_sides.specs.SideLaws.{ReadsKeepTheStatus, TimersKeepTheStatus, ToldEventsKeepTheStatus}
 use Rattle.sctp_sides.specs.SideLaws.{AcceptedStreamsKeepTheStatus, SettingsKeepTheStatus, WritesKeepTheStatus}
 use Rattle.sctp_sides.specs.Meeting.{IsAsFarOn, IsTruthful, SaysWhatIsSo, WaitsTruthfully, stage_of}
-use Rattle.sctp_assoc.specs.Control.{queued}
+use Rattle.sctp_assoc.specs.Control.{queued, queued_under, untagged}
 use Rattle.sctp_inbound.specs.Greeting.{first_cookie, information_of, init_of}
 use Rattle.sctp_wire_types.specs.declared.chunk.ChunkInit.{ChunkInit}
 use Rattle.sctp_wire_types.specs.declared.chunk.ChunkHeartbeat.{ChunkHeartbeat}
@@ -90,13 +90,14 @@ use Rattle.sctp_wire.specs.Packets.{packet_is_plain}
 use Rattle.sctp_assoc.specs.Shown.{Shown, all_waiting}
 use Rattle.sctp_sides.proofs.HandshakeTruth.{keeps_saying, truthful_still}
 use Rattle.sctp_sides.proofs.HandshakeTruth.{truthful_with}
+use Rattle.sctp_sides.proofs.WindowsTold.{eased_exhausted, eased_plainly}
 use Rattle.sctp_assoc.proofs.StreamReads.{message_given}
 use Rattle.sctp_assoc.specs.Calls.{after_read}
 use Rattle.sctp_assoc.specs.Closing.{exhausted, is_exhausted}
 use Rattle.sctp_receive_queues.specs.Messages.{ReceivedMessage}
 use Rattle.sctp_streams.specs.Streams.{read_in}
 use Rattle.std.proofs.Common.{inl, inr, subst}
-use Rattle.std.proofs.lemmas.Bool.{true≢false, false≢true}
+use Rattle.std.proofs.lemmas.Bool.{false≢true}
 use Rattle.sctp_assoc.specs.Shutdown.{all_acknowledged, shutdown_continued, state_behind_data}
 
 pub status_same : (a : Shown) → IsSameStatus a a
@@ -288,11 +289,11 @@ found_status true left a id e f = rw e (status_same a)
 found_status false true a id e f = rw (e, f) (status_by a _ refl refl refl refl refl refl refl)
 found_status false false a id e f = rw (e, f) (status_same a)
 
-told_if : (readable kept : Bool) (a : Shown) (id : ℕ) → is_readable_in a.streams id ≡ readable
+told_status : (readable kept : Bool) (a : Shown) (id : ℕ) → is_readable_in a.streams id ≡ readable
     → IsSameStatus a (told a id kept)
-told_if true true a id e = rw e (status_by a _ refl refl refl refl refl refl refl)
-told_if false true a id e = rw e (status_by a _ refl refl refl refl refl refl refl)
-told_if readable false a id e = status_by a _ refl refl refl refl refl refl refl
+told_status true true a id e = rw e (status_by a _ refl refl refl refl refl refl refl)
+told_status false true a id e = rw e (status_by a _ refl refl refl refl refl refl refl)
+told_status readable false a id e = status_by a _ refl refl refl refl refl refl refl
 
 taken_unless_status : (refusal : Option Error) (a : Shown) (piece : ChunkPayloadData)
     → IsSameStatus a (taken_unless refusal a piece).0
@@ -303,12 +304,17 @@ taken_unless_status None a piece = message_status a piece (pushed_in a.streams p
     message_status b p (streams, kept) =
         let c : Shown = record b { streams = streams; receiver = taken_to b.receiver p.tsn } in
         status_on b c _ (status_by b c refl refl refl refl refl refl refl)
-        (told_if (is_readable_in streams p.stream_identifier) kept c p.stream_identifier refl)
+        (told_status (is_readable_in streams p.stream_identifier) kept c p.stream_identifier refl)
+
+left_status : (left : Bool) (a : Shown) (piece : ChunkPayloadData)
+    → IsSameStatus a (left_or_handed_over left a piece).0
+left_status true a piece = status_by a _ refl refl refl refl refl refl refl
+left_status false a piece =
+    taken_unless_status (refusal_in a.streams piece.stream_identifier piece a.receiver.max_receive_message_size) a piece
 
 taken_status : (a : Shown) (piece : ChunkPayloadData) → IsSameStatus a (taken_in a piece).0
 unfolding taken_in
-taken_status a piece =
-    taken_unless_status (refusal_in a.streams piece.stream_identifier piece a.receiver.max_receive_message_size) a piece
+taken_status a piece = left_status (goes_unread a piece) a piece
 
 then_skips_status : (x : Shown × Option Error) (id : ℕ) → IsSameStatus x.0 (then_skips x id).0
 then_skips_status (a, None) id = beside_status a (skips_done_of id a.resets a.streams a.events)
@@ -624,27 +630,23 @@ accepted_status_if false a = accepted_status a.to_accept a
 pub accepted_streams_keep_the_status : AcceptedStreamsKeepTheStatus
 accepted_streams_keep_the_status a = accepted_status_if a.failed a
 
-relieved_plainly : (e : Bool) (b : Shown) → e ≡ false → (if e then exhausted b else b) ≡ b
-relieved_plainly true b f = absurd (true≢false f)
-relieved_plainly false b f = refl
-
-relieved_exhausted : (e : Bool) (b : Shown) → e ≡ true → (if e then exhausted b else b) ≡ exhausted b
-relieved_exhausted true b f = refl
-relieved_exhausted false b f = absurd (false≢true f)
+-- a window that opened is told, and the status stays
+pub told_windows_keep_the_status : (c : Bool) (a : Shown) → IsSameStatus a (told_if c a)
+told_windows_keep_the_status true a = status_by a _ refl refl refl refl refl refl refl
+told_windows_keep_the_status false a = status_same a
 
 read_plainly : (x : StreamMap × Option ReceivedMessage) (a : Shown) (id : ℕ)
     → (is_some x.1 && is_exhausted (drained_behind a id x.0)) ≡ false
-    → (after_read a id x).0 ≡ drained_behind a id x.0
+    → (after_read a id x).0
+    ≡ told_if (is_some x.1 && tells_window (credit_in a) (drained_behind a id x.0)) (drained_behind a id x.0)
 read_plainly (streams, None) a id e = refl
-read_plainly (streams, Some message) a id e =
-    relieved_plainly (is_exhausted (drained_behind a id streams)) (drained_behind a id streams) e
+read_plainly (streams, Some message) a id e = eased_plainly (credit_in a) (drained_behind a id streams) e
 
 read_exhausting : (x : StreamMap × Option ReceivedMessage) (a : Shown) (id : ℕ)
     → (is_some x.1 && is_exhausted (drained_behind a id x.0)) ≡ true
     → (after_read a id x).0 ≡ exhausted (drained_behind a id x.0)
 read_exhausting (streams, None) a id e = absurd (false≢true e)
-read_exhausting (streams, Some message) a id e =
-    relieved_exhausted (is_exhausted (drained_behind a id streams)) (drained_behind a id streams) e
+read_exhausting (streams, Some message) a id e = eased_exhausted (credit_in a) (drained_behind a id streams) e
 
 pub reads_keep_the_status : ReadsKeepTheStatus
 reads_keep_the_status a id = record {
@@ -718,22 +720,24 @@ ack_delay_beside true a b now e (h, streams) =
 -- what the timers of the handshake send says what is so
 
 -- a packet of the handshake more waits, and says what is so
-with_queued : (a b : Shown) (c : Chunk) → IsSameBeside a b
+with_queued : (header : CommonHeader) (a b : Shown) (c : Chunk) → IsSameBeside a b
     → ((own : ℕ) → IsTruthful own b → SaysWhatIsSo own (stage_of b) c)
-    → packet_is_plain (single_chunk_packet (header_of b.handshake) c) ≡ true → IsSameBeside a (queued b c)
-with_queued a b c (h, streams) says plain = (status_on a b (queued b c) h (more_waits b _ says plain), streams)
+    → packet_is_plain (single_chunk_packet header c) ≡ true → IsSameBeside a (queued_under header b c)
+with_queued header a b c (h, streams) says plain =
+    (status_on a b (queued_under header b c) h (more_waits b _ says plain), streams)
 
 init_queued_beside : (o : Option Offer) (a b : Shown) → IsSameBeside a b → b.handshake.offer ≡ o
     → IsSameBeside a (init_queued o b)
 init_queued_beside None a b h is = h
 init_queued_beside (Some offer) a b h is =
-    with_queued a b (chunks.Init (init_of b.handshake offer)) h (λ own t. (t.tsn, t.offers (ap is_some is))) refl
+    with_queued (untagged (header_of b.handshake)) a b (chunks.Init (init_of b.handshake offer)) h
+    (λ own t. (t.tsn, t.offers (ap is_some is))) refl
 
 cookie_queued_beside : (o : Option (List ℕ)) (a b : Shown) → IsSameBeside a b → b.handshake.echo ≡ o
     → IsSameBeside a (cookie_queued o b)
 cookie_queued_beside None a b h is = h
 cookie_queued_beside (Some cookie) a b h is =
-    with_queued a b (chunks.CookieEcho cookie) h (λ own t. t.echoes (ap is_some is)) refl
+    with_queued (header_of b.handshake) a b (chunks.CookieEcho cookie) h (λ own t. t.echoes (ap is_some is)) refl
 
 offer_beside : (a b : Shown) (now : ℕ) → IsSameBeside a b → IsSameBeside a (sends_init b now)
 unfolding sends_init

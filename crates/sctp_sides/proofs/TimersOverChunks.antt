@@ -43,7 +43,7 @@ use Rattle.sctp_assoc.specs.Shutdown.{on_shutdown_complete}
 use Rattle.sctp_assoc.specs.Handshake.{acknowledged_cookie, answered, connected, echoed, information_returned, learned}
 use Rattle.sctp_assoc.specs.Handshake.{on_cookie_ack, on_cookie_echo, on_heartbeat, on_init, on_init_ack, sends_cookie}
 use Rattle.sctp_assoc.specs.Chunks.{after_chunks, after_packet, after_packet_of, after_sack, checked_first}
-use Rattle.sctp_assoc.specs.Chunks.{counted_data}
+use Rattle.sctp_assoc.specs.Chunks.{counted_data, goes_unread, left_or_handed_over, taken_unless}
 use Rattle.sctp_assoc.specs.Chunks.{counted_sack, dispatched, ended, goes_on, on_chunk, on_counted_data}
 use Rattle.sctp_assoc.specs.Chunks.{on_counted_sack, on_data, on_new_data, on_sack, stream_found, taken_in, told}
 use Rattle.sctp_assoc.specs.Chunks.{asks, asks_or_faults, deferred, deferred_unless, deferred_where_admitted}
@@ -82,16 +82,23 @@ told_time true true a id e = rw e (time_by a _ refl refl refl refl refl refl)
 told_time false true a id e = rw e (time_by a _ refl refl refl refl refl refl)
 told_time readable false a id e = time_by a _ refl refl refl refl refl refl
 
-taken_time : (refusal : Option Error) (a : Shown) (piece : ChunkPayloadData)
-    → refusal_in a.streams piece.stream_identifier piece a.receiver.max_receive_message_size ≡ refusal
-    → IsSameTime a (taken_in a piece).0
-unfolding taken_in
-taken_time (Some fault) a piece e = rw e (same_time a)
-taken_time None a piece e =
+taken_unless_time : (refusal : Option Error) (a : Shown) (piece : ChunkPayloadData)
+    → IsSameTime a (taken_unless refusal a piece).0
+taken_unless_time (Some fault) a piece = same_time a
+taken_unless_time None a piece =
     let put = pushed_in a.streams piece.stream_identifier piece in
     let b : Shown = record a { streams = put.0; receiver = taken_to a.receiver piece.tsn } in
-    rw e (time_on a b _ (time_by a b refl refl refl refl refl refl)
-    (told_time (is_readable_in b.streams piece.stream_identifier) put.1 b piece.stream_identifier refl))
+    time_on a b _ (time_by a b refl refl refl refl refl refl)
+    (told_time (is_readable_in b.streams piece.stream_identifier) put.1 b piece.stream_identifier refl)
+
+left_time : (left : Bool) (a : Shown) (piece : ChunkPayloadData) → IsSameTime a (left_or_handed_over left a piece).0
+left_time true a piece = time_by a _ refl refl refl refl refl refl
+left_time false a piece =
+    taken_unless_time (refusal_in a.streams piece.stream_identifier piece a.receiver.max_receive_message_size) a piece
+
+taken_time : (a : Shown) (piece : ChunkPayloadData) → IsSameTime a (taken_in a piece).0
+unfolding taken_in
+taken_time a piece = left_time (goes_unread a piece) a piece
 
 ticks_if : {X : Type 0} (c : Bool) (x y : Shown × X) → Ticks x.0 → Ticks y.0 → Ticks (if c then x else y).0
 ticks_if true x y h k = h
@@ -114,9 +121,7 @@ behind_ticks (a, None) immediate trigger h = asks_tick (settled a) immediate tri
 behind_ticks (a, Some fault) immediate trigger h = h
 
 taken_ticks_in : (a : Shown) (piece : ChunkPayloadData) → Ticks a → Ticks (taken_in a piece).0
-taken_ticks_in a piece h =
-    ticks_by a (taken_in a piece).0
-    (taken_time (refusal_in a.streams piece.stream_identifier piece a.receiver.max_receive_message_size) a piece refl) h
+taken_ticks_in a piece h = ticks_by a (taken_in a piece).0 (taken_time a piece) h
 
 new_data_ticks : (x : Shown × Bool) (piece : ChunkPayloadData) (trigger : AckTrigger) → Ticks x.0
     → Ticks (on_new_data x piece trigger).0

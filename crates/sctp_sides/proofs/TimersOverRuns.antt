@@ -2,6 +2,7 @@
 use Rattle.std.proofs.Common.{◌≡◌, refl, sym, ap, ◌∙◌, subst, ◌⊎◌, ⊎_elim, inl, inr, ℕ, ◌<◌, Bool, true, false}
 use Rattle.std.proofs.Common.{if◌then◌else◌, List, [], ◌∷◌, length, Option, Some, None, is_some}
 use Rattle.std.proofs.lemmas.Bool.{false≢true, true≢false}
+use Rattle.sctp_wire_types.specs.Config.{is_rfc}
 use Rattle.sctp_wire_types.specs.declared.error.Error.{Error}
 use Rattle.sctp_wire_types.specs.declared.ids.PayloadProtocolIdentifier.{PayloadProtocolIdentifier}
 use Rattle.sctp_parts.specs.declared.shared.EndpointEvent.{EndpointEvent}
@@ -9,7 +10,7 @@ use Rattle.sctp_parts.specs.declared.state.AssociationState.{AssociationState}
 use Rattle.sctp_parts.specs.declared.state.AssociationState.TheVariants as states
 use Rattle.sctp_parts.specs.declared.timer.Timer.TheVariants as names
 use Rattle.sctp_parts.specs.Shared.{drained_event}
-use Rattle.sctp_parts.specs.Timers.{IsNoneArmed, Timers, earlier, least_moment, moment_of}
+use Rattle.sctp_parts.specs.Timers.{IsNoneArmed, Timers, earlier, least_moment, moment_of, with_stopped}
 use Rattle.sctp_streams.specs.declared.event.AssociationError.{AssociationError}
 use Rattle.sctp_streams.specs.declared.event.AssociationError.TheVariants as reasons
 use Rattle.sctp_streams.specs.declared.event.Event.{Event}
@@ -42,8 +43,8 @@ use Rattle.sctp_sides.proofs.TimersOverChunks.{IsSound, closed_rests, packets_so
 use Rattle.sctp_sides.proofs.TimersOverPolls.{polls_sound}
 use Rattle.sctp_sides.proofs.TimersOverTimeouts.{timeouts_tick, unarmed_timeouts_do_nothing}
 use Rattle.sctp_sides.proofs.TimersOverChunks.{exhausted_sound}
-use Rattle.sctp_assoc.specs.Calls.{adjusted, after_read, drained_behind, holds_of, stopped_open}
-use Rattle.sctp_assoc.specs.Calls.{without_read_half_of}
+use Rattle.sctp_assoc.specs.Calls.{adjusted, after_read, credit_in, drained_behind, eased, holds_of, stopped_open}
+use Rattle.sctp_assoc.specs.Calls.{tells_window, told_if, unread_dropped, without_read_half_of}
 use Rattle.sctp_assoc.specs.Chunks.{after_packet_of}
 use Rattle.sctp_assoc.specs.Resets.{with_beside, with_resetting}
 use Rattle.sctp_assoc.specs.declared.control.Control.{Control}
@@ -212,11 +213,47 @@ relieved_sound : (e : Bool) (b : Shown) → Ticks b → IsSound (if e then exhau
 relieved_sound true b h = exhausted_sound (is_closed_state b.state) b h
 relieved_sound false b h = inl h
 
+-- a window that opened is told with the next poll, and the delay of an acknowledgement is over
+told_ticks : (c : Bool) (b : Shown) → Ticks b → Ticks (told_if c b)
+told_ticks true b h = record {
+  working = h.working;
+  not_lost = h.not_lost;
+  fits = record {
+    flies = h.fits.flies;
+    inits = h.fits.inits;
+    cookies = h.fits.cookies;
+    unsent = h.fits.unsent;
+  };
+  acks = refl;
+}
+told_ticks false b h = h
+
+ack_stopped : (t : Timers) → IsNoneArmed t → IsNoneArmed (with_stopped names.Ack t)
+ack_stopped t h names.T1Init = h names.T1Init
+ack_stopped t h names.T1Cookie = h names.T1Cookie
+ack_stopped t h names.T2Shutdown = h names.T2Shutdown
+ack_stopped t h names.T3RTX = h names.T3RTX
+ack_stopped t h names.Reconfig = h names.Reconfig
+ack_stopped t h names.Ack = refl
+
+told_rests : (c : Bool) (b : Shown) → AtRest b → AtRest (told_if c b)
+told_rests true b h =
+    record { over = h.over; closed = h.closed; stopped = ack_stopped b.timers h.stopped; quiet = h.quiet }
+told_rests false b h = h
+
+told_sound : (c : Bool) (b : Shown) → IsSound b → IsSound (told_if c b)
+told_sound c b (inl h) = inl (told_ticks c b h)
+told_sound c b (inr h) = inr (told_rests c b h)
+
+eased_sound : (before : ℕ) (b : Shown) → Ticks b → IsSound (eased before b)
+eased_sound before b h =
+    let c : Shown = relieved b in told_sound (tells_window before c) c (relieved_sound (is_exhausted b) b h)
+
 read_sound : (x : StreamMap × Option ReceivedMessage) (a : Shown) (id : ℕ) → Ticks a → IsSound (after_read a id x).0
 read_sound (streams, None) a id h = inl (ticks_beside a _ (draining_changes a id streams) h)
 read_sound (streams, Some message) a id h =
     let b : Shown = drained_behind a id streams in
-    relieved_sound (is_exhausted b) b (ticks_beside a b (draining_changes a id streams) h)
+    eased_sound (credit_in a) b (ticks_beside a b (draining_changes a id streams) h)
 
 exhausted_rests : (closed : Bool) (b : Shown) → AtRest b
     → AtRest (queued (if closed then b else closed_open b reasons.ReceiveBufferExhausted) out_of_resource)
@@ -228,6 +265,10 @@ exhausted_rests false b h =
 relieved_rests : (e : Bool) (b : Shown) → AtRest b → AtRest (if e then exhausted b else b)
 relieved_rests true b h = exhausted_rests (is_closed_state b.state) b h
 relieved_rests false b h = h
+
+eased_rests : (before : ℕ) (b : Shown) → AtRest b → AtRest (eased before b)
+eased_rests before b h =
+    let c : Shown = relieved b in told_rests (tells_window before c) c (relieved_rests (is_exhausted b) b h)
 
 read_keeps_requests : (r : ResetsView) (x : Reading) → (with_read r x).0.own ≡ r.own
 read_keeps_requests r (g, c) = refl
@@ -247,16 +288,16 @@ drained_rests a id streams h =
 read_rests : (x : StreamMap × Option ReceivedMessage) (a : Shown) (id : ℕ) → AtRest a → AtRest (after_read a id x).0
 read_rests (streams, None) a id h = drained_rests a id streams h
 read_rests (streams, Some message) a id h =
-    let b : Shown = drained_behind a id streams in relieved_rests (is_exhausted b) b (drained_rests a id streams h)
+    eased_rests (credit_in a) (drained_behind a id streams) (drained_rests a id streams h)
 
 -- a stop of a stream where its read half is open, which may leave the receive buffer exhausted
 
-stop_sound : (opened : Bool) (a : Shown) (id : ℕ) → Ticks a
-    → IsSound (if opened then relieved (stopped_open a id) else a)
-stop_sound true a id h =
+stop_sound : (opened : Bool) (before : ℕ) (a : Shown) (id : ℕ) → Ticks a
+    → IsSound (if opened then eased before (stopped_open a id) else a)
+stop_sound true before a id h =
     let b : Shown = stopped_open a id in
-    relieved_sound (is_exhausted b) b (ticks_beside a b (stop_changes a id) h)
-stop_sound false a id h = inl h
+    eased_sound before b (ticks_beside a b (stop_changes a id) h)
+stop_sound false before a id h = inl h
 
 beside_rests : (a : Shown) (x : Beside) → x.0.own ≡ a.resets.own → AtRest a → AtRest (with_beside a x)
 beside_rests a (r, m, told) own h = rest_by a _ refl refl refl refl own h
@@ -275,20 +316,21 @@ stopped_reading_keeps_requests id r m told =
 
 -- a stream that waits to be reset is in no request yet
 open_stop_rests : (retires : Bool) (x : Beside) (a : Shown) (id : ℕ) → x.0.own ≡ a.resets.own → AtRest a
-    → AtRest (if retires then with_beside a x else record a { resets = waiting_for a.resets id })
+    → AtRest
+    (if retires then with_beside a x else
+    record a { streams = unread_dropped (is_rfc a.profile) a.streams id; resets = waiting_for a.resets id })
 open_stop_rests true x a id own h = beside_rests a x own h
 open_stop_rests false x a id own h = rest_quietly a _ refl refl refl refl (λ q. (q.0, q.1)) h
 
-stop_rests : (opened : Bool) (a : Shown) (id : ℕ) → AtRest a
-    → AtRest (if opened then relieved (stopped_open a id) else a)
-stop_rests true a id h =
+stop_rests : (opened : Bool) (before : ℕ) (a : Shown) (id : ℕ) → AtRest a
+    → AtRest (if opened then eased before (stopped_open a id) else a)
+stop_rests true before a id h =
     let b : Shown = without_read_half_of a id in
-    let c : Shown = stopped_open a id in
-    relieved_rests (is_exhausted c) c
+    eased_rests before (stopped_open a id)
     (open_stop_rests (is_retiring a.resets id) (stopped_reading id b.resets b.streams b.events) b id
     (stopped_reading_keeps_requests id b.resets b.streams b.events)
     (rest_by a b refl refl refl refl refl h))
-stop_rests false a id h = h
+stop_rests false before a id h = h
 
 -- a poll of one that is closed, which asks for no reset
 
@@ -385,10 +427,11 @@ ticks_carried Call.Poll a e h = inl (poll_ticks (event_told a.resets a.events) a
 ticks_carried (Call.PollTransmit now) a e h = polls_sound a now h
 ticks_carried (Call.HandleTimeout now) a e h = inl (timeouts_tick a now h)
 ticks_carried (Call.HandleEvent packet now) a e h = packets_sound packet a now h
-ticks_carried (Call.Stop id) a e h = stop_sound (holds_of (λ s. is_read_half_open s.halves) a id) a id h
+ticks_carried (Call.Stop id) a e h =
+    stop_sound (holds_of (λ s. is_read_half_open s.halves) a id) (credit_in a) a id h
 ticks_carried (Call.CloseStream id) a e h =
     let b : Shown = adjusted a id settings.WriteHalfClosed in
-    stop_sound (holds_of (λ s. is_read_half_open s.halves) b id) b id
+    stop_sound (holds_of (λ s. is_read_half_open s.halves) b id) (credit_in b) b id
     (ticks_by a b (time_by a b refl refl refl refl refl refl) h)
 
 rest_carried : (call : Call) (a : Shown) → call_refusal call a ≡ None → a.failed ≡ false → a.lost ≡ true → AtRest a
@@ -412,10 +455,12 @@ rest_carried (Call.HandleTimeout now) a e works lost h =
     subst AtRest (sym (unarmed_timeouts_do_nothing a now h.stopped)) h
 rest_carried (Call.HandleEvent packet now) a e works lost h =
     subst AtRest (sym (cond-true a.lost a (after_packet_of a packet now) lost)) h
-rest_carried (Call.Stop id) a e works lost h = stop_rests (holds_of (λ s. is_read_half_open s.halves) a id) a id h
+rest_carried (Call.Stop id) a e works lost h =
+    stop_rests (holds_of (λ s. is_read_half_open s.halves) a id) (credit_in a) a id h
 rest_carried (Call.CloseStream id) a e works lost h =
     let b : Shown = adjusted a id settings.WriteHalfClosed in
-    stop_rests (holds_of (λ s. is_read_half_open s.halves) b id) b id (rest_by a b refl refl refl refl refl h)
+    stop_rests (holds_of (λ s. is_read_half_open s.halves) b id) (credit_in b) b id
+    (rest_by a b refl refl refl refl refl h)
 
 pub is_lost : (a : Shown) → a.failed ≡ false → AtRest a → a.lost ≡ true
 is_lost a e h = ⊎_elim (λ (f : a.failed ≡ true). absurd (false≢true (sym e ∙ f))) (λ (l : a.lost ≡ true). l) h.over

@@ -47,7 +47,7 @@ use Rattle.sctp_assoc.specs.Shown.{Shown}
 abbrev pub IsMalformed : Chunk → Type 0
 IsMalformed chunk = (error : Error) × (checked_chunk chunk ≡ Err error)
 
--- DATA may be taken in, and does not fit to what its stream holds.
+-- DATA may be taken in, its stream is read, and it does not fit to what that holds.
 pub record FitsNoMessage (a : Shown) (h : History) (piece : ChunkPayloadData) : Type 0 where
   pub may : MayTakeIn a h piece
   pub error : Error

@@ -1,6 +1,6 @@
 -- Which DATA a side takes in, by what came before and by the room that it has (RFC 4960 section 6.2).
-use Rattle.std.specs.Prelude.{◌≡◌, ◌⊎◌, ◌<◌, ℕ, Bool, true, false, is_some, List, ◌∷◌, ◌++◌, slice_get, Option, Some}
-use Rattle.std.specs.Prelude.{None, ⊤}
+use Rattle.std.specs.Prelude.{◌≡◌, ◌≢◌, ◌⊎◌, ◌<◌, ℕ, Bool, true, false, is_some, List, ◌∷◌, ◌++◌, slice_get}
+use Rattle.std.specs.Prelude.{Option, Some, None, ⊤}
 use Rattle.std.specs.List.{AllByRecursion}
 use Rattle.sctp_wire_types.specs.declared.chunk.Chunk.{Chunk}
 use Rattle.sctp_wire_types.specs.declared.chunk.Chunk.TheVariants as chunks
@@ -16,7 +16,7 @@ use Rattle.sctp_resets.specs.Resets as resets
 use Rattle.sctp_assoc.specs.declared.inbound.Flow.TheVariants as flows
 use Rattle.sctp_directions.specs.Acts.{Act, History, IsNewTsn, offset_in}
 use Rattle.sctp_assoc.specs.Leads.{Binds}
-use Rattle.sctp_assoc.specs.Chunks.{on_chunk}
+use Rattle.sctp_assoc.specs.Chunks.{goes_unread, on_chunk}
 use Rattle.sctp_assoc.specs.Happened.{acts_of_chunk}
 use Rattle.sctp_sides.specs.SideLaws.{OpensAndTakes, TakesOnly}
 use Rattle.sctp_assoc.specs.Shown.{Shown, all_waiting}
@@ -64,8 +64,17 @@ held_by None = empty_reassembly
 held_by (Some stream) = stream.reassembly
 
 -- why DATA does not fit to what its stream holds, if so (RFC 4960 section 6.9)
+abbrev pub misfit_of : Shown → ChunkPayloadData → Option Error
+misfit_of a piece = refusal (held_by (stream_at a.streams piece.stream_identifier)) piece (receive_limit a)
+
+-- what DATA would be refused by, unless it goes unread
+abbrev pub unless_unread : Bool → Option Error → Option Error
+unless_unread true misfit = None
+unless_unread false misfit = misfit
+
+-- why the stream of DATA refuses it, if so: it does not fit to what that holds. What nobody reads is not refused
 abbrev pub refusal_of : Shown → ChunkPayloadData → Option Error
-refusal_of a piece = refusal (held_by (stream_at a.streams piece.stream_identifier)) piece (receive_limit a)
+refusal_of a piece = unless_unread (goes_unread a piece) (misfit_of a piece)
 
 -- why DATA of a generation that is not read yet does not fit to what waits of that generation, if so
 abbrev pub later_refusal_of : Shown → ChunkPayloadData → Option Error
@@ -85,7 +94,7 @@ pub record IsTakenIn (a : Shown) (piece : ChunkPayloadData) (acts : List Act) : 
   pub ends : AllByRecursion IsEndOfSpans others
   pub are : acts ≡ first ++ others
 
--- It was kept apart, and behind it spans of streams may end likewise.
+-- It was taken in, and did not go to its stream; behind it spans of streams may end likewise.
 pub record IsKeptApart (piece : ChunkPayloadData) (acts : List Act) : Type 0 where
   pub others : List Act
   pub ends : AllByRecursion IsEndOfSpans others
@@ -103,11 +112,23 @@ pub record IsKeptUnlessRefused (a : Shown) (header : CommonHeader) (piece : Chun
   pub refused : (trigger : AckTrigger) (now : ℕ) (error : Error) → later_refusal_of a piece ≡ Some error
       → (on_chunk a header (chunks.Data piece) trigger now).1 ≡ flows.Fault error
 
--- Of a chunk that is reached: what may be taken in is taken in unless its stream refuses it, whatever state the
--- association is in and whatever came before.
+-- DATA that nobody reads is taken in without going to its stream, and is no fault.
+pub record IsLeftUnread (a : Shown) (header : CommonHeader) (piece : ChunkPayloadData) : Type 0 where
+  pub left : IsKeptApart piece (acts_of_chunk a header (chunks.Data piece))
+  pub no_fault : (trigger : AckTrigger) (now : ℕ) (error : Error)
+      → (on_chunk a header (chunks.Data piece) trigger now).1 ≢ flows.Fault error
+
+-- Of a chunk that is reached: what may be taken in, and whose stream is read, is taken in unless its stream refuses it,
+-- whatever state the association is in and whatever came before.
 abbrev pub DataIsTakenIn : Type 0
 DataIsTakenIn = (a : Shown) (h : History) (header : CommonHeader) (piece : ChunkPayloadData) → Binds a h
-    → MayTakeIn a h piece → IsTakenUnlessRefused a header piece
+    → MayTakeIn a h piece → goes_unread a piece ≡ false → IsTakenUnlessRefused a header piece
+
+-- What may be taken in, and whose stream nobody reads any more, is left unread, whether or not it would fit to what its
+-- stream holds.
+abbrev pub UnreadDataIsLeft : Type 0
+UnreadDataIsLeft = (a : Shown) (h : History) (header : CommonHeader) (piece : ChunkPayloadData) → Binds a h
+    → MayTakeIn a h piece → goes_unread a piece ≡ true → IsLeftUnread a header piece
 
 -- And what may be kept apart for a generation that is not read yet is kept apart, unless what waits of that generation
 -- refuses it.
@@ -115,10 +136,12 @@ abbrev pub LaterDataIsKeptApart : Type 0
 LaterDataIsKeptApart = (a : Shown) (h : History) (header : CommonHeader) (piece : ChunkPayloadData) → Binds a h
     → MayKeepApart a h piece → IsKeptUnlessRefused a header piece
 
--- A chunk of which this DATA was taken in is that DATA; it could be taken in, and its stream did not refuse it.
+-- A chunk of which this DATA was taken in by its stream is that DATA; it could be taken in, its stream is read, and did
+-- not refuse it.
 pub record WasToBeTakenIn (a : Shown) (h : History) (chunk : Chunk) (piece : ChunkPayloadData) : Type 0 where
   pub data_itself : chunk ≡ chunks.Data piece
   pub may : MayTakeIn a h piece
+  pub read : goes_unread a piece ≡ false
   pub unrefused : refusal_of a piece ≡ None
 
 -- A chunk of which this DATA was kept apart is that DATA; it could be, and what waits of its generation did not refuse
@@ -128,14 +151,21 @@ pub record WasToBeKeptApart (a : Shown) (h : History) (chunk : Chunk) (piece : C
   pub may : MayKeepApart a h piece
   pub unrefused : later_refusal_of a piece ≡ None
 
--- Nothing else is taken in, of DATA or of any other chunk.
+-- A chunk of which this DATA was left unread is that DATA; it could be taken in, and nobody reads its stream.
+pub record WasToBeLeft (a : Shown) (h : History) (chunk : Chunk) (piece : ChunkPayloadData) : Type 0 where
+  pub data_itself : chunk ≡ chunks.Data piece
+  pub may : MayTakeIn a h piece
+  pub unread : goes_unread a piece ≡ true
+
+-- Nothing else is taken in by a stream, of DATA or of any other chunk.
 abbrev pub NothingElseIsTakenIn : Type 0
 NothingElseIsTakenIn = (a : Shown) (h : History) (header : CommonHeader) (chunk : Chunk) (index : ℕ)
     → (piece : ChunkPayloadData) → Binds a h
     → slice_get (acts_of_chunk a header chunk) index ≡ Some (Act.Took piece) → WasToBeTakenIn a h chunk piece
 
--- Nothing else is kept apart.
+-- Nothing else is kept apart or left unread.
 abbrev pub NothingElseIsKeptApart : Type 0
 NothingElseIsKeptApart = (a : Shown) (h : History) (header : CommonHeader) (chunk : Chunk) (index : ℕ)
     → (piece : ChunkPayloadData) → Binds a h
-    → slice_get (acts_of_chunk a header chunk) index ≡ Some (Act.Deferred piece) → WasToBeKeptApart a h chunk piece
+    → slice_get (acts_of_chunk a header chunk) index ≡ Some (Act.Deferred piece)
+    → WasToBeKeptApart a h chunk piece ⊎ WasToBeLeft a h chunk piece

@@ -1,6 +1,6 @@
 -- What calls leave of an association beside its directions, and of which acts they are made: for whoever builds on it.
 use Rattle.std.specs.Prelude.{◌≡◌, ◌⊎◌, ◌<◌, ◌≤◌, ℕ, ◌+◌, ◌%◌, ◌^◌, Bool, true, false, List, [], ◌∷◌, ◌++◌, length}
-use Rattle.std.specs.Prelude.{slice_get, if◌then◌else◌, Option, Some, None, ⊤, ◌==◌}
+use Rattle.std.specs.Prelude.{slice_get, if◌then◌else◌, is_some, Option, Some, None, ⊤, ◌==◌, ◌&&◌}
 use Rattle.std.specs.List.{AllByRecursion}
 use Rattle.sctp_serial.specs.Serial.{tsn_gt, tsn}
 use Rattle.sctp_wire_types.specs.declared.chunk.Chunk.{Chunk}
@@ -25,7 +25,7 @@ use Rattle.sctp_streams.specs.declared.setting.Setting.{Setting}
 use Rattle.sctp_streams.specs.Streams.{made, read_in, stream_at}
 use Rattle.sctp_inbound.specs.declared.receiver.AckTrigger.{AckTrigger}
 use Rattle.sctp_outbound.specs.Forward.{forward_of}
-use Rattle.sctp_directions.specs.Acts.{Act, History, IsAhead, all_data_given, reach_in}
+use Rattle.sctp_directions.specs.Acts.{Act, HasReadOpen, History, IsAhead, all_data_given, reach_in}
 use Rattle.sctp_assoc.specs.Leads.{Binds, LeadsOn, parts}
 use Rattle.sctp_fit.specs.Incoming.{tsn_before}
 use Rattle.sctp_parts.specs.State.{is_closing}
@@ -35,6 +35,7 @@ use Rattle.sctp_assoc.specs.Closing.{closed_by, exhausted, is_closed_state}
 use Rattle.sctp_assoc.specs.Calls.{accepted_stream, adjusted, drained_behind, read_exhausts, read_from_stream}
 use Rattle.sctp_assoc.specs.Calls.{stop_refusal, stopped, stopped_open, stream_refusal}
 use Rattle.sctp_assoc.specs.Calls.{with_max_send_message_size}
+use Rattle.sctp_assoc.specs.Calls.{credit_in, tells_window, told_if}
 use Rattle.sctp_assoc.specs.Calls.{write_refusal, written}
 use Rattle.sctp_assoc.specs.Chunks.{after_packet, ended, on_chunk}
 use Rattle.sctp_outbound.specs.Sacks.{reports_of}
@@ -118,15 +119,20 @@ abbrev pub AcceptedStreamsKeepTheStatus : Type 0
 AcceptedStreamsKeepTheStatus =
     (a : Shown) → IsSameStatus a (accepted_stream a).0 × ((accepted_stream a).0.streams ≡ a.streams)
 
--- the association as a read leaves it, before it is seen whether the receive buffer is exhausted: generations of the
--- stream that ended and are read to their end are over
+-- the association as a read leaves it, before it is seen whether the receive buffer is exhausted or the window opened:
+-- generations of the stream that ended and are read to their end are over
 abbrev pub with_read : Shown → ℕ → Shown
 with_read a id = drained_behind a id (read_in a.streams id).0
 
--- A read leaves the status, unless it leaves the receive buffer exhausted, and then that is what closes.
+-- it gives a message, and the window that opens by that is told
+abbrev pub read_tells : Shown → ℕ → Bool
+read_tells a id = is_some (read_in a.streams id).1 && tells_window (credit_in a) (with_read a id)
+
+-- A read leaves the status, unless it leaves the receive buffer exhausted, and then that is what closes. Else no more
+-- is done than that the window is told where it opens.
 pub record ReadsOn (a : Shown) (id : ℕ) : Type 0 where
   pub same : IsSameStatus a (with_read a id)
-  pub plainly : read_exhausts a id ≡ false → (read_from_stream a id).0 ≡ with_read a id
+  pub plainly : read_exhausts a id ≡ false → (read_from_stream a id).0 ≡ told_if (read_tells a id) (with_read a id)
   pub exhausts : read_exhausts a id ≡ true → (read_from_stream a id).0 ≡ exhausted (with_read a id)
   pub given : (read_from_stream a id).1 ≡ (read_in a.streams id).1
 
@@ -145,13 +151,14 @@ ReadsEndPast = (over : ℕ → Bool) (a : Shown) (id : ℕ) → ResetsPastOnly o
     × ResetsPastOnly over (with_read a id)
 
 -- A stop of a stream ends its span and leaves the status, unless it leaves the receive buffer exhausted, and then that
--- is what closes. Where the read half is closed already nothing changes.
+-- is what closes; else a window that it opened is told. Where the read half is closed already nothing changes.
 pub record StopsOn (a : Shown) (id : ℕ) : Type 0 where
   pub same : IsSameStatus a (stopped_open a id)
   pub leads : LeadsOn (Act.SpansEnded (id ∷ []) (stopped_open a id).streams ∷ []) a (stopped_open a id)
   pub others : (s : ℕ) → (s == id) ≡ false → stream_at (stopped_open a id).streams s ≡ stream_at a.streams s
   pub either : (stopped a id ≡ a)
-      ⊎ ((stopped a id ≡ stopped_open a id) ⊎ (stopped a id ≡ exhausted (stopped_open a id)))
+      ⊎ ((stopped a id ≡ told_if (tells_window (credit_in a) (stopped_open a id)) (stopped_open a id))
+      ⊎ (stopped a id ≡ exhausted (stopped_open a id)))
 
 abbrev pub StopsKeepTheStatus : Type 0
 StopsKeepTheStatus = (a : Shown) (id : ℕ) → StopsOn a id
@@ -378,7 +385,7 @@ pub record TakesOnly (a : Shown) (piece : ChunkPayloadData) (acts : List Act) : 
   pub live : stream_at a.streams piece.stream_identifier ≡ Some stream
   pub are : acts ≡ Act.Took piece ∷ []
 
--- It was kept apart from its stream, which is past its span.
+-- It was taken in, and did not go to its stream, which is past its span: it was kept apart, or nobody reads the stream.
 pub record DefersOnly (over : ℕ → Bool) (piece : ChunkPayloadData) (acts : List Act) : Type 0 where
   pub past : over piece.stream_identifier ≡ true
   pub are : acts ≡ Act.Deferred piece ∷ []
@@ -397,12 +404,13 @@ pub record WithEndsBehind (over : ℕ → Bool) (Are : List Act → Type 0) (act
   pub behind_are : AllByRecursion (EndsPast over) behind
   pub are : acts ≡ front ++ behind
 
--- DATA may make its stream first, and may be taken in, or kept apart from a stream past its span; behind that, streams
--- past their span may change, and nothing else (RFC 4960 section 6.2, RFC 6525 section 5.2.2). That resets concern such
--- streams alone is said of the association.
+-- DATA may make its stream first, and may be taken in by it, or without going to it where it is past its span; behind
+-- that, streams past their span may change, and nothing else (RFC 4960 section 6.2, RFC 6525 section 5.2.2). That
+-- resets concern such streams alone, and that all others can be read, is said of the association.
 abbrev pub DataOpensOrTakes : Type 0
 DataOpensOrTakes =
     (over : ℕ → Bool) (a : Shown) (header : CommonHeader) (piece : ChunkPayloadData) → ResetsOver over a.resets
+    → ((s : ℕ) → over s ≡ false → HasReadOpen a.streams s)
     → WithEndsBehind over (IsTaking over a piece) (acts_of_chunk a header (chunks.Data piece))
 
 -- A RE-CONFIG that names streams past their span changes such streams alone.

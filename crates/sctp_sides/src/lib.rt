@@ -45,7 +45,7 @@ ghost use Rattle.sctp_sides.specs.Causes.{CausesClose, ClosingPacketsHaveCauses,
 ghost use Rattle.sctp_sides.specs.Generations.{CreatedSidesHaveNoGeneration, FinalsAreToldOnce};
 ghost use Rattle.sctp_sides.specs.Generations.{GenerationsAreLiveOrFinal, JoinedSidesHaveNoGeneration};
 ghost use Rattle.sctp_sides.specs.Intake.{DataIsTakenIn, LaterDataIsKeptApart, NothingElseIsKeptApart};
-ghost use Rattle.sctp_sides.specs.Intake.{NothingElseIsTakenIn};
+ghost use Rattle.sctp_sides.specs.Intake.{NothingElseIsTakenIn, UnreadDataIsLeft};
 ghost use Rattle.sctp_sides.specs.Lifetimes.{CreatedSidesHaveNothingToSend, JoinedSidesHaveNothingToSend};
 ghost use Rattle.sctp_sides.specs.Lifetimes.{NothingLateGoesOut, RetriesAreKept};
 ghost use Rattle.sctp_sides.specs.Laws.{DueForwardsGoOut, DueSacksGoOut, FaultsAloneClose, OpenedStreamsDoNotClose};
@@ -168,10 +168,12 @@ pub fn sacks_name_the_last_tsn()
     ensures forward { DueForwardsGoOut }
 {}
 
-/// Intake: DATA that may be taken in is taken in, and nothing else is (RFC 4960 section 6.2); DATA of a generation of
-/// its stream that is not read yet is kept apart so (RFC 6525 section 5.2.2).
+/// Intake: DATA that may be taken in is taken in, and nothing else is (RFC 4960 section 6.2); where nobody reads its
+/// stream any more, it is taken in without going to that; and DATA of a generation of its stream that is not read yet
+/// is kept apart so (RFC 6525 section 5.2.2).
 pub fn data_is_taken_in()
     ensures taken { DataIsTakenIn }
+    ensures unread { UnreadDataIsLeft }
     ensures no_other { NothingElseIsTakenIn }
     ensures kept { LaterDataIsKeptApart }
     ensures no_other_kept { NothingElseIsKeptApart }

@@ -4,9 +4,10 @@ use Rattle.sctp_wire_types.specs.declared.error.Error.{Error}
 use Rattle.sctp_wire_types.specs.declared.error.Error.TheVariants as errors
 use Rattle.sctp_wire_types.specs.Errors.{refusal_number}
 
--- 2 for want of memory, and else 5 and the number of the refusal
+-- 2 for want of memory, 62 for a timeout of 0, and else 5 and the number of the refusal
 abbrev pub refusal_code : Error → ℕ
 refusal_code errors.ErrNoMemory = 2
+refusal_code errors.ErrBadTimeout = 62
 refusal_code e = 5 + refusal_number e
 
 -- 0 where the call was done

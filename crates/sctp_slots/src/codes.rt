@@ -14,6 +14,8 @@ pub const NO_MEMORY: u32 = 2;
 pub const NOTHING: u32 = 3;
 /// The buffer is shorter than what is next; the call says how long that is.
 pub const NO_ROOM: u32 = 4;
+/// A retransmission timeout is 0.
+const BAD_TIMEOUT: u32 = 62;
 /// A refusal has this and its number, 1 to 23 (`Error::number`).
 const REFUSED: u32 = 5;
 
@@ -23,6 +25,7 @@ pub fn refusal_code(error: Error) -> u32
 {
     match error {
         Error::ErrNoMemory => NO_MEMORY,
+        Error::ErrBadTimeout => BAD_TIMEOUT,
         refused => REFUSED + u32::from(refused.number()),
     }
 }

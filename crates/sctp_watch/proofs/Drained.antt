@@ -25,7 +25,7 @@ use Rattle.sctp_driver.specs.Tags.{answer_to, packet_in}
 use Rattle.sctp_watch.specs.declared.ends.End.{End}
 use Rattle.sctp_watch.specs.declared.ends.End.TheVariants as ends
 use Rattle.sctp_watch.specs.Ends.{end_among, ended_by}
-use Rattle.sctp_watch.specs.Watching.{end_after}
+use Rattle.sctp_watch.specs.Watching.{brought, end_after}
 
 -- ---- the walk over a datagram
 
@@ -127,9 +127,24 @@ module _ (d e : Driving) (now : ℕ) (alive : d.association.lost ≡ false) (los
   packet_came datagram (Err error) taken left refused memory only =
       by_error (packet_in datagram) (Err error) refused memory only
 
-pub same_end : (packet : Option Packet) (end : End) → IsSome packet → Ends end packet → end ≡ ended_by packet
-same_end (Some packet) end some is = is
-same_end None end some is = absurd cc
+-- the end that the packet brings, if there is one, unless the receive buffer was exhausted
+abbrev Brings : Bool → End → Option Packet → Type 0
+Brings exhausted end packet = IfSome packet (λ p. end ≡ brought exhausted (ended_by (Some p)))
+
+pub exhaustion_brought : (packet : Option Packet) (exhausted : Bool) → exhausted ≡ true
+    → Brings exhausted ends.BufferExhausted packet
+exhaustion_brought (Some packet) exhausted is = rw is refl
+exhaustion_brought None exhausted is = tt
+
+pub packet_brought : (packet : Option Packet) (exhausted : Bool) (end : End) → exhausted ≡ false → Ends end packet
+    → Brings exhausted end packet
+packet_brought (Some packet) exhausted end not_so is = rw not_so is
+packet_brought None exhausted end not_so is = tt
+
+pub same_end : (packet : Option Packet) (exhausted : Bool) (end : End) → IsSome packet → Brings exhausted end packet
+    → end ≡ brought exhausted (ended_by packet)
+same_end (Some packet) exhausted end some is = is
+same_end None exhausted end some is = absurd cc
 
 -- ---- what a watch knows behind the call
 

@@ -52,10 +52,15 @@ after_poll answer t = t
 abbrev pub end_after : Driving → Driving → End → Option End → Option End
 end_after d e end known = if not d.association.lost && e.association.lost then Some end else known
 
+-- a datagram that left the receive buffer exhausted brings that end, and any other one this
+abbrev pub brought : Bool → End → End
+brought true end = ends.BufferExhausted
+brought false end = end
+
 -- the event tells that the receive buffer was exhausted
-abbrev pub tells_exhaustion : Result (Option Event) Error → Bool
-tells_exhaustion (Ok (Some (events.AssociationLost reasons.ReceiveBufferExhausted))) = true
-tells_exhaustion answer = false
+abbrev pub is_told_exhaustion : Result (Option Event) Error → Bool
+is_told_exhaustion (Ok (Some (events.AssociationLost reasons.ReceiveBufferExhausted))) = true
+is_told_exhaustion answer = false
 
 abbrev pub after_event : Result (Option Event) Error → Option End → Option End
-after_event answer known = if tells_exhaustion answer then Some ends.BufferExhausted else known
+after_event answer known = if is_told_exhaustion answer then Some ends.BufferExhausted else known

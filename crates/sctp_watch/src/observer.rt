@@ -2,6 +2,7 @@
 ghost use Rattle.std.specs.Prelude.{◌≡◌, ◌≢◌, ◌↔◌, ◌⊎◌, [], ℕ, List, length, true, Err, IsErrOf, IfOk};
 ghost use Rattle.std.specs.Prelude.{OnErr, OnOk};
 ghost use Rattle.sctp_assoc.specs.Chunks.{after_packet};
+ghost use Rattle.sctp_assoc.specs.Closing.{tells_exhaustion};
 ghost use Rattle.sctp_assoc.specs.Gather.{has_something_to_give};
 ghost use Rattle.sctp_driver.specs.Driving.{RunsOutOfMemory, with_association};
 ghost use Rattle.sctp_driver.specs.Sending.{Sends, asked};
@@ -10,7 +11,7 @@ ghost use Rattle.sctp_driver.specs.declared.tags.DatagramAnswer.TheVariants as f
 ghost use Rattle.sctp_watch.specs.declared.ends.End.TheVariants as ends;
 ghost use Rattle.sctp_watch.specs.Ends.{ended_by};
 ghost use Rattle.sctp_watch.specs.Observers.{IsToldOfDatagram, IsToldOfPoll};
-ghost use Rattle.sctp_watch.specs.Watching.{after_datagram, after_poll, end_after};
+ghost use Rattle.sctp_watch.specs.Watching.{after_datagram, after_poll, brought, end_after};
 
 use crate::Watch;
 use sctp_driver::{DatagramAnswer, Driver, Error, PollAnswer};
@@ -47,8 +48,8 @@ pub fn handle_datagram_observed<O: Observer>(
 ) -> Result<DatagramAnswer, Error>
     ensures told { IsToldOfDatagram O.Notes result now datagram.now observer.old observer.new }
     ensures traffic { watch.new.traffic ≡ after_datagram result (length datagram.now) watch.old.traffic }
-    ensures end { watch.new.end
-        ≡ end_after driver.old driver.new (ended_by (packet_in datagram.now)) watch.old.end }
+    ensures end { watch.new.end ≡ end_after driver.old driver.new
+        (brought (tells_exhaustion driver.new.association) (ended_by (packet_in datagram.now))) watch.old.end }
     ensures answer { IfOk result (λ answer. answer ≡ answer_to driver.old datagram.now) }
     ensures left { answer_to driver.old datagram.now ≢ fates.Taken → driver.new ≡ driver.old }
     ensures taken { OnOk result (answer_to driver.old datagram.now ≡ fates.Taken → driver.new

@@ -1,9 +1,9 @@
 // A watch: the calls of a driver, and what is kept of them.
 ghost use Rattle.std.specs.Prelude.{◌≡◌, ◌≢◌, ◌↔◌, ◌⊎◌, [], if◌then◌else◌, length, true, false, Some, Err};
-ghost use Rattle.std.specs.Prelude.{IsErrOf, IfOk, OnErr, OnOk};
+ghost use Rattle.std.specs.Prelude.{IsErrOf, IfOk, IfSome, OnErr, OnOk};
 ghost use Rattle.sctp_assoc.specs.Calls.{RefusesOrLacksMemory, event_polled, failed_refusal};
 ghost use Rattle.sctp_assoc.specs.Chunks.{after_packet};
-ghost use Rattle.sctp_assoc.specs.Closing.{closed_by, is_closed_state};
+ghost use Rattle.sctp_assoc.specs.Closing.{closed_by, is_closed_state, tells_exhaustion};
 ghost use Rattle.sctp_assoc.specs.Gather.{has_something_to_give};
 ghost use Rattle.sctp_driver.specs.Aborting.{Aborts, IsTooLong};
 ghost use Rattle.sctp_driver.specs.Driving.{RunsOutOfMemory, with_association};
@@ -13,8 +13,8 @@ ghost use Rattle.sctp_streams.specs.declared.event.AssociationError.TheVariants 
 ghost use Rattle.sctp_driver.specs.declared.tags.DatagramAnswer.TheVariants as fates;
 ghost use Rattle.sctp_watch.specs.declared.ends.End.TheVariants as ends;
 ghost use Rattle.sctp_watch.specs.Ends.{ended_by};
-ghost use Rattle.sctp_watch.specs.Watching.{after_datagram, after_event, after_poll, end_after, no_traffic};
-ghost use Rattle.sctp_watch.specs.Watching.{tells_exhaustion, watching};
+ghost use Rattle.sctp_watch.specs.Watching.{after_datagram, after_event, after_poll, brought, end_after, no_traffic};
+ghost use Rattle.sctp_watch.specs.Watching.{is_told_exhaustion, watching};
 
 use crate::ends::{End, end_by};
 use crate::traffic::Traffic;
@@ -61,18 +61,18 @@ impl Watch {
     }
 
     /// Why the association ended; None where the watch saw no end. It is told by the call in which
-    /// `Driver::is_drained` became true, and stays. One end is told later: a datagram, a read or a stop can find that
-    /// the receive buffer is exhausted, and `poll_event` tells it. An association that failed for want of memory has
-    /// none.
+    /// `Driver::is_drained` became true, and stays. One end is told later: a read or a stop can find that the receive
+    /// buffer is exhausted, and `poll_event` tells it. An association that failed for want of memory has none.
     pub fn end(&self) -> Option<End>
         ensures { result ≡ self.now.end }
     {
         self.end
     }
 
-    /// As `Driver::handle_datagram`. The datagram is counted if it is taken. If it ends the association, the first
-    /// ABORT in it is told with its first cause, even where a fault stands in front of it; without one a SHUTDOWN
-    /// COMPLETE is the end of a shutdown, and anything else a fault.
+    /// As `Driver::handle_datagram`. The datagram is counted if it is taken. If it ends the association since it left
+    /// the receive buffer exhausted, that is told. Else the first ABORT in it is told with its first cause, even where
+    /// a fault stands in front of it; without one a SHUTDOWN COMPLETE is the end of a shutdown, and anything else a
+    /// fault.
     #[tactic(auto, using(crate::proofs::Drained::packet_came, crate::proofs::Drained::same_end, crate::proofs::Drained::told))]
     pub fn handle_datagram(
         &mut self,
@@ -81,8 +81,8 @@ impl Watch {
         datagram: &[u8],
     ) -> Result<DatagramAnswer, Error>
         ensures traffic { self.new.traffic ≡ after_datagram result (length datagram.now) self.old.traffic }
-        ensures end { self.new.end
-            ≡ end_after driver.old driver.new (ended_by (packet_in datagram.now)) self.old.end }
+        ensures end { self.new.end ≡ end_after driver.old driver.new
+            (brought (tells_exhaustion driver.new.association) (ended_by (packet_in datagram.now))) self.old.end }
         ensures answer { IfOk result (λ answer. answer ≡ answer_to driver.old datagram.now) }
         ensures left { answer_to driver.old datagram.now ≢ fates.Taken → driver.new ≡ driver.old }
         ensures taken { OnOk result (answer_to driver.old datagram.now ≡ fates.Taken → driver.new
@@ -97,7 +97,7 @@ impl Watch {
         let answer = driver.handle_datagram(now, datagram);
         self.traffic.count_datagram(&answer, datagram.len());
         if !was_drained && driver.is_drained() {
-            self.end = Some(end_by(datagram));
+            self.end = Some(end_brought(driver, datagram));
         }
         answer
     }
@@ -140,7 +140,7 @@ impl Watch {
         ensures err { OnErr result ((result ≡ Err Error.ErrAssociationFailed) × (driver.new ≡ driver.old)) }
     {
         let answer = driver.poll_event();
-        self.end_with(tells_exhaustion(&answer), End::BufferExhausted);
+        self.end_with(is_told_exhaustion(&answer), End::BufferExhausted);
         answer
     }
 
@@ -192,9 +192,22 @@ impl Watch {
     }
 }
 
+// The end that a datagram brought to the association that it closed.
+#[tactic(auto, using(crate::proofs::Drained::exhaustion_brought, crate::proofs::Drained::packet_brought))]
+fn end_brought(driver: &Driver, datagram: &[u8]) -> End
+    ensures { IfSome (packet_in datagram.now)
+        (λ packet. result ≡ brought (tells_exhaustion driver.now.association) (ended_by (Some packet))) }
+{
+    if driver.tells_exhaustion() {
+        End::BufferExhausted
+    } else {
+        end_by(datagram)
+    }
+}
+
 // Whether an event tells that the receive buffer was exhausted.
-fn tells_exhaustion(answer: &Result<Option<Event>, Error>) -> bool
-    ensures { result ≡ tells_exhaustion answer.now }
+fn is_told_exhaustion(answer: &Result<Option<Event>, Error>) -> bool
+    ensures { result ≡ is_told_exhaustion answer.now }
 {
     matches!(
         answer,

@@ -28,7 +28,7 @@ pub use sctp_wire_types::{
     Chunk, ChunkAbort, ChunkError, ChunkForwardTsn, ChunkHeartbeat, ChunkIForwardTsn, ChunkInit,
     ChunkPayloadData, ChunkReconfig, ChunkSelectiveAck, CommonHeader, EcnCodepoint, Error,
     ErrorCause, Fault, GapAckBlock, IForwardTsnEntry, Instant, List, Param,
-    ParamOutgoingResetRequest, ParamReconfigResponse, PayloadProtocolIdentifier, Policy,
+    ParamOutgoingResetRequest, ParamReconfigResponse, PayloadProtocolIdentifier, Policy, Profile,
     ReconfigResult, ReliabilityType, ServerConfig, Side, SkippedStream, StreamEvent, StreamId,
     StreamResetError, TransportConfig, sna16gt, sna16gte, sna16lt, sna16lte, sna32gt, sna32gte,
     sna32lt, sna32lte,

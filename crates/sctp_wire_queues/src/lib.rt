@@ -14,8 +14,8 @@ pub use sctp_wire::{
     ChunkList, ChunkPayloadData, ChunkReconfig, ChunkSelectiveAck, CommonHeader, DataPackets,
     DataRef, EcnCodepoint, Error, ErrorCause, Fault, GapAckBlock, IForwardTsnEntry, Instant, List,
     Packet, PacketChunks, Param, ParamOutgoingResetRequest, ParamReconfigResponse, PartialDecode,
-    Payload, PayloadProtocolIdentifier, Policy, ReconfigResult, ReliabilityType, ServerConfig,
-    Side, SkippedStream, StreamEvent, StreamId, StreamResetError, Transmit, TransportConfig,
-    check_packet, crc32c, marshal, sna16gt, sna16gte, sna16lt, sna16lte, sna32gt, sna32gte,
-    sna32lt, sna32lte,
+    Payload, PayloadProtocolIdentifier, Policy, Profile, ReconfigResult, ReliabilityType,
+    ServerConfig, Side, SkippedStream, StreamEvent, StreamId, StreamResetError, Transmit,
+    TransportConfig, check_packet, crc32c, marshal, sna16gt, sna16gte, sna16lt, sna16lte, sna32gt,
+    sna32gte, sna32lt, sna32lte,
 };

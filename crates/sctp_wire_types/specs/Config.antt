@@ -1,4 +1,6 @@
-use Rattle.std.specs.Prelude.{ℕ, Option, Some, None}
+use Rattle.std.specs.Prelude.{ℕ, Bool, true, false, Option, Some, None}
+use Rattle.sctp_wire_types.specs.declared.config.Profile.{Profile}
+use Rattle.sctp_wire_types.specs.declared.config.Profile.TheVariants as profiles
 
 -- what an association is configured with
 pub record Settings : Type 0 where
@@ -14,6 +16,8 @@ pub record Settings : Type 0 where
   pub rto_max_ms : ℕ
   pub max_init_retransmits : Option ℕ
   pub max_data_retransmits : Option ℕ
+  -- the rules that the association keeps; with None its maker chooses
+  pub profile : Option Profile
 
 -- the values of a configuration that nobody changed
 abbrev pub default_config : Settings
@@ -30,4 +34,10 @@ default_config = record {
   rto_max_ms = 60000;
   max_init_retransmits = Some 8;
   max_data_retransmits = None;
+  profile = None;
 }
+
+-- the rules are those of the RFCs
+abbrev pub is_rfc : Profile → Bool
+is_rfc profiles.Port = false
+is_rfc profiles.Rfc = true

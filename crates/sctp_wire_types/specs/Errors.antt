@@ -27,6 +27,7 @@ refusal_number errors.ErrReceiveBufferExhausted = 20
 refusal_number errors.ErrStreamClosed = 21
 refusal_number errors.ErrOutboundPacketTooLarge = 22
 refusal_number errors.ErrEmptyMessage = 23
+refusal_number errors.ErrBadTimeout = 0
 refusal_number errors.ErrHandshakeInitAck = 0
 refusal_number errors.ErrHandshakeCookieEcho = 0
 refusal_number errors.ErrContradictoryPieces = 0

@@ -3,8 +3,17 @@ ghost use Rattle.std.specs.Prelude.{◌≡◌};
 
 use std::marker::Model;
 
-/// Limits and timeouts of an association. `default` has the values named below; each `with_..` changes one. They are
-/// read when an association is made, and no value is refused here.
+/// The rules that an association keeps where `sctp-proto` and the RFCs part.
+#[derive(Clone, Copy, Debug, PartialEq, Eq)]
+pub enum Profile {
+    /// Those of the crate `sctp-proto` 0.10.8.
+    Port,
+    /// Those of the RFCs, where keeping to the crate would leave two honest ends stuck.
+    Rfc,
+}
+
+/// Limits and timeouts of an association, and the rules that it keeps. `default` has the values named below; each
+/// `with_..` changes one. They are read when an association is made, and no value is refused here.
 #[derive(Clone, Copy, Debug)]
 pub struct TransportConfig {
     max_receive_buffer_size: u32,
@@ -19,6 +28,7 @@ pub struct TransportConfig {
     rto_max_ms: u64,
     max_init_retransmits: Option<usize>,
     max_data_retransmits: Option<usize>,
+    profile: Option<Profile>,
 }
 
 impl Model for TransportConfig {
@@ -39,6 +49,7 @@ impl Model for TransportConfig {
       rto_max_ms = c.rto_max_ms;
       max_init_retransmits = c.max_init_retransmits;
       max_data_retransmits = c.max_data_retransmits;
+      profile = c.profile;
     } };
 
     ghost inverse = { λ c. record {
@@ -54,6 +65,7 @@ impl Model for TransportConfig {
       rto_max_ms = c.rto_max_ms;
       max_init_retransmits = c.max_init_retransmits;
       max_data_retransmits = c.max_data_retransmits;
+      profile = c.profile;
     } };
 }
 
@@ -257,6 +269,23 @@ impl TransportConfig {
         config.max_data_retransmits = max_data_retransmits;
         config
     }
+
+    /// Which rules are kept; with None, the default, its maker chooses: `Association` keeps those of the port, a driver
+    /// those of the RFCs.
+    pub fn profile(&self) -> Option<Profile>
+        ensures { result ≡ self.now.profile }
+    {
+        self.profile
+    }
+
+    /// The same configuration with another `profile`.
+    pub fn with_profile(self, profile: Option<Profile>) -> Self
+        ensures { result ≡ record self { profile = profile } }
+    {
+        let mut config = self;
+        config.profile = profile;
+        config
+    }
 }
 
 impl Default for TransportConfig {
@@ -278,6 +307,7 @@ impl Default for TransportConfig {
             rto_max_ms: 60_000,
             max_init_retransmits: Some(8),
             max_data_retransmits: None,
+            profile: None,
         }
     }
 }

@@ -37,6 +37,7 @@ pub enum Fault {
 /// | Error | Who answers it |
 /// |---|---|
 /// | `ErrBadPayloadSize`, `ErrBadInitialTsn`, `ErrBadToken` | the constructors of an association |
+/// | `ErrBadTimeout` | the constructors of a driver |
 /// | `ErrNoMemory` | whatever may take memory, if it gets none |
 /// | `ErrAssociationFailed` | each call after one that found no memory in its middle |
 /// | `ErrStreamAlreadyExist`, `ErrStreamCreateFailed` | `Association::open_stream` |
@@ -61,6 +62,8 @@ pub enum Error {
     ErrBadInitialTsn,
     #[error("token is refused")]
     ErrBadToken,
+    #[error("a retransmission timeout is 0")]
+    ErrBadTimeout,
     #[error("memory is used up")]
     ErrNoMemory,
     #[error("an earlier call failed the association")]
@@ -142,6 +145,7 @@ impl Error {
             Error::ErrStreamClosed => 21,
             Error::ErrOutboundPacketTooLarge => 22,
             Error::ErrEmptyMessage => 23,
+            Error::ErrBadTimeout => 0,
             Error::ErrHandshakeInitAck => 0,
             Error::ErrHandshakeCookieEcho => 0,
             Error::ErrContradictoryPieces => 0,

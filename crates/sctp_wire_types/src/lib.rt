@@ -19,7 +19,7 @@ pub use chunk::{
     ChunkPayloadData, ChunkReconfig, ChunkSelectiveAck, ErrorCause, GapAckBlock, IForwardTsnEntry,
     SkippedStream,
 };
-pub use config::{ServerConfig, TransportConfig};
+pub use config::{Profile, ServerConfig, TransportConfig};
 pub use error::{Error, Fault};
 pub use event::{StreamEvent, StreamResetError};
 pub use ids::{PayloadProtocolIdentifier, Side, StreamId};

@@ -15,6 +15,7 @@ mod svg;
 
 use drawing::Drawing;
 use replay::Replay;
+use sctp_assoc::Profile;
 use std::path::Path;
 use std::process::ExitCode;
 use std::{env, fs};
@@ -52,10 +53,8 @@ fn story_of(session: &str) -> Result<Vec<Happening>, String> {
     let replies: Option<Vec<&str>> = replies.as_ref().map(|replies| replies.lines().collect());
     let expected = |i: usize| replies.as_ref().map(|replies| replies.get(i).copied().unwrap_or("nothing"));
 
-    let mut lines = text.lines().enumerate();
-    let beginning = lines.next().and_then(|(_, line)| session::beginning_of(line)).ok_or("line 1: bad step")?;
-    let mut replay = Replay::new(beginning).map_err(|error| format!("line 1: {error}"))?;
-    for (i, line) in lines {
+    let (mut replay, begun) = begin(&text)?;
+    for (i, line) in text.lines().enumerate().skip(begun) {
         let number = i + 1;
         let (side, step) = session::step_of(line).ok_or_else(|| format!("line {number}: bad step"))?;
         let reply = replay.carry_out(side, &step, expected(i));
@@ -65,6 +64,18 @@ fn story_of(session: &str) -> Result<Vec<Happening>, String> {
         }
     }
     Ok(replay.story)
+}
+
+/// Makes the two associations, by the rules of the port unless a line in front names others. Answers how many lines it
+/// took for that.
+fn begin(text: &str) -> Result<(Replay, usize), String> {
+    let profile = text.lines().next().and_then(session::profile_of);
+    let before = usize::from(profile.is_some());
+    let number = before + 1;
+    let line = text.lines().nth(before).unwrap_or_default();
+    let beginning = session::beginning_of(line, profile.unwrap_or(Profile::Port));
+    let beginning = beginning.ok_or_else(|| format!("line {number}: bad step"))?;
+    Ok((Replay::new(beginning).map_err(|error| format!("line {number}: {error}"))?, number))
 }
 
 /// The last datagram that the library dropped, as each of its users wants it to; `./lab` drops none.
@@ -100,6 +111,16 @@ fn datagrams(story: &[Happening]) -> String {
 #[cfg(test)]
 mod tests {
     use super::*;
+
+    #[test]
+    fn a_line_in_front_names_the_profile() {
+        let lines = |text| begin(text).map(|(_, count)| count);
+        assert_eq!(lines("client 1200 100 500\nstate A\n"), Ok(1));
+        assert_eq!(lines("profile rfc\nclient 1200 100 500\nstate A\n"), Ok(2));
+        assert_eq!(lines("profile port\nsnap 1200 100 500\n"), Ok(2));
+        assert_eq!(lines("profile rfc\nprofile port\n"), Err("line 2: bad step".to_string()));
+        assert_eq!(lines("profile\n"), Err("line 1: bad step".to_string()));
+    }
 
     /// A session that is carried out twice replies the same, and gives out the same datagrams at the same moments.
     #[test]

@@ -22,6 +22,7 @@ impl Replay {
         let began = Instant::now();
         let mut config = Config::default();
         config.max_payload_size = beginning.max_payload_size;
+        config.profile = beginning.profile;
         let [a, b] = beginning.first_tsns;
         let ends = if beginning.is_joined {
             let (a, b) = (Token::new(&config, 1, a), Token::new(&config, 2, b));

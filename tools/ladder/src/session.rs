@@ -1,5 +1,5 @@
 //! The lines of a session, as docs/SESSIONS.md describes them.
-use sctp_assoc::{PayloadType, Reliability};
+use sctp_assoc::{PayloadType, Profile, Reliability};
 use std::time::Duration;
 
 /// One of the two associations.
@@ -26,9 +26,11 @@ impl Side {
     }
 }
 
-/// The first line: how the two associations come about.
+/// How the two associations come about, by the first line, or the second one where the first names a profile.
 #[derive(Clone, Copy, Debug)]
 pub struct Beginning {
+    /// The rules that both sides keep.
+    pub profile: Profile,
     /// By tokens; else a client and a server, before their handshake.
     pub is_joined: bool,
     pub max_payload_size: u32,
@@ -59,18 +61,28 @@ pub enum Step {
     Close,
 }
 
-/// Reads the first line; None if it is another.
-pub fn beginning_of(line: &str) -> Option<Beginning> {
+/// Reads a line that names a profile; None if it is another.
+pub fn profile_of(line: &str) -> Option<Profile> {
+    match line {
+        "profile port" => Some(Profile::Port),
+        "profile rfc" => Some(Profile::Rfc),
+        _ => None,
+    }
+}
+
+/// Reads the line that makes two associations of this profile; None if it is another.
+pub fn beginning_of(line: &str, profile: Profile) -> Option<Beginning> {
     let fields: Vec<&str> = line.split(' ').collect();
     let [name @ ("snap" | "client"), size, a, b] = fields[..] else { return None };
     Some(Beginning {
+        profile,
         is_joined: name == "snap",
         max_payload_size: size.parse().ok()?,
         first_tsns: [a.parse().ok()?, b.parse().ok()?],
     })
 }
 
-/// Reads a line behind the first one; None if it is no step.
+/// Reads a line behind that; None if it is no step.
 pub fn step_of(line: &str) -> Option<(Side, Step)> {
     let mut fields = line.split(' ');
     let (name, side) = (fields.next()?, Side::named(fields.next()?)?);

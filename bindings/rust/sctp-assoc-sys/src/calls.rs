@@ -117,7 +117,7 @@ extern "C" {
         length: usize,
     ) -> sctp_assoc_code;
     /// Copies the next message, whole, to the front of the buffer, and writes its length and its payload protocol
-    /// identifier.
+    /// identifier. If that opens the receive window, an acknowledgement is due: poll for datagrams after it.
     pub fn sctp_assoc_read(
         slot: *mut sctp_assoc,
         stream: u16,
@@ -189,7 +189,7 @@ extern "C" {
         room: usize,
         length: *mut usize,
     ) -> sctp_assoc_code;
-    /// [`sctp_assoc_poll_event`], by which the watch notes that the receive buffer was exhausted.
+    /// [`sctp_assoc_poll_event`], by which the watch notes that a read or a stop left the receive buffer exhausted.
     pub fn sctp_assoc_watched_poll_event(
         slot: *mut sctp_assoc,
         watch: *mut sctp_assoc_watch,

@@ -42,9 +42,17 @@ pub const SCTP_ASSOC_EMPTY_MESSAGE: sctp_assoc_code = 28;
 pub const SCTP_ASSOC_NO_RANDOM: sctp_assoc_code = 60;
 /// The bytes are no INIT chunk, or end within a parameter of it.
 pub const SCTP_ASSOC_BAD_INIT: sctp_assoc_code = 61;
+/// A retransmission timeout is 0.
+pub const SCTP_ASSOC_BAD_TIMEOUT: sctp_assoc_code = 62;
+/// The profile is neither of the two that there are.
+pub const SCTP_ASSOC_BAD_PROFILE: sctp_assoc_code = 63;
 
 /// No limit, in `max_init_retransmits` and `max_data_retransmits`.
 pub const SCTP_ASSOC_NO_LIMIT: usize = usize::MAX;
+/// The rules of RFC 4960, RFC 3758, RFC 6525 and RFC 8831.
+pub const SCTP_ASSOC_PROFILE_RFC: u32 = 0;
+/// The rules of the crate `sctp-proto` 0.10.8.
+pub const SCTP_ASSOC_PROFILE_PORT: u32 = 1;
 /// No INIT chunk that is written of a token is longer, in bytes.
 pub const SCTP_ASSOC_MAX_INIT: usize = 28;
 /// No datagram is longer, in bytes.

@@ -37,11 +37,15 @@ pub struct sctp_assoc_config {
     pub local_port: u16,
     /// The peer's SCTP port, not 0.
     pub remote_port: u16,
-    /// Retransmission timeout before the first measurement, in ms (RFC 4960 section 6.3.1).
+    /// The rules that are kept where the RFCs and `sctp-proto` part:
+    /// [`SCTP_ASSOC_PROFILE_RFC`](crate::SCTP_ASSOC_PROFILE_RFC) or
+    /// [`SCTP_ASSOC_PROFILE_PORT`](crate::SCTP_ASSOC_PROFILE_PORT).
+    pub profile: u32,
+    /// Retransmission timeout before the first measurement, in ms, not 0 (RFC 4960 section 6.3.1).
     pub rto_initial_ms: u64,
-    /// Least retransmission timeout, in ms.
+    /// Least retransmission timeout, in ms, not 0.
     pub rto_min_ms: u64,
-    /// Greatest retransmission timeout, in ms.
+    /// Greatest retransmission timeout, in ms, not 0.
     pub rto_max_ms: u64,
     /// How often INIT and COOKIE ECHO go out again; [`SCTP_ASSOC_NO_LIMIT`](crate::SCTP_ASSOC_NO_LIMIT).
     pub max_init_retransmits: usize,

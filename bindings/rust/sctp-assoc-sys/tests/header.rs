@@ -127,6 +127,7 @@ fn structs_are_laid_out_as_in_the_header() {
         max_num_inbound_streams,
         local_port,
         remote_port,
+        profile,
         rto_initial_ms,
         rto_min_ms,
         rto_max_ms,

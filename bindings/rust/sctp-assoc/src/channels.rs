@@ -86,8 +86,10 @@ impl Channels {
     }
 
     /// Ends a channel: its stream is reset (RFC 8831 section 6.7), after what was accepted went out. Messages that came
-    /// are not received any more. [`Event::Closed`] tells the end. A channel whose OPEN was not written yet is gone at
-    /// once, and nothing is told; one that ends goes on to.
+    /// are not received any more, nor is what the peer still sends: by [`Profile::Rfc`](crate::Profile::Rfc) it is
+    /// dropped and takes no room in the receive buffer, as [`Stream::stop`](crate::Stream::stop) says.
+    /// [`Event::Closed`] tells the end. A channel whose OPEN was not written yet is gone at once, and nothing is told;
+    /// one that ends goes on to.
     ///
     /// Errors: `NoChannel`, and of [`Stream::close`](crate::Stream::close) `Failed`, `NoStream`, `CannotReset`;
     /// `NoMemory`: the channel stays as it is, or the association failed.

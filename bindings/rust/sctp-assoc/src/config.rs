@@ -25,17 +25,47 @@ pub struct Config {
     pub local_port: u16,
     /// The peer's SCTP port, not 0; 5000.
     pub remote_port: u16,
-    /// Retransmission timeout before the first measurement (RFC 4960 section 6.3.1); 3 s. Milliseconds count.
+    /// The rules that are kept where the RFCs and the crate `sctp-proto` part; [`Profile::Rfc`].
+    pub profile: Profile,
+    /// Retransmission timeout before the first measurement (RFC 4960 section 6.3.1); 3 s. Whole milliseconds count, and
+    /// one at least is needed.
     pub rto_initial: Duration,
-    /// Least retransmission timeout; 1 s.
+    /// Least retransmission timeout; 1 s. The same holds of it.
     pub rto_min: Duration,
-    /// Greatest retransmission timeout; 60 s.
+    /// Greatest retransmission timeout; 60 s. The same holds of it.
     pub rto_max: Duration,
     /// How often INIT and COOKIE ECHO go out again before the handshake fails; 8. None is no limit.
     pub max_init_retransmits: Option<usize>,
     /// Timeouts in a row after which DATA is no longer sent again; nothing tells of that, so bound the wait for an
     /// acknowledgement. None, the default, is no limit.
     pub max_data_retransmits: Option<usize>,
+}
+
+/// The rules that an association keeps where the RFCs and the crate `sctp-proto` part. Each side has its own, of which
+/// the peer is told nothing.
+#[derive(Clone, Copy, Debug, PartialEq, Eq)]
+pub enum Profile {
+    /// Those of RFC 4960, RFC 3758, RFC 6525 and RFC 8831. A read that opens the receive window leaves an
+    /// acknowledgement to send, for which the peer may wait.
+    Rfc,
+    /// Those of the crate `sctp-proto` 0.10.8, which the library is a port of.
+    Port,
+}
+
+impl Profile {
+    fn of(number: u32) -> Profile {
+        match number {
+            sys::SCTP_ASSOC_PROFILE_PORT => Profile::Port,
+            _ => Profile::Rfc,
+        }
+    }
+
+    fn raw(self) -> u32 {
+        match self {
+            Profile::Rfc => sys::SCTP_ASSOC_PROFILE_RFC,
+            Profile::Port => sys::SCTP_ASSOC_PROFILE_PORT,
+        }
+    }
 }
 
 impl Default for Config {
@@ -50,6 +80,7 @@ impl Default for Config {
             max_num_inbound_streams: raw.max_num_inbound_streams,
             local_port: raw.local_port,
             remote_port: raw.remote_port,
+            profile: Profile::of(raw.profile),
             rto_initial: Duration::from_millis(raw.rto_initial_ms),
             rto_min: Duration::from_millis(raw.rto_min_ms),
             rto_max: Duration::from_millis(raw.rto_max_ms),
@@ -69,6 +100,7 @@ impl Config {
             max_num_inbound_streams: self.max_num_inbound_streams,
             local_port: self.local_port,
             remote_port: self.remote_port,
+            profile: self.profile.raw(),
             rto_initial_ms: millis(self.rto_initial),
             rto_min_ms: millis(self.rto_min),
             rto_max_ms: millis(self.rto_max),

@@ -46,6 +46,8 @@ pub enum Error {
     NoRandom,
     /// The bytes are no INIT chunk, or end within a parameter of it.
     BadInit,
+    /// A retransmission timeout of the configuration is below one millisecond.
+    BadTimeout,
     /// The library answered a code that these bindings do not know.
     Unknown(u32),
 }
@@ -72,6 +74,7 @@ impl Error {
             sys::SCTP_ASSOC_EMPTY_MESSAGE => Error::EmptyMessage,
             sys::SCTP_ASSOC_NO_RANDOM => Error::NoRandom,
             sys::SCTP_ASSOC_BAD_INIT => Error::BadInit,
+            sys::SCTP_ASSOC_BAD_TIMEOUT => Error::BadTimeout,
             other => Error::Unknown(other),
         }
     }
@@ -98,6 +101,7 @@ impl fmt::Display for Error {
             Error::EmptyMessage => f.write_str("the message is empty"),
             Error::NoRandom => f.write_str("the system gives no random bytes"),
             Error::BadInit => f.write_str("the bytes are no INIT chunk"),
+            Error::BadTimeout => f.write_str("a retransmission timeout is 0"),
             Error::Unknown(code) => write!(f, "the library answered the unknown code {code}"),
         }
     }

@@ -94,7 +94,8 @@ pub enum Reason {
     /// The end of a [`shutdown`](crate::Association::shutdown) of either side, [`close`](crate::Association::close), an
     /// ABORT of either side or another fault of the peer: [`end`](crate::Association::end) says which.
     Closed,
-    /// The receive buffer is full of what can never be read.
+    /// The receive buffer is full of what can never be read; by [`Profile::Port`](crate::Profile::Port) also of what
+    /// came on stopped streams.
     BufferExhausted,
     /// The peer denied the reset of a stream (RFC 6525 section 4.4).
     ResetDenied,

@@ -9,7 +9,7 @@
 //!    [`handle_timeout`](Association::handle_timeout).
 //! 2. If a datagram came, hand it to [`handle_datagram`](Association::handle_datagram).
 //! 3. Take events and poll for datagrams until neither brings anything: a poll for datagrams can queue events, and what
-//!    is written at an event leaves datagrams.
+//!    is written or read at an event leaves datagrams.
 //!    - Call [`poll_event`](Association::poll_event) until it gives None; at [`Event::Readable`] call
 //!      [`read`](Stream::read) until it does so too, or the stream is gone.
 //!    - Call [`poll_transmit`](Association::poll_transmit) until it gives None, and send each datagram.
@@ -77,7 +77,7 @@ mod stream;
 mod watch;
 
 pub use association::{Association, Fate, Totals};
-pub use config::{Config, Identity, Token};
+pub use config::{Config, Identity, Profile, Token};
 pub use error::Error;
 pub use event::{Counters, EndpointEvent, Event, Reason};
 pub use payload::{PayloadType, Reliability};

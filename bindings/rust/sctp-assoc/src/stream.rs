@@ -41,6 +41,11 @@ impl Stream<'_> {
     /// Copies the next message to the front of the buffer. None if none is ready. If the peer ended its half, the
     /// stream may end with its last message, and the next read answers `NoStream`.
     ///
+    /// By [`Profile::Rfc`](crate::Profile::Rfc) a read that opens the receive window, also one that answers `NoRoom`,
+    /// makes an acknowledgement due at once, for which the peer may wait: so call
+    /// [`poll_transmit`](Association::poll_transmit) after reads. The window is open where two packets may come, of
+    /// twice `max_payload_size` and 28 bytes, or half of `max_receive_buffer_size` if that is less.
+    ///
     /// Errors: `NoRoom` if the buffer is shorter than the message, which stays; `Failed`, `NoStream`,
     /// `StreamClosed`; `NoMemory`: the message stays, or the association failed.
     pub fn read<'b>(&mut self, buffer: &'b mut [u8]) -> Result<Option<Message<'b>>, Error> {
@@ -73,14 +78,21 @@ impl Stream<'_> {
     /// out first; then the peer is asked to reset its half, too. Nothing can be read or written any more, and a message
     /// that did not fit a buffer is dropped. [`Event::StreamEnded`](crate::Event::StreamEnded),
     /// [`Event::Finished`](crate::Event::Finished) and [`Event::ResetComplete`](crate::Event::ResetComplete) tell the
-    /// end, at the peer, too. If the read half is closed already, nothing changes.
+    /// end, at the peer, too. What the peer sent before a reset of its own is dropped, too, which may open the receive
+    /// window as a [`read`](Stream::read) does. If the read half is closed already, nothing changes.
+    ///
+    /// By [`Profile::Rfc`](crate::Profile::Rfc) all that is unread of the stream is so dropped, and what still comes of
+    /// it until it ends is acknowledged and dropped, too: so none of it takes room in the receive buffer, however much
+    /// is under way. By [`Profile::Port`](crate::Profile::Port) it takes room until the stream ends, and may leave the
+    /// buffer exhausted, which ends the association.
     ///
     /// Errors: `Failed`, `NoStream`, `CannotReset`; `NoMemory`: the association failed.
     pub fn stop(&mut self) -> Result<(), Error> {
         self.association.slot.stop(self.id)
     }
 
-    /// Closes both halves: first as [`finish`](Stream::finish), and then as [`stop`](Stream::stop) does.
+    /// Closes both halves: first as [`finish`](Stream::finish), and then as [`stop`](Stream::stop) does, which says
+    /// what becomes of what is unread or under way.
     ///
     /// Errors: those of `stop`.
     pub fn close(&mut self) -> Result<(), Error> {

@@ -57,8 +57,8 @@ pub enum End {
     AbortCame(Cause),
     /// Another fault of the peer: an ERROR, or a chunk that breaks the protocol.
     Fault,
-    /// The receive buffer is full of what can never be read. [`Event::Lost`](crate::Event::Lost) tells it; until that
-    /// is polled this is [`End::Fault`].
+    /// The receive buffer is full of what can never be read. If a read or a stop left it so, this is told from
+    /// [`Event::Lost`](crate::Event::Lost) on.
     BufferExhausted,
 }
 

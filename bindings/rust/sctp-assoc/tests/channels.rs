@@ -334,7 +334,7 @@ fn an_end_is_told_and_no_channel_is_left() -> Result<()> {
     Ok(())
 }
 
-/// What the events of an association say of its end is known, too, if channels take them.
+/// The end of an association is known, too, if channels take the events that tell it.
 #[test]
 fn a_receive_buffer_that_is_exhausted_is_told() -> Result<()> {
     let mut config = Config::default();
@@ -349,6 +349,7 @@ fn a_receive_buffer_that_is_exhausted_is_told() -> Result<()> {
         let now = sides.link.now;
         sides.link.ends[0].handle_timeout(now)?;
     }
+    assert_eq!(sides.link.ends[1].end(), Some(End::BufferExhausted));
     assert_eq!(sides.events(1)?.last(), Some(&Event::Lost { reason: Reason::BufferExhausted }));
     assert_eq!(sides.link.ends[1].end(), Some(End::BufferExhausted));
     Ok(())

@@ -76,6 +76,15 @@ fn refusing<T>(call: impl FnOnce() -> T) -> T {
     answer
 }
 
+/// Configurations of which one timeout has no whole millisecond.
+fn without_a_timeout() -> [Config; 3] {
+    let mut configs = [Config::default(), Config::default(), Config::default()];
+    configs[0].rto_initial = Duration::ZERO;
+    configs[1].rto_min = Duration::from_micros(999);
+    configs[2].rto_max = Duration::ZERO;
+    configs
+}
+
 fn refused_begin() {
     let now = Instant::now();
     let config = Config::default();
@@ -85,6 +94,11 @@ fn refused_begin() {
     let token = Token::new(&config, 1, 10);
     let narrow = Token { window: 1499, ..token };
     let error = |made: Result<Association, Error>| made.expect_err("it is refused");
+    for config in without_a_timeout() {
+        assert_eq!(error(Association::client(&config, &identity(1), now)), Error::BadTimeout);
+        assert_eq!(error(Association::server(&config, &identity(1), now)), Error::BadTimeout);
+        assert_eq!(error(Association::joined(&config, &token, &token, now)), Error::BadTimeout);
+    }
     assert_eq!(error(Association::client(&too_small, &identity(1), now)), Error::BadPayloadSize);
     assert_eq!(error(Association::server(&config, &without_tsn, now)), Error::BadInitialTsn);
     assert_eq!(error(Association::joined(&config, &token, &narrow, now)), Error::BadToken);

@@ -106,6 +106,7 @@ fn a_receive_buffer_that_is_exhausted_is_told() -> Result<(), Error> {
         link.settle()?;
         link.ends[0].handle_timeout(link.now)?;
     }
+    assert_eq!(link.ends[1].end(), Some(End::BufferExhausted));
     while link.ends[1].poll_event()?.is_some() {}
     assert_eq!(link.ends[1].end(), Some(End::BufferExhausted));
     Ok(())

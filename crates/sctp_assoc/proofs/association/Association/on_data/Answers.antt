@@ -1,14 +1,16 @@
-use Rattle.std.proofs.Common.{rules, ◌≡◌, ◌∙◌, true}
+use Rattle.std.proofs.Common.{rules, ◌≡◌, ◌∙◌, subst, sym, Bool, true, false}
 use Rattle.std.proofs.lemmas.Result.{IfOk-weaker, on_err_weaker}
 use Rattle.sctp_inbound.specs.Receiver.{is_new_to}
 use Rattle.sctp_outbound.proofs.SenderSteps.{on_err}
 use Rattle.sctp_resets.specs.Resets.{is_hidden}
 use Rattle.sctp_assoc.specs.declared.inbound.Flow.{Flow}
-use Rattle.sctp_assoc.specs.Chunks.{asks_or_faults, counted_data, deferred_where_admitted, on_data, stream_found}
+use Rattle.sctp_assoc.specs.Chunks.{asks_or_faults, counted_data, deferred_where_admitted, is_left, is_there}
+use Rattle.sctp_assoc.specs.Chunks.{nobody_reads, on_data, stream_found}
 use Rattle.sctp_assoc.specs.Resets.{settling_takes_memory}
-use Rattle.sctp_assoc.proofs.HiddenData.{data_is_deferred}
+use Rattle.sctp_assoc.proofs.HiddenData.{data_is_deferred, data_is_taken}
 use Rattle.sctp_assoc.proofs.MemoryTaken.{found_receiver, found_resets, hidden_takes, settling_takes, taking_takes}
 use Rattle.sctp_assoc.proofs.TakingSettles.{same_resets, settles_on, taking_settles}
+use Rattle.sctp_assoc.proofs.UnreadData.{found_reads}
 use Rattle.sctp_assoc.proofs.association.Association.on_data.Goals as goal
 
 pub returns-in_err-fault-clause-grows : goal.returns-in_err-fault-clause-grows
@@ -37,26 +39,74 @@ returns-then-is_hidden-clause-grows c =
     search rules in
     on_err c.ask_or_fault.result (hidden_takes c.args.self.now c.args.piece hidden)
 
-pub take_where_admitted-requires : goal.take_where_admitted-requires
-take_where_admitted-requires c =
+pub take_where_admitted-requires-clause-new : goal.take_where_admitted-requires-clause-new
+take_where_admitted-requires-clause-new c =
+    let there : is_there c.in_ok-found.found ≡ true = search rules in
+    let step : stream_found (counted_data c.args.self.now) c.args.piece.stream_identifier
+    ≡ (c.find_stream.new.self, is_there c.in_ok-found.found) = search rules in
     let found : stream_found (counted_data c.args.self.now) c.args.piece.stream_identifier
-    ≡ (c.has_stream.new.self, true) = search rules in
+    ≡ (c.find_stream.new.self, true) =
+    subst (λ (b : Bool). stream_found (counted_data c.args.self.now) c.args.piece.stream_identifier
+    ≡ (c.find_stream.new.self, b)) there step in
     let next : is_new_to c.args.self.now.receiver c.args.piece.tsn ≡ true = search rules in
-    rw (found_receiver (counted_data c.args.self.now) c.has_stream.new.self c.args.piece.stream_identifier found) next
+    rw (found_receiver (counted_data c.args.self.now) c.find_stream.new.self c.args.piece.stream_identifier found) next
+
+pub take_where_admitted-requires-clause-left : goal.take_where_admitted-requires-clause-left
+take_where_admitted-requires-clause-left c =
+    let there : is_there c.in_ok-found.found ≡ true = search rules in
+    let step : stream_found (counted_data c.args.self.now) c.args.piece.stream_identifier
+    ≡ (c.find_stream.new.self, is_there c.in_ok-found.found) = search rules in
+    let found : stream_found (counted_data c.args.self.now) c.args.piece.stream_identifier
+    ≡ (c.find_stream.new.self, true) =
+    subst (λ (b : Bool). stream_found (counted_data c.args.self.now) c.args.piece.stream_identifier
+    ≡ (c.find_stream.new.self, b)) there step in
+    let left : is_left c.in_ok-found.found
+    ≡ nobody_reads c.args.self.now.profile c.args.self.now.streams c.args.piece.stream_identifier = search rules in
+    c.is_left.ensures ∙ left
+    ∙ sym (found_reads (counted_data c.args.self.now) c.find_stream.new.self c.args.piece.stream_identifier found)
 
 pub returns-in_err-fault-2-clause-grows : goal.returns-in_err-fault-2-clause-grows
 returns-in_err-fault-2-clause-grows c =
     let next : is_new_to c.args.self.now.receiver c.args.piece.tsn ≡ true = search rules in
+    let there : is_there c.in_ok-found.found ≡ true = search rules in
+    let step : stream_found (counted_data c.args.self.now) c.args.piece.stream_identifier
+    ≡ (c.find_stream.new.self, is_there c.in_ok-found.found) = search rules in
     let found : stream_found (counted_data c.args.self.now) c.args.piece.stream_identifier
-    ≡ (c.has_stream.new.self, true) = search rules in
+    ≡ (c.find_stream.new.self, true) =
+    subst (λ (b : Bool). stream_found (counted_data c.args.self.now) c.args.piece.stream_identifier
+    ≡ (c.find_stream.new.self, b)) there step in
     on_err c.from_residual-in_err-fault-2.result
-    (taking_takes c.args.self.now c.has_stream.new.self c.args.piece next found c.in_err-fault-2.ensures.grows)
+    (taking_takes c.args.self.now c.find_stream.new.self c.args.piece next found c.in_err-fault-2.ensures.grows)
+
+pub returns-clause-exact : goal.returns-clause-exact
+returns-clause-exact c =
+    let next : is_new_to c.args.self.now.receiver c.args.piece.tsn ≡ true = search rules in
+    let read : is_hidden c.args.self.now.resets c.args.piece.stream_identifier c.args.piece.tsn ≡ false =
+    search rules in
+    let there : is_there c.in_ok-found.found ≡ true = search rules in
+    let step : stream_found (counted_data c.args.self.now) c.args.piece.stream_identifier
+    ≡ (c.find_stream.new.self, is_there c.in_ok-found.found) = search rules in
+    let found : stream_found (counted_data c.args.self.now) c.args.piece.stream_identifier
+    ≡ (c.find_stream.new.self, true) =
+    subst (λ (b : Bool). stream_found (counted_data c.args.self.now) c.args.piece.stream_identifier
+    ≡ (c.find_stream.new.self, b)) there step in
+    let same : on_data c.args.self.now c.args.piece c.args.trigger
+    ≡ asks_or_faults (c.take_where_admitted.new.self, c.in_ok-fault-2.fault) c.args.piece.immediate_sack
+    c.args.trigger =
+    data_is_taken c.args.self.now c.find_stream.new.self c.take_where_admitted.new.self c.args.piece c.args.trigger
+    c.in_ok-fault-2.fault next read found c.in_ok-fault-2.ensures.exact in
+    IfOk-weaker c.ask_or_fault-2.result _ _ (λ (flow : Flow) e. same ∙ e) c.ask_or_fault-2.ensures.exact
 
 pub returns-clause-grows : goal.returns-clause-grows
 returns-clause-grows c =
+    let there : is_there c.in_ok-found.found ≡ true = search rules in
+    let step : stream_found (counted_data c.args.self.now) c.args.piece.stream_identifier
+    ≡ (c.find_stream.new.self, is_there c.in_ok-found.found) = search rules in
     let found : stream_found (counted_data c.args.self.now) c.args.piece.stream_identifier
-    ≡ (c.has_stream.new.self, true) = search rules in
-    let b = c.has_stream.new.self in
+    ≡ (c.find_stream.new.self, true) =
+    subst (λ (b : Bool). stream_found (counted_data c.args.self.now) c.args.piece.stream_identifier
+    ≡ (c.find_stream.new.self, b)) there step in
+    let b = c.find_stream.new.self in
     let taken = c.take_where_admitted.new.self in
     let no_more =
     settles_on c.args.self.now b taken

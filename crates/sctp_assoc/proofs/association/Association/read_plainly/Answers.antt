@@ -3,6 +3,6 @@ use Rattle.sctp_assoc.proofs.association.Association.read_plainly.Goals as goal
 
 pub returns-clause-ok : goal.returns-clause-ok
 returns-clause-ok c =
-    read_without_end c.args.self.now c.relieve_if.new.self c.args.id c.read-message.new.self c.read-message.result
+    read_without_end c.args.self.now c.ease_if.new.self c.args.id c.read-message.new.self c.read-message.result
     c.requires (rw (← c.self.view_is) c.read-message.ensures)
-    (rw (← c.self.view_is, ← c.is_some.ensures) c.in_ok-relieve_if.ensures.ok)
+    (rw (← c.credit-credit.ensures, ← c.self.view_is, ← c.is_some.ensures) c.in_ok-ease_if.ensures.ok)

@@ -1,0 +1,9 @@
+use Rattle.std.proofs.Common.{rules, ◌≡◌}
+use Rattle.sctp_driver.proofs.StreamsStopped.{closed_on}
+use Rattle.sctp_driver.proofs.lending.close_stream.Goals as goal
+
+pub returns-clause-ok : goal.returns-clause-ok
+returns-clause-ok c =
+    closed_on {x = c.close.new.self.association.now} {a = c.in_ok-stream.stream.association.now}
+    {b = c.args.association.now} {i = c.in_ok-stream.stream.id} {j = c.args.id} c.in_ok-stream.ensures.ok
+    c.in_ok-stream.ensures.id (search rules) c.close.result c.close.ensures.ok
