@@ -84,9 +84,6 @@ static const struct {
     {"dead_resets", OF(RESET_AFTER_FAILED),
      "A request that was given up leaves the Re-configuration Request Sequence Numbers of both sides apart, and the "
      "peer performs none of the later ones."},
-    {"forgotten_skip", OF(EXHAUSTED_SKIPPED) | OF(UNREAD_SKIPPED) | OF(UNREAD) | OF(EXHAUSTED),
-     "An entry of a FORWARD TSN for a stream of which no DATA came is forgotten, and the ordered messages behind the "
-     "one that it passed over wait for its SSN."},
     {"unused", OF(RESET_UNUSED) | OF(RESET),
      "A request for a stream of which no DATA came is performed, and the other half is not reset in answer."},
     {"unused_abandoned", 0, "The same, where all DATA of the stream was abandoned."},
@@ -98,10 +95,6 @@ static const struct {
      "A copy of an INIT that comes in the state COOKIE-ECHOED sets back the Cumulative TSN Ack Point."},
     {"retiring", OF(UNREAD) | OF(EXHAUSTED),
      "Closing a stream of which a reset use is still to be read drops the DATA of the next use, too."},
-    {"reopened", 0,
-     "Once T3-rtx has expired, the probe that is in flight fills a congestion window of one packet, and a SACK that "
-     "opens the peer's window lets nothing go before T3-rtx, which backed off, expires again."},
-    {"reopened_limited", 0, "Probes of a closed window that are answered count against the limit of retransmissions."},
     {"burst", 0, "After T3-rtx expired, marked DATA goes out in one poll after another past the congestion window."},
     {"burst_full", 0, "DATA that is marked to go out again counts as outstanding against the peer's window."},
     {"lost_complete", 0,

@@ -23,14 +23,20 @@ static void tells_window(uint32_t window) {
     CHECK(!sends());
 }
 
-/* Two ends of this profile, of which B has so long a buffer and reads nothing. A opens the stream. */
-static void begin(uint32_t profile, uint32_t buffer) {
+/* Two ends of this profile and this limit of timeouts in a row, of which B has so long a buffer and reads nothing. A
+ * opens the stream. */
+static void begin_limited(uint32_t profile, uint32_t buffer, size_t limit) {
     config = default_config();
     config.profile = profile;
     config.max_receive_buffer_size = buffer;
+    config.max_data_retransmits = limit;
     join();
     is_reading[B] = false;
     CHECK(opens(A, STREAM));
+}
+
+static void begin(uint32_t profile, uint32_t buffer) {
+    begin_limited(profile, buffer, SCTP_ASSOC_NO_LIMIT);
 }
 
 /* ---- A reader that pauses ---- */
@@ -42,17 +48,17 @@ static const struct pause {
     size_t length; /* of each message, in bytes */
     unsigned count;
     uint64_t ms;
-    bool has_expired; /* T3-rtx did, and a probe fills the congestion window: A waits until T3-rtx expires once more */
 } pauses[] = {
-    {"long messages for 500 ms", 100000, 50000, 4, 500, false},
-    {"long messages for 900 ms", 100000, 50000, 4, 900, false},
-    {"long messages for 10 s", 100000, 50000, 4, 10000, true},
-    {"short messages for 500 ms", 100000, 100, 2000, 500, false},
-    {"a buffer of a few packets for 500 ms", 20000, 1000, 60, 500, false},
-    {"a buffer of a few packets for 10 s", 20000, 1000, 60, 10000, true},
-    {"a buffer of two packets for 500 ms", 5000, 1000, 20, 500, false},
-    {"a buffer of one packet for 300 ms", 1500, 1000, 8, 300, false},
-    {"a buffer of one packet for 10 s", 1500, 1000, 8, 10000, true},
+    {"long messages for 500 ms", 100000, 50000, 4, 500},
+    {"long messages for 900 ms", 100000, 50000, 4, 900},
+    {"long messages for 10 s", 100000, 50000, 4, 10000},
+    {"long messages for 200 s", 100000, 50000, 4, 200000},
+    {"short messages for 500 ms", 100000, 100, 2000, 500},
+    {"a buffer of a few packets for 500 ms", 20000, 1000, 60, 500},
+    {"a buffer of a few packets for 10 s", 20000, 1000, 60, 10000},
+    {"a buffer of two packets for 500 ms", 5000, 1000, 20, 500},
+    {"a buffer of one packet for 300 ms", 1500, 1000, 8, 300},
+    {"a buffer of one packet for 10 s", 1500, 1000, 8, 10000},
 };
 
 /* B reads nothing until A's window is closed, and then all that came. */
@@ -68,10 +74,30 @@ static void goes_on_behind(const struct pause *pause, uint32_t profile) {
     if (profile == SCTP_ASSOC_PROFILE_RFC)
         tells_window(pause->buffer);
     CHECK(!sends());
-    bool is_soon = is_acknowledged_within(A, STREAM, SOON);
-    CHECK(pause->has_expired || is_soon == (profile == SCTP_ASSOC_PROFILE_RFC));
+    CHECK(is_acknowledged_within(A, STREAM, SOON) == (profile == SCTP_ASSOC_PROFILE_RFC));
     pass(60000);
     CHECK(is_acknowledged(A, STREAM) && read_counts[B][STREAM] == pause->count && goes_on());
+    end_pair();
+}
+
+/* While B's window is closed, A's probes are dropped. By the rules of the RFCs they are no failures and say nothing of
+ * the network: the limit of timeouts in a row is not met, and the congestion window stays. By those of the port A gives
+ * up, with a window of one packet. */
+static void probes_are_answered(uint32_t profile) {
+    sctp_assoc_path_values path;
+    begin_limited(profile, 20000, 3);
+    CHECK(writes_many(A, STREAM, 1000, 60));
+    pass(500);
+    CHECK(done(sctp_assoc_path(&ends[A], &path)) && path.peer_window == 0);
+    uint32_t window = path.congestion_window;
+    pass(100000);
+    CHECK(done(sctp_assoc_path(&ends[A], &path)) && path.peer_window == 0 && window > 4000);
+    CHECK(path.congestion_window == (profile == SCTP_ASSOC_PROFILE_RFC ? window : 1228));
+    is_reading[B] = true;
+    read_all(B);
+    CHECK(is_acknowledged_within(A, STREAM, SOON) == (profile == SCTP_ASSOC_PROFILE_RFC));
+    pass(100000);
+    CHECK(is_acknowledged(A, STREAM) == (profile == SCTP_ASSOC_PROFILE_RFC));
     end_pair();
 }
 
@@ -159,6 +185,7 @@ static void by_profile(uint32_t profile) {
         tried = pauses[i].name;
         goes_on_behind(&pauses[i], profile);
     }
+    TRY(probes_are_answered(profile));
     TRY(goes_on_message_by_message(profile));
     for (size_t i = 0; i < COUNT_OF(openings); i++)
         for (int is_short_first = 0; is_short_first < 2; is_short_first++)

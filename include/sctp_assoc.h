@@ -142,8 +142,10 @@ typedef struct sctp_assoc_config {
     uint64_t rto_min_ms;
     uint64_t rto_max_ms;
     size_t max_init_retransmits;       /* how often INIT and COOKIE ECHO go out again; SCTP_ASSOC_NO_LIMIT */
-    size_t max_data_retransmits;       /* timeouts in a row after which DATA is no longer sent again; nothing tells of
-                                        * that, so bound the wait for an acknowledgement; SCTP_ASSOC_NO_LIMIT */
+    size_t max_data_retransmits;       /* timeouts in a row after which DATA is no longer sent again, by
+                                        * SCTP_ASSOC_PROFILE_RFC but for those whose DATA the peer answered with a
+                                        * closed window; nothing tells of that, so bound the wait for an
+                                        * acknowledgement; SCTP_ASSOC_NO_LIMIT */
 } sctp_assoc_config;
 
 /* Writes the defaults: buffer 1,048,576, messages 65,536, streams 65,535, ports 5000, the profile of the RFCs, timeouts
@@ -293,7 +295,8 @@ sctp_assoc_code sctp_assoc_handle_timeout(sctp_assoc *slot, uint64_t now);
 #define SCTP_ASSOC_EVENT_LOST 3                 /* the association was closed; `reason` */
 #define SCTP_ASSOC_EVENT_DATAGRAM_RECEIVED 4    /* a DATA chunk was taken in; once for each */
 #define SCTP_ASSOC_EVENT_STREAM_ENDED 5         /* `stream` ended; `counters` are its last ones */
-#define SCTP_ASSOC_EVENT_OPENED 6               /* the peer opened `stream` by a message */
+#define SCTP_ASSOC_EVENT_OPENED 6               /* the peer opened `stream`, by a message, or by
+                                                 * SCTP_ASSOC_PROFILE_RFC also by one that it gave up */
 #define SCTP_ASSOC_EVENT_READABLE 7             /* messages of `stream` can be read: read until there is none */
 #define SCTP_ASSOC_EVENT_BUFFERED_LOW 8         /* the buffered amount of `stream` fell to its low mark or below, by a
                                                  * datagram or by what sctp_assoc_poll_transmit gave up */
@@ -472,8 +475,8 @@ sctp_assoc_code sctp_assoc_set_max_send_message_size(sctp_assoc *slot, uint32_t 
 sctp_assoc_code sctp_assoc_set_reliability(sctp_assoc *slot, uint16_t stream, bool unordered, uint32_t kind,
                                            uint32_t value);
 
-/* Writes the identifiers of the streams to the front of `ids`, ascending: those that this side opened, and those on
- * which the peer sent. `room` is how many identifiers fit, and `count` says how many there are. At NO_ROOM `ids` stays
+/* Writes the identifiers of the streams to the front of `ids`, ascending: those that this side opened, and those that
+ * the peer did. `room` is how many identifiers fit, and `count` says how many there are. At NO_ROOM `ids` stays
  * as it was. Codes: DONE, EMPTY_SLOT, NO_ROOM, FAILED, NO_MEMORY (nothing changed). */
 sctp_assoc_code sctp_assoc_stream_ids(sctp_assoc *slot, uint16_t *ids, size_t room, size_t *count);
 

@@ -96,9 +96,9 @@ typedef struct sctp_channels_options {
  * nothing here looks at that. It needs no established association: the channel's OPEN is written, or its stream opened
  * if it is negotiated, by the next sctp_channels_poll_event of an established one, and from then on it can be sent on;
  * until then sctp_channels_send answers NOT_OPEN. Identifiers stop at the streams on which this side may send: before
- * the handshake has agreed on their number, at as many as this side offers (`max_num_outbound_streams`). A channel whose
- * identifier lies past those that were agreed on SCTP_CHANNELS_EVENT_FAILED tells. Codes, refusals in this order and
- * with nothing changed: DONE, EMPTY_SLOT, LABEL_TOO_LONG, FAILED, LOST, IDENTIFIER_TAKEN, IDENTIFIER_PAST_STREAMS,
+ * the handshake has agreed on their number, at as many as this side offers (`max_num_outbound_streams`). A channel
+ * whose identifier lies past those that were agreed on SCTP_CHANNELS_EVENT_FAILED tells. Codes, refusals in this order
+ * and with nothing changed: DONE, EMPTY_SLOT, LABEL_TOO_LONG, FAILED, LOST, IDENTIFIER_TAKEN, IDENTIFIER_PAST_STREAMS,
  * NO_IDENTIFIER_LEFT, NO_MEMORY. */
 sctp_assoc_code sctp_channels_open(sctp_channels *slot, sctp_assoc *assoc, const sctp_channels_options *options,
                                    const uint8_t *label, size_t label_length, const uint8_t *protocol,
@@ -162,8 +162,8 @@ sctp_assoc_code sctp_channels_send(sctp_channels *slot, sctp_assoc *assoc, uint1
 
 /* Copies the next message of a channel, whole, to the front of the buffer, and writes its length, which may be 0, and
  * whether it is a text. At NO_ROOM the message stays, and `length` says how long it is. NOTHING also on a channel that
- * is not open yet. SCTP_CHANNELS_OTHER gives a message, too, by its length: one of a payload type that RFC 8831 does not
- * have, or that it has deprecated (of 52 and 54 each is a part of a message), which most programs pass over. DCEP
+ * is not open yet. SCTP_CHANNELS_OTHER gives a message, too, by its length: one of a payload type that RFC 8831 does
+ * not have, or that it has deprecated (of 52 and 54 each is a part of a message), which most programs pass over. DCEP
  * messages are dropped on the way; they may be told as NO_ROOM, too, and may have changed the buffer at any code but
  * EMPTY_SLOT and NO_CHANNEL. A second OPEN of the peer ends the channel. Codes: DONE, EMPTY_SLOT, NOTHING, NO_ROOM,
  * OTHER, NO_CHANNEL, FAILED, NO_MEMORY, and as of sctp_channels_close where a second OPEN came. */

@@ -54,6 +54,7 @@ use Rattle.sctp_reset_requests.specs.Own as own_requests
 use Rattle.sctp_reset_requests.specs.Own.{OwnView}
 use Rattle.sctp_resets.specs.Answers.{Answering, answering, failed_each, with_told}
 use Rattle.sctp_resets.specs.Resets.{Beside, ResetsView, event_told, given_up, given_up_where}
+use Rattle.sctp_assoc.specs.Probes.{opens_window, probes_answered}
 use Rattle.sctp_assoc.specs.Resets.{after_reconfig_timer, asks_again, gives_up, reconfig_expired, with_beside}
 use Rattle.sctp_assoc.specs.Calls.{accepted_from, accepted_stream, adjusted, after_ack_delay, after_t3, event_from}
 use Rattle.sctp_assoc.specs.Calls.{event_polled, opened}
@@ -69,7 +70,7 @@ use Rattle.sctp_assoc.specs.Chunks.{told, with_acknowledged}
 use Rattle.sctp_assoc.specs.Happened.{acts_after, acts_of_checked, acts_of_chunk, acts_of_chunks, acts_of_close}
 use Rattle.sctp_assoc.specs.Happened.{acts_of_kind, acts_of_packet, acts_of_packet_of}
 use Rattle.sctp_assoc.specs.Happened.{acts_of_outcome, acts_of_sack, acts_of_init, acts_of_init_ack}
-use Rattle.sctp_assoc.specs.Happened.{acts_of_t3, acts_of_timeouts}
+use Rattle.sctp_assoc.specs.Happened.{acts_of_t3, acts_of_timeouts, marks_if}
 use Rattle.sctp_assoc.specs.Handshake.{acknowledged_cookie, after_t1_init, answered, connected}
 use Rattle.sctp_assoc.specs.Handshake.{cookie_queued, echoed, information_returned, init_queued, learned, on_cookie_ack}
 use Rattle.sctp_assoc.specs.Handshake.{on_cookie_echo, on_heartbeat, on_init, on_init_ack, sends_cookie, sends_init}
@@ -83,6 +84,7 @@ pub use Rattle.sctp_assoc.proofs.ClosesLeadOn.{close_leads, exhausted_leads}
 pub use Rattle.sctp_assoc.proofs.Leading.{leads_beside, leads_by, leads_nowhere, leads_on, past_itself}
 use Rattle.sctp_assoc.proofs.MarksOutstanding.{AreMarkedRight, act_marked}
 use Rattle.sctp_assoc.proofs.PassesOver.{forward_leads}
+use Rattle.sctp_assoc.proofs.Probes.{probes_lead}
 use Rattle.sctp_assoc.proofs.ResetsLeadOn.{reconfig_leads as chunk_reconfig_leads}
 use Rattle.sctp_assoc.proofs.ActsKeepOffsets.{acts_tied}
 use Rattle.sctp_assoc.proofs.ActsKeepOffsets.{pieces_acknowledged}
@@ -169,24 +171,42 @@ module _ (a : Shown) (cumulative_tsn_ack : ℕ) (blocks : List GapAckBlock) (win
         tsn_small : (own base : ℕ) → tsn own base < 2 ^ 32
         tsn_small own base = omega arith
 
+    -- behind it probes are answered
+    probed_leads : tsns_up_to a.sender cumulative_tsn_ack ≤ length a.sender.queue.in_flight
+        → Leads (Act.Acknowledged (tsns_up_to a.sender cumulative_tsn_ack) blocks
+        (reports_of a.sender cumulative_tsn_ack blocks)
+        ∷ marks_if (opens_window a.profile a.sender.advertised_window window)) a h
+        (probes_answered a.sender.advertised_window window
+        (shutdown_continued (after_sack (counted_sack a) cumulative_tsn_ack blocks window now)))
+        (record h { base = h.base + tsns_up_to a.sender cumulative_tsn_ack })
+    probed_leads within =
+        let n = tsns_up_to a.sender cumulative_tsn_ack in
+        let taken = sack_taken_leads within in
+        leads_on (Act.Acknowledged n blocks (reports_of a.sender cumulative_tsn_ack blocks) ∷ [])
+        (marks_if (opens_window a.profile a.sender.advertised_window window)) taken
+        (probes_lead a.sender.advertised_window window
+        (shutdown_continued (after_sack (counted_sack a) cumulative_tsn_ack blocks window now))
+        (record h { base = h.base + n }) taken.binds)
+
     outcome_leads : (o : SackOutcome) → sack_outcome a.sender cumulative_tsn_ack blocks ≡ o
         → (k : History)
         × Leads (acts_of_outcome o (tsns_up_to a.sender cumulative_tsn_ack) blocks
-        (reports_of a.sender cumulative_tsn_ack blocks)) a h
+        (reports_of a.sender cumulative_tsn_ack blocks)
+        (opens_window a.profile a.sender.advertised_window window)) a h
         (on_counted_sack o (counted_sack a) cumulative_tsn_ack blocks window trigger now).0 k
     outcome_leads outcomes.Older e = (h, leads_nowhere a (counted_sack a) h binds refl refl)
     outcome_leads outcomes.NotInFlight e = (h, leads_nowhere a (counted_sack a) h binds refl refl)
     outcome_leads outcomes.NamesTheUnsent e = (h, leads_nowhere a (counted_sack a) h binds refl refl)
     outcome_leads outcomes.Taken e = (
       _,
-      sack_taken_leads
+      probed_leads
           (taken_within (tsn_gt (cumulative_tsn_ack_point_of a.sender) cumulative_tsn_ack)
           (nat_lt (length a.sender.queue.in_flight) (tsns_up_to a.sender cumulative_tsn_ack)) a.sender
           cumulative_tsn_ack blocks refl refl e),
     )
 
     sack_leads : (c : Bool) → sends_data a.state ≡ c
-        → (k : History) × Leads (acts_of_sack a cumulative_tsn_ack blocks) a h
+        → (k : History) × Leads (acts_of_sack a cumulative_tsn_ack blocks window) a h
         (on_sack a cumulative_tsn_ack blocks window trigger now).0 k
     unfolding on_sack
     sack_leads false e = rw e (h, leads_nowhere a a h binds refl refl)

@@ -33,7 +33,8 @@ use Rattle.sctp_assoc.proofs.ResetsLeadOn.{settling_leads, skipping_leads}
 use Rattle.sctp_assoc.proofs.StreamsFound.{stream_receiver}
 use Rattle.sctp_assoc.proofs.WhatCame.{came_on}
 
-stream_leads : (there left : Bool) (a : Shown) (id : ℕ) (h : History) → is_some (stream_at a.streams id) ≡ there
+-- a stream that is found, or made for what comes
+pub stream_leads : (there left : Bool) (a : Shown) (id : ℕ) (h : History) → is_some (stream_at a.streams id) ≡ there
     → generation_left a.streams ≡ left → Binds a h
     → Leads (acts_of_stream a id) a h (stream_found a id).0 h
 unfolding stream_found

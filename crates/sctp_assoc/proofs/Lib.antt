@@ -1,5 +1,6 @@
 mod BesideOne
 mod FilledBuffers
+mod FindsTold
 mod FreshHistory
 mod HiddenData
 mod MemoryTaken
@@ -33,6 +34,7 @@ pub mod PassesOver
 pub mod PolledData
 pub mod PolledSteps
 pub mod PollsLeadOn
+pub mod Probes
 pub mod QuietRequests
 pub mod ReadsLeadOn
 pub mod Replied

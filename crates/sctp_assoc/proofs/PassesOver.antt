@@ -12,7 +12,7 @@ use Rattle.sctp_inbound.specs.declared.receiver.AckTrigger.{AckTrigger}
 use Rattle.sctp_inbound.specs.Receiver.{asked, passed_to}
 use Rattle.sctp_streams.specs.Stream.{StreamView, stream_passed, stream_skipped}
 use Rattle.sctp_streams.specs.Streams.{StreamMap, becomes_ready_in, change_at, changed_stream, passed_each, passed_in}
-use Rattle.sctp_streams.specs.Streams.{stream_at}
+use Rattle.sctp_streams.specs.Streams.{generation_left, stream_at}
 use Rattle.sctp_streams.proofs.LowMarks.{at_with}
 use Rattle.sctp_generations.specs.Generations.{has_retiring}
 use Rattle.sctp_generations.specs.Retiring.{RetiringMap, boundaries_at}
@@ -28,7 +28,9 @@ use Rattle.sctp_assoc.specs.declared.skipping.Standing.{Standing}
 use Rattle.sctp_assoc.specs.declared.skipping.Standing.TheVariants as standings
 use Rattle.sctp_assoc.specs.Closing.{is_exhausted}
 use Rattle.sctp_assoc.specs.Control.{queued}
-use Rattle.sctp_assoc.specs.Happened.{acts_of_forward, acts_of_forward_at}
+use Rattle.sctp_assoc.specs.Finding.{found_at, found_for, found_if, makes_for}
+use Rattle.sctp_assoc.specs.Happened.{acts_of_finding, acts_of_finding_if, acts_of_forward, acts_of_forward_at}
+use Rattle.sctp_assoc.specs.Happened.{acts_of_passing}
 use Rattle.sctp_assoc.specs.Leads.{Binds, Leads}
 use Rattle.sctp_assoc.specs.ResetActs.{acts_of_keeping, acts_of_settling, spans_end_if}
 use Rattle.sctp_assoc.specs.Resets.{settled}
@@ -36,9 +38,11 @@ use Rattle.sctp_assoc.specs.Shown.{Shown, uses_forward_tsn}
 use Rattle.sctp_assoc.specs.Skipping.{acknowledged_at_once, asks_behind, is_ahead, on_forward, on_forward_at}
 use Rattle.sctp_assoc.specs.Skipping.{readable_told, standing_of}
 use Rattle.sctp_assoc.specs.Skipping.{unrecognized_chunk, with_passed, with_skip, with_skips}
+use Rattle.sctp_assoc.proofs.DataLeadsOn.{stream_leads}
 use Rattle.sctp_assoc.proofs.ForwardCame.{held_passes, last_tsn_passes, lies_ahead}
 use Rattle.sctp_assoc.proofs.Leading.{leads_nowhere, leads_on}
 use Rattle.sctp_assoc.proofs.ResetsLeadOn.{settling_leads, spans_end_leads, stays_leads}
+use Rattle.sctp_assoc.proofs.StreamsFound.{found_for_is}
 
 -- Skips
 
@@ -272,6 +276,28 @@ module _ (a : Shown) (t : ℕ) (es : List SkippedStream) (h : History) (binds : 
         (leads_on (acts_of_keeping t es a) (acts_of_settling (all_passed a t es)) two
         (settling_leads (all_passed a t es) k two.binds))
 
+-- The streams on which it skips are found or made before.
+
+finding_leads_if : (makes : Bool) (a : Shown) (id : ℕ) (h : History) → Binds a h
+    → Leads (acts_of_finding_if makes a id) a h (found_if makes a id) h
+finding_leads_if true a id h binds =
+    stream_leads (is_some (stream_at a.streams id)) (generation_left a.streams) a id h refl refl binds
+finding_leads_if false a id h binds = leads_nowhere a a h binds refl refl
+
+found_at_leads : (tsn id : ℕ) (a : Shown) (h : History) → Binds a h
+    → Leads (acts_of_finding_if (makes_for tsn id a) a id) a h (found_at tsn id a) h
+unfolding found_at
+found_at_leads tsn id a h binds = finding_leads_if (makes_for tsn id a) a id h binds
+
+finding_leads : (tsn : ℕ) (es : List SkippedStream) (a : Shown) (h : History) → Binds a h
+    → Leads (acts_of_finding tsn es a) a h (found_for tsn es a) h
+finding_leads tsn [] a h binds = leads_nowhere a a h binds refl refl
+finding_leads tsn (e ∷ es) a h binds =
+    let id = e.stream_identifier in
+    let one = found_at_leads tsn id a h binds in
+    leads_on (acts_of_finding_if (makes_for tsn id a) a id) (acts_of_finding tsn es (found_at tsn id a)) one
+    (finding_leads tsn es (found_at tsn id a) h one.binds)
+
 asks_keeps_if : (e : Bool) (a : Shown) (f g : Flow) → (if◌then◌else◌ {A = Shown × Flow} e (a, f) (a, g)).0 ≡ a
 asks_keeps_if true a f g = refl
 asks_keeps_if false a f g = refl
@@ -301,11 +327,17 @@ standing_leads standings.Unused a t es trigger now h e binds =
 standing_leads standings.Behind a t es trigger now h e binds =
     (h, leads_nowhere a (acknowledged_at_once a now) h binds refl refl)
 standing_leads standings.Ahead a t es trigger now h e binds =
-    let ahead = ahead_from (uses_forward_tsn a) (is_ahead a t) (ap is_standing_ahead e) in
-    let b : Shown = all_passed a t es in (
-      passed_on h (offset_in h t),
-      subst (λ (z : Shown). Leads (acts_of_forward_at standings.Ahead a t es) a h z (passed_on h (offset_in h t)))
-          (sym (asks_behind_keeps (settled b) trigger)) (ahead_leads a t es h binds ahead),
+    let b : Shown = found_for t es a in
+    let found : Leads (acts_of_finding t es a) a h b h = finding_leads t es a h binds in
+    let ahead : is_ahead b t ≡ true =
+    ap (λ (z : Shown). is_ahead z t) (found_for_is t es a)
+    ∙ ahead_from (uses_forward_tsn a) (is_ahead a t) (ap is_standing_ahead e) in
+    let d : Shown = all_passed b t es in
+    let k : History = passed_on h (offset_in h t) in (
+      k,
+      leads_on (acts_of_finding t es a) (acts_of_passing b t es) found
+          (subst (λ (z : Shown). Leads (acts_of_passing b t es) b h z k)
+          (sym (asks_behind_keeps (settled d) trigger)) (ahead_leads b t es h found.binds ahead)),
     )
 
 pub forward_leads : (a : Shown) (t : ℕ) (es : List SkippedStream) (trigger : AckTrigger) (now : ℕ) (h : History)

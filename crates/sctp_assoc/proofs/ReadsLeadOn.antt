@@ -85,7 +85,8 @@ easing_leads : (a : Shown) (id : ℕ) (streams : StreamMap) (h : History) → Bi
     (eased (credit_in a) (drained_behind a id streams)) h
 easing_leads a id streams h binds =
     let b : Shown = drained_behind a id streams in
-    told_leads (tells_window (credit_in a) (relieved b)) (if is_exhausted b then acts_of_close a else []) b (relieved b) h
+    told_leads (tells_window (credit_in a) (relieved b)) (if is_exhausted b then acts_of_close a else []) b (relieved b)
+    h
     (relief_leads a id streams h binds)
 
 after_read_leads : (x : StreamMap × Option ReceivedMessage) (a : Shown) (id : ℕ) (h : History)

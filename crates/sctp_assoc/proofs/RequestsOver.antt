@@ -35,7 +35,8 @@ module _ (over : ℕ → Bool) where
   made_over a own false w = w
 
   placed_over : (a : Shown) (packets : List (List ℕ)) (own : OwnView) (request : Option ParamOutgoingResetRequest)
-      → OwnOver over own → OwnOver over (with_request_placed (a, packets) (with_own a.resets (own, request))).0.resets.own
+      → OwnOver over own → OwnOver over (with_request_placed (a, packets)
+      (with_own a.resets (own, request))).0.resets.own
   placed_over a packets own None w = w
   placed_over a packets own (Some request) w = w
 

@@ -23,7 +23,8 @@ pub both_again : (a b c : Shown) (before packets : List (List ℕ)) → after_bo
     → AreRequestsReadAgain (header_of a.handshake) (requests_of a)
 both_again a b c before packets repeats made again first =
     let there : c ≡ request_made (repeat_polled a).0 =
-    made ∙ ap request_made (sym (ap (λ (z : Shown × List (List ℕ)). z.0) repeats) ∙ both_first before (repeat_polled a)) in
+    made ∙ ap request_made (sym (ap (λ (z : Shown × List (List ℕ)). z.0) repeats) ∙ both_first before
+    (repeat_polled a)) in
     let d = request_made (repeat_polled a).0 in
     let here : AreRequestsReadAgain (header_of d.handshake) (first_listed (length d.control == 0) d) =
     subst (λ (z : Shown). AreRequestsReadAgain (header_of z.handshake) (first_listed (length z.control == 0) z)) there

@@ -16,7 +16,8 @@ settles_plainly a none =
     let parts =
     or_parts (is_one_due a.resets.peer.in_progress a.receiver.peer_last_tsn) (has_skips a.resets.generations) none in
     ap (λ (x : Resetting × Option Settled). skips_applied (settled_with a x))
-    (nothing_settled a.receiver.peer_last_tsn a.sender.queue.next_message_id a.receiver.max_receive_message_size a.resets
+    (nothing_settled a.receiver.peer_last_tsn a.sender.queue.next_message_id a.receiver.max_receive_message_size
+    a.resets
     (channels_of a) parts.0)
     ∙ ap (with_beside a) (skips_plainly a.resets a.streams a.events parts.1)
 

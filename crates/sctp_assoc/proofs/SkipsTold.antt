@@ -12,7 +12,8 @@ use Rattle.sctp_assoc.proofs.MemoryTaken.{first_skip_takes, later_skip_takes}
 one_on : (i : ℕ) → suc i ≡ i + 1
 one_on i = omega arith
 
-skips_from : (xs : List SkippedStream) (i : ℕ) (d : SkippedStream) → i < length xs
+-- the skips from an index on are the one there and those behind it
+pub skips_from : (xs : List SkippedStream) (i : ℕ) (d : SkippedStream) → i < length xs
     → drop i xs ≡ get_or xs i d ∷ drop (i + 1) xs
 skips_from xs i d below =
     drop-cons xs i d below ∙ ap (λ k. get_or xs i d ∷ drop k xs) (one_on i)
@@ -36,7 +37,7 @@ module _ (tsn : ℕ) (xs : List SkippedStream) (i : ℕ) (d : SkippedStream) (a 
         (subst (λ z. some_takes_memory tsn (drop (i + 1) xs) z ≡ true) is told)),
   )
 
-entries_from : (es : List IForwardTsnEntry) (i : ℕ) (d : IForwardTsnEntry) → i < length es
+pub entries_from : (es : List IForwardTsnEntry) (i : ℕ) (d : IForwardTsnEntry) → i < length es
     → (get_or es i d).unordered ≡ false → skips_of (drop i es) ≡ skip_of (get_or es i d) ∷ skips_of (drop (i + 1) es)
 entries_from es i d below ordered =
     ap skips_of (drop-cons es i d below ∙ ap (λ k. get_or es i d ∷ drop k es) (one_on i)) ∙ rw ordered refl

@@ -148,7 +148,8 @@ nothing_is_read a id e none =
     ap (after_read a id) (none_at (stream_at a.streams id) a.streams id refl e)
     ∙ ap (λ (z : Shown). (z, None)) (drained_plainly a id a.streams none)
 
--- A read of a stream of which no generation ended takes its next message out, and closes where that exhausts the buffer.
+-- A read of a stream of which no generation ended takes its next message out, and closes where that exhausts the
+-- buffer.
 
 read_where_none_ended : (a : Shown) (id : ℕ) (x : StreamMap × Option ReceivedMessage) → is_retiring a.resets id ≡ false
     → after_read a id x ≡ (eased_if (is_some x.1) (credit_in a) (record a { streams = x.0 }), x.1)

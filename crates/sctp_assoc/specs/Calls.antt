@@ -22,7 +22,6 @@ use Rattle.sctp_streams.specs.declared.event.Event.TheVariants as events
 use Rattle.sctp_streams.specs.declared.setting.Setting.{Setting}
 use Rattle.sctp_outbound_queue.specs.Outbound.{with_message}
 use Rattle.sctp_outbound.specs.Forward.{forward_asked}
-use Rattle.sctp_outbound.specs.Sender.{after_t3_timeout}
 use Rattle.sctp_outbound_queue.specs.Waiting.{Waiting}
 use Rattle.sctp_receive_queues.specs.Messages.{ReceivedMessage}
 use Rattle.sctp_receive_queues.specs.Reassembly.{ready}
@@ -35,6 +34,7 @@ use Rattle.sctp_resets.specs.Channels.{channels}
 use Rattle.sctp_resets.specs.Resets.{ResetsView, event_told, is_blocked, is_retiring, read_out, stopped_reading}
 use Rattle.sctp_resets.specs.Resets.{waiting_for}
 use Rattle.sctp_assoc.specs.Closing.{is_exhausted, relieved}
+use Rattle.sctp_assoc.specs.Probes.{timed_out_sender}
 use Rattle.sctp_assoc.specs.Resets.{with_beside, with_resetting}
 use Rattle.sctp_assoc.specs.Shown.{HasFailed, Shown, all_waiting, answers_of, uses_forward_tsn}
 
@@ -106,11 +106,12 @@ is_cookie_echoed states.ShutdownReceived = false
 is_cookie_echoed states.ShutdownSent = false
 
 -- the retransmission timer expired: all that is in flight is to be sent again (RFC 4960 section 6.3.3), and FORWARD TSN
--- is due where what is abandoned stands in front of it (RFC 3758 section 3.5)
+-- is due where what is abandoned stands in front of it (RFC 3758 section 3.5); the congestion window falls, unless it
+-- was a probe
 abbrev pub retransmits : Shown → ℕ → Shown
 retransmits a now = record a {
   counts = (let c = a.counts in record c { t3timeouts = one_more c.t3timeouts });
-  sender = forward_asked (uses_forward_tsn a) (after_t3_timeout a.sender);
+  sender = forward_asked (uses_forward_tsn a) (timed_out_sender a);
   timers = started names.T3RTX now a.estimate.rto a.timers;
 }
 
@@ -189,8 +190,8 @@ credit_in a = credit_of a.receiver (all_waiting a)
 abbrev pub twice_open : Shown → ℕ
 twice_open a = min (4 * a.sender.mtu) a.receiver.buffer_size
 
--- By the rules of the RFCs a window that opens is told at once, since the peer may wait for that alone (RFC 4960 section
--- 6.2 lets a receiver do so): twice the credit was less than `twice_open` says before, and no longer is.
+-- By the rules of the RFCs a window that opens is told at once, since the peer may wait for that alone (RFC 4960
+-- section 6.2 lets a receiver do so): twice the credit was less than `twice_open` says before, and no longer is.
 unfoldable pub tells_window : ℕ → Shown → Bool
 tells_window before a =
     is_rfc a.profile && nat_lt (2 * before) (twice_open a) && nat_le (twice_open a) (2 * credit_in a)
@@ -201,8 +202,8 @@ abbrev pub told_if : Bool → Shown → Shown
 told_if true a = record a { receiver = acknowledged_at_once a.receiver; timers = with_stopped names.Ack a.timers }
 told_if false a = a
 
--- What is left by a read that gave a message, or by a stop: a receive buffer that is exhausted closes, and a window that
--- opened is told. This was the credit before the call.
+-- What is left by a read that gave a message, or by a stop: a receive buffer that is exhausted closes, and a window
+-- that opened is told. This was the credit before the call.
 abbrev pub eased : ℕ → Shown → Shown
 eased before a = told_if (tells_window before (relieved a)) (relieved a)
 

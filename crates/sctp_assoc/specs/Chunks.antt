@@ -34,13 +34,16 @@ use Rattle.sctp_outbound.specs.declared.sender.SackOutcome.{SackOutcome}
 use Rattle.sctp_outbound.specs.declared.sender.SackOutcome.TheVariants as outcomes
 use Rattle.sctp_outbound.specs.Sender.{sack_outcome, t3_after_sack}
 use Rattle.sctp_resets.specs.Resets.{is_hidden, refusal_of, with_deferred}
-use Rattle.sctp_assoc.specs.declared.inbound.Found.{Found}
-use Rattle.sctp_assoc.specs.declared.inbound.Found.TheVariants as founds
+use Rattle.sctp_assoc.specs.declared.intake.Found.{Found}
+use Rattle.sctp_assoc.specs.declared.intake.Found.TheVariants as founds
 use Rattle.sctp_assoc.specs.declared.inbound.Flow.{Flow}
 use Rattle.sctp_assoc.specs.declared.inbound.Flow.TheVariants as flows
 use Rattle.sctp_assoc.specs.Calls.{holds_at, sends_data}
 use Rattle.sctp_assoc.specs.Closing.{closed_by, exhausted, is_exhausted}
+unfoldable pub use Rattle.sctp_assoc.specs.Finding.{stream_found}
+pub use Rattle.sctp_assoc.specs.Finding.{with_new_stream}
 use Rattle.sctp_assoc.specs.Handshake.{on_cookie_ack, on_cookie_echo, on_heartbeat, on_init, on_init_ack}
+use Rattle.sctp_assoc.specs.Probes.{probes_answered}
 use Rattle.sctp_assoc.specs.Resets.{on_reconfig, settled, skips_applied_of}
 use Rattle.sctp_assoc.specs.Shown.{Shown, all_waiting, uses_forward_tsn}
 use Rattle.sctp_assoc.specs.Shutdown.{on_shutdown, on_shutdown_ack, on_shutdown_complete, shutdown_continued}
@@ -50,19 +53,6 @@ use Rattle.sctp_assoc.specs.Skipping.{on_forward, skips_of}
 
 abbrev pub counted_data : Shown → Shown
 counted_data a = record a { counts = (let c = a.counts in record c { datas = one_more c.datas }) }
-
-abbrev pub with_new_stream : Shown → ℕ → Shown
-with_new_stream a id = record a {
-  streams = made a.streams id a.sender.queue.next_message_id kinds.Unknown;
-  to_accept = a.to_accept ++ id ∷ [];
-  events = a.events ++ events.Stream (Opened id) ∷ [];
-}
-
--- the stream of an identifier is live, or is made with the event Opened; false where no generation is left for it
-unfoldable pub stream_found : Shown → ℕ → Shown × Bool
-stream_found a id =
-    if is_some (stream_at a.streams id) then (a, true) else
-    if not (generation_left a.streams) then (a, false) else (with_new_stream a id, true)
 
 -- the stream to which DATA comes is live
 abbrev pub is_there : Found → Bool
@@ -215,12 +205,15 @@ on_counted_sack outcomes.NotInFlight a cumulative_tsn_ack blocks window trigger 
     (a, flows.Fault errors.ErrInflightQueueTsnPop)
 on_counted_sack outcomes.NamesTheUnsent a cumulative_tsn_ack blocks window trigger now =
     (a, flows.Fault errors.ErrTsnRequestNotExist)
-on_counted_sack outcomes.Taken a cumulative_tsn_ack blocks window trigger now =
-    (shutdown_continued (after_sack a cumulative_tsn_ack blocks window now), flows.Next trigger)
+on_counted_sack outcomes.Taken a cumulative_tsn_ack blocks window trigger now = (
+  probes_answered a.sender.advertised_window window
+      (shutdown_continued (after_sack a cumulative_tsn_ack blocks window now)),
+  flows.Next trigger,
+)
 
 -- a SACK counts while DATA of this side may be unacknowledged; one whose cumulative TSN ack is not in flight, or whose
 -- gap ack blocks name a TSN that is not, is a fault. Where it leaves nothing to send and nothing in flight, a shutdown
--- that waited for that goes on
+-- that waited for that goes on. Behind it probes of a closed window are answered
 unfoldable pub on_sack : Shown → ℕ → List GapAckBlock → ℕ → AckTrigger → ℕ → Shown × Flow
 on_sack a cumulative_tsn_ack blocks window trigger now =
     if sends_data a.state then

@@ -52,6 +52,8 @@ use Rattle.sctp_assoc.specs.Calls.{read_exhausts, sends_data, stopped_open}
 use Rattle.sctp_assoc.specs.Closing.{is_closed_state, is_exhausted}
 use Rattle.sctp_assoc.specs.Chunks.{counted_data, deferred_where_admitted, goes_unread, on_chunk, stream_found}
 use Rattle.sctp_assoc.specs.Chunks.{taken_in, taken_where_admitted}
+use Rattle.sctp_assoc.specs.Finding.{found_at, found_for, makes_for}
+use Rattle.sctp_assoc.specs.Probes.{opens_window}
 use Rattle.sctp_assoc.specs.ResetActs.{acts_of_draining, acts_of_keeping, acts_of_kept_skips, acts_of_reconfig}
 use Rattle.sctp_assoc.specs.ResetActs.{acts_of_settling}
 use Rattle.std.specs.List.{AllByRecursion, filter, flat_map, position_or_len}
@@ -76,7 +78,7 @@ use Rattle.sctp_assoc.specs.declared.skipping.Standing.TheVariants as standings
 
 -- What each call does to the directions.
 
--- new DATA makes its stream where that is missing and a generation is left
+-- what comes makes its stream where that is missing and a generation is left
 abbrev pub acts_of_stream : Shown → ℕ → List Act
 acts_of_stream a id =
     if is_some (stream_at a.streams id) then [] else
@@ -136,17 +138,22 @@ acts_of_counted_data a piece =
 abbrev pub acts_of_data : Shown → ChunkPayloadData → List Act
 acts_of_data a piece = acts_of_counted_data (counted_data a) piece
 
-abbrev pub acts_of_outcome : SackOutcome → ℕ → List GapAckBlock → ℕ → List Act
-acts_of_outcome outcomes.Older n blocks missing = []
-acts_of_outcome outcomes.NotInFlight n blocks missing = []
-acts_of_outcome outcomes.NamesTheUnsent n blocks missing = []
-acts_of_outcome outcomes.Taken n blocks missing = Act.Acknowledged n blocks missing ∷ []
+abbrev pub marks_if : Bool → List Act
+marks_if true = Act.Marked ∷ []
+marks_if false = []
 
-abbrev pub acts_of_sack : Shown → ℕ → List GapAckBlock → List Act
-acts_of_sack a cumulative_tsn_ack blocks =
+abbrev pub acts_of_outcome : SackOutcome → ℕ → List GapAckBlock → ℕ → Bool → List Act
+acts_of_outcome outcomes.Older n blocks missing opens = []
+acts_of_outcome outcomes.NotInFlight n blocks missing opens = []
+acts_of_outcome outcomes.NamesTheUnsent n blocks missing opens = []
+acts_of_outcome outcomes.Taken n blocks missing opens = Act.Acknowledged n blocks missing ∷ marks_if opens
+
+-- a SACK with this window; one that opens the peer's window marks what is left in flight
+abbrev pub acts_of_sack : Shown → ℕ → List GapAckBlock → ℕ → List Act
+acts_of_sack a cumulative_tsn_ack blocks window =
     if sends_data a.state then
     acts_of_outcome (sack_outcome a.sender cumulative_tsn_ack blocks) (tsns_up_to a.sender cumulative_tsn_ack) blocks
-    (reports_of a.sender cumulative_tsn_ack blocks)
+    (reports_of a.sender cumulative_tsn_ack blocks) (opens_window a.profile a.sender.advertised_window window)
     else []
 
 -- an INIT that is answered tells the peer's initial TSN
@@ -159,20 +166,36 @@ acts_of_init_ack a header init =
     if is_cookie_wait a.state then
     (if comes_back a.handshake header then Act.PeerKnown init.initial_tsn ∷ [] else []) else []
 
+abbrev pub acts_of_finding_if : Bool → Shown → ℕ → List Act
+acts_of_finding_if true a id = acts_of_stream a id
+acts_of_finding_if false a id = []
+
+-- the streams on which a FORWARD TSN skips are made where they are missing
+abbrev pub acts_of_finding : ℕ → List SkippedStream → Shown → List Act
+acts_of_finding tsn [] a = []
+acts_of_finding tsn (e ∷ es) a =
+    acts_of_finding_if (makes_for tsn e.stream_identifier a) a e.stream_identifier
+    ++ acts_of_finding tsn es (found_at tsn e.stream_identifier a)
+
+abbrev pub acts_of_passing : Shown → ℕ → List SkippedStream → List Act
+acts_of_passing a tsn skips =
+    Act.PassedOver tsn skips ∷ (acts_of_keeping tsn skips a
+    ++ acts_of_settling (with_passed (with_skips tsn skips a) tsn))
+
 -- a FORWARD TSN that is ahead passes over what it says
 abbrev pub acts_of_forward_at : Standing → Shown → ℕ → List SkippedStream → List Act
 acts_of_forward_at standings.Unused a tsn skips = []
 acts_of_forward_at standings.Behind a tsn skips = []
 acts_of_forward_at standings.Ahead a tsn skips =
-    Act.PassedOver tsn skips ∷ (acts_of_keeping tsn skips a
-    ++ acts_of_settling (with_passed (with_skips tsn skips a) tsn))
+    acts_of_finding tsn skips a ++ acts_of_passing (found_for tsn skips a) tsn skips
 
 abbrev pub acts_of_forward : Shown → ℕ → List SkippedStream → List Act
 acts_of_forward a tsn skips = acts_of_forward_at (standing_of a tsn) a tsn skips
 
 abbrev pub acts_of_kind : Shown → CommonHeader → Chunk → List Act
 acts_of_kind a header (chunks.Data piece) = acts_of_data a piece
-acts_of_kind a header (chunks.SelectiveAck sack) = acts_of_sack a sack.cumulative_tsn_ack sack.gap_ack_blocks
+acts_of_kind a header (chunks.SelectiveAck sack) =
+    acts_of_sack a sack.cumulative_tsn_ack sack.gap_ack_blocks sack.advertised_receiver_window_credit
 acts_of_kind a header (chunks.Init init) = acts_of_init a init
 acts_of_kind a header (chunks.InitAck init) = acts_of_init_ack a header init
 acts_of_kind a header (chunks.ForwardTsn forward) = acts_of_forward a forward.new_cumulative_tsn forward.streams

@@ -5,8 +5,10 @@ pub mod Chunks
 pub mod Closing
 pub mod Control
 pub mod Created
+pub mod Finding
 pub mod Gather
 pub mod Handshake
+pub mod Probes
 pub mod Replies
 pub mod ResetActs
 pub mod Happened

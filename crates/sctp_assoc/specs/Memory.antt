@@ -26,12 +26,9 @@ use Rattle.sctp_assoc.specs.declared.inbound.Flow.TheVariants as flows
 use Rattle.sctp_assoc.specs.Calls.{is_beginning, is_cookie_echoed, is_cookie_wait, is_established, sends_data}
 use Rattle.sctp_assoc.specs.Closing.{is_closed_state}
 use Rattle.sctp_assoc.specs.Chunks.{after_sack, intake_refusal, on_chunk}
+pub use Rattle.sctp_assoc.specs.Finding.{makes_stream}
 use Rattle.sctp_assoc.specs.Shown.{Shown, all_waiting}
 use Rattle.sctp_assoc.specs.Skipping.{forward_takes_memory, skips_of}
-
--- a stream is made: it is not live, and a generation is left for it
-abbrev pub makes_stream : Shown → ℕ → Bool
-makes_stream a id = not (is_some (stream_at a.streams id)) && generation_left a.streams
 
 -- a generation of some stream ended and is still read, or a request of the peer is in progress, or a skip is kept
 abbrev pub resets_take_memory : Shown → Bool

@@ -38,8 +38,8 @@ pub record Shown : Type 0 where
   pub receiver : Receiver
   pub sender : Sender
   pub streams : StreamMap
-  -- the identifiers of streams that the peer's DATA made and that were not accepted yet, oldest first; such a stream
-  -- may have ended since
+  -- the identifiers of streams that the peer's DATA or its FORWARD TSN made and that were not accepted yet, oldest
+  -- first; such a stream may have ended since
   pub to_accept : List ℕ
   -- the events that nobody asked for yet, oldest first
   pub events : List Event

@@ -21,6 +21,7 @@ use Rattle.sctp_assoc.specs.declared.skipping.Standing.{Standing}
 use Rattle.sctp_assoc.specs.declared.skipping.Standing.TheVariants as standings
 use Rattle.sctp_assoc.specs.Closing.{is_exhausted}
 use Rattle.sctp_assoc.specs.Control.{queued}
+use Rattle.sctp_assoc.specs.Finding.{finding_takes_memory, found_for}
 use Rattle.sctp_assoc.specs.Resets.{settled, settling_takes_memory}
 use Rattle.sctp_assoc.specs.Shown.{Shown, uses_forward_tsn}
 
@@ -104,13 +105,17 @@ abbrev pub asks_behind : Shown → AckTrigger → Shown × Flow
 asks_behind a trigger =
     if is_exhausted a then (a, flows.Exhausted) else (a, flows.Next (asked a.receiver trigger false))
 
+-- what is given up is skipped, and the last TSN that came or was skipped passes over it
+abbrev pub on_forward_ahead : Shown → ℕ → List SkippedStream → AckTrigger → Shown × Flow
+on_forward_ahead a tsn skips trigger = asks_behind (settled (with_passed (with_skips tsn skips a) tsn)) trigger
+
 abbrev pub on_forward_at : Standing → Shown → ℕ → List SkippedStream → AckTrigger → ℕ → Shown × Flow
 on_forward_at standings.Unused a tsn skips trigger now = refused a trigger
 on_forward_at standings.Behind a tsn skips trigger now = (acknowledged_at_once a now, flows.Next trigger)
-on_forward_at standings.Ahead a tsn skips trigger now =
-    asks_behind (settled (with_passed (with_skips tsn skips a) tsn)) trigger
+on_forward_at standings.Ahead a tsn skips trigger now = on_forward_ahead (found_for tsn skips a) tsn skips trigger
 
--- a FORWARD TSN with this new cumulative TSN and these skips of ordered messages
+-- a FORWARD TSN with this new cumulative TSN and these skips of ordered messages; the streams on which it skips are
+-- found or made before
 unfoldable pub on_forward : Shown → ℕ → List SkippedStream → AckTrigger → ℕ → Shown × Flow
 on_forward a tsn skips trigger now = on_forward_at (standing_of a tsn) a tsn skips trigger now
 
@@ -120,12 +125,17 @@ abbrev pub passing_takes_memory : ℕ → Shown → Bool
 passing_takes_memory tsn a =
     nat_lt 0 (length a.resets.generations.deferred) || settling_takes_memory (with_passed a tsn)
 
+abbrev pub ahead_takes_memory : Shown → ℕ → List SkippedStream → Bool
+ahead_takes_memory a tsn skips =
+    some_takes_memory tsn skips a || passing_takes_memory tsn (with_skips tsn skips a)
+
 abbrev pub forward_takes_at : Standing → Shown → ℕ → List SkippedStream → Bool
 forward_takes_at standings.Unused a tsn skips = true
 forward_takes_at standings.Behind a tsn skips = false
 forward_takes_at standings.Ahead a tsn skips =
-    some_takes_memory tsn skips a || passing_takes_memory tsn (with_skips tsn skips a)
+    finding_takes_memory tsn skips a || ahead_takes_memory (found_for tsn skips a) tsn skips
 
--- it takes memory for the ERROR that refuses it, for Readable where it makes a message ready, and for what resets keep
+-- it takes memory for the ERROR that refuses it, for a stream that it makes, for Readable where it makes a message
+-- ready, and for what resets keep
 abbrev pub forward_takes_memory : Shown → ℕ → List SkippedStream → Bool
 forward_takes_memory a tsn skips = forward_takes_at (standing_of a tsn) a tsn skips

@@ -10,6 +10,7 @@ ghost use Rattle.sctp_assoc.specs.Calls.{Refuses, RefusesOrLacksMemory, accepted
 ghost use Rattle.sctp_assoc.specs.Calls.{failed_refusal, open_refusal, opened, stream_refusal, usable};
 ghost use Rattle.sctp_assoc.specs.Calls.{with_max_send_message_size};
 ghost use Rattle.sctp_streams.specs.Streams.{live_ids};
+ghost use Rattle.sctp_assoc.specs.Probes.{is_probing, timed_out_by};
 ghost use Rattle.sctp_assoc.specs.Calls.{after_t3, after_ack_delay, event_from, event_polled, fault_polled};
 ghost use Rattle.sctp_assoc.specs.Calls.{is_first_at_once};
 ghost use Rattle.sctp_assoc.specs.Closing.{closed_by, is_closed_state};
@@ -566,13 +567,22 @@ impl Association {
             self.timers.set(Timer::T3RTX, None);
             if !expiry.failed {
                 self.stats.inc_t3timeouts();
-                self.sender.on_t3_timeout();
+                let probing = self.is_probing();
+                mark_all(&mut self.sender, probing);
                 let forward = self.handshake.use_forward_tsn;
                 self.sender.ask_for_forward_tsn(forward);
                 let rto = self.rto.get_rto();
                 self.timers.start(Timer::T3RTX, now, rto);
             }
         }
+    }
+
+    // Whether what is in flight probes a window that the peer closed.
+    #[tactic(auto, unfolding(crate::specs::Probes::is_probing))]
+    fn is_probing(&self) -> bool
+        ensures { result ≡ is_probing self.now.profile self.now.sender }
+    {
+        self.is_by_rfcs() && self.sender.advertised_window == 0
     }
 
     fn on_ack(&mut self, now: Instant)
@@ -770,5 +780,16 @@ impl Association {
             return Err(Error::ErrAssociationFailed);
         }
         Ok(())
+    }
+}
+
+// All that is in flight is to be sent again. The congestion window falls, unless that probed a closed window.
+fn mark_all(sender: &mut Sender, probing: bool)
+    ensures { sender.new ≡ timed_out_by probing sender.old }
+{
+    if probing {
+        sender.queue.mark_all_to_retransmit();
+    } else {
+        sender.on_t3_timeout();
     }
 }

@@ -105,8 +105,8 @@ impl Association {
         self.queue_control(chunk)
     }
 
-    // Marks the association failed: no timer runs on, and the questions about its state, its side, its addresses and its
-    // counts go on to answer as before.
+    // Marks the association failed: no timer runs on, and the questions about its state, its side, its addresses and
+    // its counts go on to answer as before.
     pub(crate) fn fail(&mut self, before: Answers)
         ensures { HasFailed before self.new }
     {

@@ -1,33 +1,25 @@
 // One datagram, chunk by chunk.
 ghost use Rattle.std.specs.Prelude.{◌≡◌, ◌≢◌, ◌⊎◌, ◌∷◌, [], true, false, is_ok, OnErr, OnOk, IfOk, Ok, None};
-ghost use Rattle.std.specs.Prelude.{if◌then◌else◌, is_some};
+ghost use Rattle.std.specs.Prelude.{if◌then◌else◌};
 ghost use Rattle.sctp_wire.specs.ChunkLists.{chunks_in};
 ghost use Rattle.sctp_wire.specs.Packets.{checked, finished};
-ghost use Rattle.sctp_inbound.specs.Receiver.{admits, asked, is_new_to};
-ghost use Rattle.sctp_streams.specs.Streams.{refusal_in, stream_at};
+ghost use Rattle.sctp_inbound.specs.Receiver.{asked, is_new_to};
 ghost use Rattle.sctp_assoc.specs.Inbound.{packet_read, taken_packet};
-ghost use Rattle.sctp_assoc.specs.Memory.{chunk_takes_memory, chunks_take_memory, data_takes_memory, makes_stream};
-ghost use Rattle.sctp_assoc.specs.Memory.{packet_takes_memory, sack_takes_memory, taking_takes_memory, takes_memory};
-ghost use Rattle.sctp_assoc.specs.Memory.{takes_memory_after};
-ghost use Rattle.sctp_assoc.specs.Chunks.{after_chunks, after_packet, dispatched, on_chunk, on_data, on_sack};
-ghost use Rattle.sctp_assoc.specs.Chunks.{asks, asks_or_faults, deferred, deferred_where_admitted, stream_found};
-ghost use Rattle.sctp_assoc.specs.Chunks.{goes_unread, handed_over, intake_refusal, is_left, is_there, left_unread};
-ghost use Rattle.sctp_assoc.specs.Chunks.{ended, goes_on};
-ghost use Rattle.sctp_assoc.specs.Chunks.{nobody_reads, taken_in, taken_where_admitted};
+ghost use Rattle.sctp_assoc.specs.Memory.{chunk_takes_memory, chunks_take_memory, data_takes_memory};
+ghost use Rattle.sctp_assoc.specs.Memory.{packet_takes_memory, taking_takes_memory, takes_memory, takes_memory_after};
+ghost use Rattle.sctp_assoc.specs.Chunks.{after_chunks, after_packet, dispatched, on_chunk, on_data, asks};
+ghost use Rattle.sctp_assoc.specs.Chunks.{asks_or_faults, deferred_where_admitted, goes_unread, ended, goes_on};
+ghost use Rattle.sctp_assoc.specs.Chunks.{taken_where_admitted};
 ghost use Rattle.sctp_assoc.specs.Resets.{settled, settling_takes_memory};
-ghost use Rattle.sctp_assoc.specs.Shown.{all_waiting};
 ghost use Rattle.sctp_assoc.specs.Closing.{is_exhausted};
 
 use crate::Association;
 use sctp_inbound::AckTrigger;
-use sctp_outbound::SackOutcome;
 use sctp_wire_queues::{
-    AssociationError, Chunk, ChunkPayloadData, CommonHeader, Error, Event, GapAckBlock, Instant,
-    List, Packet, PacketChunks, PartialDecode, PayloadProtocolIdentifier, StreamEvent,
-    check_packet,
+    AssociationError, Chunk, ChunkPayloadData, CommonHeader, Error, Instant, Packet, PacketChunks,
+    PartialDecode, check_packet,
 };
 use std::alloc::AllocError;
-use std::mem;
 
 /// How a packet goes on after one of its chunks.
 pub enum Flow {
@@ -39,33 +31,6 @@ pub enum Flow {
     Closed,
     /// The receive buffer is exhausted: that ends the packet and closes an open association, and the peer is told.
     Exhausted,
-}
-
-/// How the stream stands to which new DATA comes.
-#[derive(Clone, Copy, Debug)]
-pub(crate) enum Found {
-    /// It is not live.
-    Absent,
-    /// It is live, and what comes is delivered to it.
-    Read,
-    /// It is live, and by the rules of the RFCs nobody reads it any more.
-    Left,
-}
-
-impl Found {
-    // Whether it is live.
-    fn is_there(self) -> bool
-        ensures { result ≡ is_there self }
-    {
-        !matches!(self, Found::Absent)
-    }
-
-    // Whether it is live and nobody reads it any more.
-    fn is_left(self) -> bool
-        ensures { result ≡ is_left self }
-    {
-        matches!(self, Found::Left)
-    }
 }
 
 impl Association {
@@ -123,7 +88,8 @@ impl Association {
         now: Instant,
     ) -> Result<(), AllocError>
         ensures exact { OnOk result (self.new ≡ after_chunks header (chunks_in chunks) self.old AckTrigger.None now) }
-        ensures grows { OnErr result (chunks_take_memory header (chunks_in chunks) self.old AckTrigger.None now ≡ true) }
+        ensures grows { OnErr result
+            (chunks_take_memory header (chunks_in chunks) self.old AckTrigger.None now ≡ true) }
     {
         match chunks {
             PacketChunks::One(only) => self.on_only(header, only, now),
@@ -344,197 +310,5 @@ impl Association {
             return Flow::Exhausted;
         }
         Flow::Next(self.receiver.ask(trigger, immediate))
-    }
-
-    // How the stream stands, which is made where it is missing; absent is it then only where no generation is left.
-    #[tactic(auto, unfolding(crate::specs::Chunks::stream_found))]
-    fn find_stream(&mut self, id: u16) -> Result<Found, AllocError>
-        ensures exact { IfOk result (λ found. stream_found self.old id ≡ (self.new, is_there found)) }
-        ensures left { IfOk result (λ found. is_left found ≡ nobody_reads self.old.profile self.old.streams id) }
-        ensures grows { OnErr result (makes_stream self.old id ≡ true) }
-    {
-        match self.found(id) {
-            Found::Absent => {
-                if self.make_stream(id)? {
-                    Ok(Found::Read)
-                } else {
-                    Ok(Found::Absent)
-                }
-            }
-            Found::Read => Ok(Found::Read),
-            Found::Left => Ok(Found::Left),
-        }
-    }
-
-    // How the stream of an identifier stands, as it is.
-    #[tactic(auto, unfolding(crate::specs::Chunks::nobody_reads))]
-    fn found(&self, id: u16) -> Found
-        ensures there { is_there result ≡ is_some (stream_at self.now.streams id) }
-        ensures left { is_left result ≡ nobody_reads self.now.profile self.now.streams id }
-    {
-        let is_by_rfcs = self.is_by_rfcs();
-        let Some(stream) = self.streams.get(id) else {
-            return Found::Absent;
-        };
-        if is_by_rfcs && !stream.is_read_half_open() {
-            Found::Left
-        } else {
-            Found::Read
-        }
-    }
-
-    // Makes the stream that is missing, for the application to accept; false where no generation is left for it.
-    #[tactic(auto, unfolding(crate::specs::Chunks::stream_found))]
-    fn make_stream(&mut self, id: u16) -> Result<bool, AllocError>
-        requires { is_some (stream_at self.old.streams id) ≡ false }
-        ensures exact { IfOk result (λ made. stream_found self.old id ≡ (self.new, made)) }
-        ensures grows { OnErr result (makes_stream self.old id ≡ true) }
-    {
-        let first_message_id = self.sender.queue.next_message_id();
-        let payload_type = PayloadProtocolIdentifier::Unknown;
-        match self
-            .streams
-            .make(self.alloc, id, first_message_id, payload_type)
-        {
-            Ok(()) => {}
-            Err(Error::ErrStreamCreateFailed) => return Ok(false),
-            Err(_) => return Err(AllocError),
-        }
-        self.to_accept.push_back(id)?;
-        self.tell(Event::Stream(StreamEvent::Opened { id }))?;
-        Ok(true)
-    }
-
-    // Keeps DATA of a generation that is not read yet; answers why that refuses it, if it does.
-    fn defer(&mut self, piece: ChunkPayloadData) -> Result<Option<Error>, AllocError>
-        requires { is_new_to self.old.receiver piece.tsn ≡ true }
-        ensures { IfOk result (λ fault. deferred self.old piece ≡ (self.new, fault)) }
-    {
-        let limit = self.receiver.max_receive_message_size;
-        if let Some(fault) = self.resets.refusal(&piece, limit)? {
-            return Ok(Some(fault));
-        }
-        self.receiver.take(piece.tsn)?;
-        self.resets.defer(piece)?;
-        Ok(None)
-    }
-
-    // Takes in a new piece: it is left where nobody reads its stream, and else handed over to that; answers why the
-    // stream refuses it, if it does.
-    #[inline(always)]
-    #[tactic(auto, unfolding(crate::specs::Chunks::taken_in))]
-    fn take_in(&mut self, piece: ChunkPayloadData, left: bool) -> Result<Option<Error>, AllocError>
-        requires new { is_new_to self.old.receiver piece.tsn ≡ true }
-        requires left { left ≡ goes_unread self.old piece }
-        ensures exact { IfOk result (λ fault. taken_in self.old piece ≡ (self.new, fault)) }
-        ensures grows { OnErr result (intake_refusal self.old piece ≡ None) }
-    {
-        if left {
-            self.leave_unread(piece)?;
-            return Ok(None);
-        }
-        self.hand_over(piece)
-    }
-
-    // A piece of a stream that nobody reads any more is held as having come, and its bytes are dropped.
-    #[cold]
-    #[inline(never)]
-    fn leave_unread(&mut self, piece: ChunkPayloadData) -> Result<(), AllocError>
-        requires { is_new_to self.old.receiver piece.tsn ≡ true }
-        ensures { OnOk result (self.new ≡ left_unread self.old piece) }
-    {
-        self.receiver.take(piece.tsn)?;
-        self.tell(Event::DatagramReceived)?;
-        Ok(())
-    }
-
-    // Hands a new piece to its stream and then moves the last TSN in order; answers why the stream refuses it, if it
-    // does: a message that is longer than the limit is a refusal. What the stream refuses isn't held, and lacks no
-    // memory.
-    #[inline(always)]
-    #[tactic(auto, using(crate::proofs::MemoryTaken::not_for_memory))]
-    fn hand_over(&mut self, piece: ChunkPayloadData) -> Result<Option<Error>, AllocError>
-        requires { is_new_to self.old.receiver piece.tsn ≡ true }
-        ensures exact { IfOk result (λ fault. handed_over self.old piece ≡ (self.new, fault)) }
-        ensures grows { OnErr result (refusal_in self.old.streams piece.stream_identifier piece
-            self.old.receiver.max_receive_message_size ≡ None) }
-    {
-        let id = piece.stream_identifier;
-        let tsn = piece.tsn;
-        let limit = self.receiver.max_receive_message_size;
-        let kept = match self.streams.push(id, piece, limit) {
-            Ok(kept) => kept,
-            Err(Error::ErrNoMemory) => return Err(AllocError),
-            Err(fault) => return Ok(Some(fault)),
-        };
-        self.receiver.take(tsn)?;
-        self.tell(Event::DatagramReceived)?;
-        if kept && self.streams.is_readable(id) {
-            self.tell(Event::Stream(StreamEvent::Readable { id }))?;
-        }
-        Ok(None)
-    }
-
-    fn admits(&self, tsn: u32) -> bool
-        ensures { result ≡ admits self.now.receiver tsn (all_waiting self.now) }
-    {
-        let waiting = self.waiting_bytes();
-        self.receiver.credit(waiting) > 0 || self.admits_without_credit(tsn, waiting)
-    }
-
-    // It stands apart, so that new DATA does not pay for it where credit is left.
-    #[cold]
-    #[inline(never)]
-    fn admits_without_credit(&self, tsn: u32, waiting: u64) -> bool
-        ensures { result ≡ admits self.now.receiver tsn waiting }
-    {
-        self.receiver.admits(tsn, waiting)
-    }
-
-    // SACK (RFC 4960 section 6.2.1), read by its cumulative TSN ack, its gap ack blocks and its window. Streams that it
-    // takes to their low mark are told of.
-    #[tactic(auto, using(sctp_resets::proofs::FrontWaits::none_waits), unfolding(crate::specs::Chunks::on_sack))]
-    fn on_sack(
-        &mut self,
-        cumulative_tsn_ack: u32,
-        blocks: &List<GapAckBlock>,
-        window: u32,
-        trigger: AckTrigger,
-        now: Instant,
-    ) -> Result<Flow, AllocError>
-        ensures exact { IfOk result
-            (λ flow. on_sack self.old cumulative_tsn_ack blocks.now window trigger now ≡ (self.new, flow)) }
-        ensures grows { OnErr result (sack_takes_memory self.old cumulative_tsn_ack blocks.now window now ≡ true) }
-    {
-        if !self.sends_data() {
-            return Ok(Flow::Next(trigger));
-        }
-        self.stats.inc_sacks();
-        let forward = self.handshake.use_forward_tsn;
-        let mut fallen = self.streams.watch(self.alloc);
-        let outcome = self.sender.on_sack(
-            &mut self.timers,
-            &mut self.rto,
-            &mut self.streams,
-            &mut fallen,
-            cumulative_tsn_ack,
-            blocks,
-            window,
-            now,
-        );
-        match outcome {
-            SackOutcome::Older => Ok(Flow::Next(trigger)),
-            SackOutcome::NotInFlight => Ok(Flow::Fault(Error::ErrInflightQueueTsnPop)),
-            SackOutcome::NamesTheUnsent => Ok(Flow::Fault(Error::ErrTsnRequestNotExist)),
-            SackOutcome::Taken => {
-                self.sender.ask_for_forward_tsn(forward);
-                // While they are told none is known to wait, so that the invariant holds where memory is refused.
-                let waiting = mem::replace(&mut self.waiting_in_front, 0);
-                fallen.tell_ascending(self.alloc, &mut self.events)?;
-                self.waiting_in_front = waiting;
-                self.continue_shutdown();
-                Ok(Flow::Next(trigger))
-            }
-        }
     }
 }

@@ -41,7 +41,8 @@
 //!    it gives messages up and ends a shutdown; call `poll` again after it.
 //! 5. Sleep until the moment that `poll_timeout` answers, or until a datagram comes.
 //!
-//! A new client begins with step 4, because its INIT waits there. After a write or a read outside the loop, go on with step 4.
+//! A new client begins with step 4, because its INIT waits there. After a write or a read outside the loop, go on with
+//! step 4.
 //!
 //! This order is advice. Every call is safe in every state and at every moment, and refuses by name what it cannot do.
 //!
@@ -93,8 +94,10 @@ mod effects;
 mod gather;
 mod handshake;
 mod inbound;
+mod intake;
 mod readers;
 mod resets;
+mod sacks;
 mod shared;
 mod shutdown;
 mod skipping;

@@ -153,8 +153,8 @@ impl Association {
         self.handshake.peer_verification_tag
     }
 
-    /// This side's SCTP port and the peer's, which stand in the packets that are given out (RFC 4960 section 3.1): those
-    /// of the configuration, at a server those of the INIT that came.
+    /// This side's SCTP port and the peer's, which stand in the packets that are given out (RFC 4960 section 3.1):
+    /// those of the configuration, at a server those of the INIT that came.
     pub fn ports(&self) -> (u16, u16)
         ensures { result ≡ (self.now.handshake.source_port, self.now.handshake.destination_port) }
     {

@@ -1,5 +1,6 @@
 // FORWARD TSN that comes (RFC 3758 section 3.6; RFC 8260 section 2.3.1).
-ghost use Rattle.std.specs.Prelude.{◌≡◌, true, IfOk, OnErr, OnOk};
+ghost use Rattle.std.specs.Prelude.{◌≡◌, ◌&&◌, true, IfOk, OnErr, OnOk};
+ghost use Rattle.sctp_assoc.specs.Finding.{finding_takes_memory, found_at, found_for, makes_for, makes_stream};
 ghost use Rattle.sctp_assoc.specs.Resets.{settled};
 ghost use Rattle.sctp_assoc.specs.Skipping.{acknowledged_at_once, asks_behind, forward_takes_memory, on_forward};
 ghost use Rattle.sctp_assoc.specs.Skipping.{passing_takes_memory, refused, skip_takes_memory, skips_of};
@@ -52,6 +53,7 @@ impl Association {
             Standing::Unused => self.refuse_forward(trigger),
             Standing::Behind => Ok(self.acknowledge_at_once(trigger, now)),
             Standing::Ahead => {
+                self.find_streams(forward.streams.as_slice(), forward.new_cumulative_tsn)?;
                 self.skip_streams(forward.streams.as_slice(), forward.new_cumulative_tsn)?;
                 self.pass_over(forward.new_cumulative_tsn, trigger)
             }
@@ -78,6 +80,7 @@ impl Association {
             Standing::Unused => self.refuse_forward(trigger),
             Standing::Behind => Ok(self.acknowledge_at_once(trigger, now)),
             Standing::Ahead => {
+                self.find_streams_of(forward.entries.as_slice(), forward.new_cumulative_tsn)?;
                 self.skip_messages(forward.entries.as_slice(), forward.new_cumulative_tsn)?;
                 self.pass_over(forward.new_cumulative_tsn, trigger)
             }
@@ -126,6 +129,41 @@ impl Association {
         self.resets.skip_unordered(tsn)?;
         self.settle()?;
         Ok(self.ask(trigger, false))
+    }
+
+    // Finds or makes the streams on which ordered messages are skipped, before any is.
+    fn find_streams(&mut self, skipped: &[SkippedStream], tsn: u32) -> Result<(), AllocError>
+        ensures exact { OnOk result (self.new ≡ found_for tsn skipped.now self.old) }
+        ensures grows { OnErr result (finding_takes_memory tsn skipped.now self.old ≡ true) }
+    {
+        for skip in skipped {
+            self.find_skipped(skip.stream_identifier, tsn)?;
+        }
+        Ok(())
+    }
+
+    fn find_streams_of(&mut self, entries: &[IForwardTsnEntry], tsn: u32) -> Result<(), AllocError>
+        ensures exact { OnOk result (self.new ≡ found_for tsn (skips_of entries.now) self.old) }
+        ensures grows { OnErr result (finding_takes_memory tsn (skips_of entries.now) self.old ≡ true) }
+    {
+        for entry in entries {
+            if !entry.unordered {
+                self.find_skipped(entry.stream_identifier, tsn)?;
+            }
+        }
+        Ok(())
+    }
+
+    // By the rules of the RFCs the stream is made if it is missing, as DATA under that TSN would make it.
+    #[tactic(auto, unfolding(crate::specs::Finding::found_at, crate::specs::Finding::makes_for))]
+    fn find_skipped(&mut self, id: StreamId, tsn: u32) -> Result<(), AllocError>
+        ensures exact { OnOk result (self.new ≡ found_at tsn id self.old) }
+        ensures grows { OnErr result ((makes_for tsn id self.old && makes_stream self.old id) ≡ true) }
+    {
+        if self.is_by_rfcs() && !self.resets.is_hidden(id, tsn) {
+            self.find_stream(id)?;
+        }
+        Ok(())
     }
 
     // The ordered messages of some streams, one after another.

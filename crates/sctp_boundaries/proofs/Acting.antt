@@ -108,7 +108,8 @@ module _ (own peer id : ℕ) (polls : Bool) (x y z : Shown) (message : Option Re
                   of_x t.said_x)
                   l.said);
               said_y =
-                  datagrams_weaker (IsSaid peer own id st.stage_y coming out) (IsSaid peer own id st.stage_y after ahead)
+                  datagrams_weaker (IsSaid peer own id st.stage_y coming out)
+                  (IsSaid peer own id st.stage_y after ahead)
                   (said_beside peer own id st.stage_y coming after out ahead l.moves.goes l.moves.sends) of_y t.said_y;
             };
           };

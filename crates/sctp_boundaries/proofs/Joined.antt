@@ -1,5 +1,6 @@
 -- A pair of sides that two tokens joined, or a client and a server, stands between fresh courses.
-use Rattle.std.proofs.Common.{◌≡◌, refl, sym, ◌∙◌, inl, inr, ℕ, ◌<◌, ◌^◌, List, [], Option, Some, None, true, false, arith}
+use Rattle.std.proofs.Common.{◌≡◌, refl, sym, ◌∙◌, inl, inr, ℕ, ◌<◌, ◌^◌, List, [], Option, Some, None, true, false}
+use Rattle.std.proofs.Common.{arith}
 use Rattle.std.proofs.lemmas.Bool.{false≢true}
 use Rattle.sctp_serial.specs.Serial.{tsn as tsn_at}
 use Rattle.std.specs.declared.net.ip_addr.IpAddr.{IpAddr}
@@ -21,7 +22,8 @@ use Rattle.sctp_sides.specs.Meeting.{stage_of}
 use Rattle.sctp_sides.proofs.Proved.{created_sides_reset_nothing}
 use Rattle.sctp_course_sides.specs.Meets.{IsAtStage, Meets}
 use Rattle.sctp_course_sides.specs.Turns.{IsPresent}
-use Rattle.sctp_course_sides.proofs.Beginning.{created_awaits, created_sends, fresh_kept, joined_answers, joined_follows}
+use Rattle.sctp_course_sides.proofs.Beginning.{created_awaits, created_sends, fresh_kept, joined_answers}
+use Rattle.sctp_course_sides.proofs.Beginning.{joined_follows}
 use Rattle.sctp_course_sides.proofs.Beginning.{first_is, joined_sends}
 use Rattle.sctp_course_sides.proofs.BesideInCalls.{joined_stays_beside}
 use Rattle.sctp_boundaries.specs.Between.{IsGivenOut, StandsAt}
@@ -77,8 +79,10 @@ joined_pairs_begin config_a config_b size_a size_b address_a address_b ip_a ip_b
         hears_y = inl refl;
         one_x = λ one other. refl;
         one_y = λ one other. refl;
-        at_x = λ present. joined_stands (IsGivenOut []) id config_a size_a address_a ip_a token_a token_b small_a small_b;
-        at_y = λ present. joined_stands (IsGivenOut []) id config_b size_b address_b ip_b token_b token_a small_b small_a;
+        at_x =
+            λ present. joined_stands (IsGivenOut []) id config_a size_a address_a ip_a token_a token_b small_a small_b;
+        at_y =
+            λ present. joined_stands (IsGivenOut []) id config_b size_b address_b ip_b token_b token_a small_b small_a;
         said_x = tt;
         said_y = tt;
       };

@@ -1,7 +1,8 @@
--- What a side that meets its peer does, whatever is called: it sends nothing on streams, and goes on to follow what comes
--- or to await it.
+-- What a side that meets its peer does, whatever is called: it sends nothing on streams, and goes on to follow what
+-- comes or to await it.
 use Rattle.std.proofs.Common.{◌≡◌, refl, sym, ap, ◌∙◌, subst, ◌⊎◌, inl, inr, ℕ, suc, ◌<◌, ◌^◌, Bool, true, false, eqb}
-use Rattle.std.proofs.Common.{arith, if◌then◌else◌, length, List, [], ◌∷◌, ◌++◌, drop, take, Option, Some, None, is_some}
+use Rattle.std.proofs.Common.{arith, if◌then◌else◌, length, List, [], ◌∷◌, ◌++◌, drop, take, Option, Some, None}
+use Rattle.std.proofs.Common.{is_some}
 use Rattle.std.specs.List.{AllByRecursion}
 use Rattle.std.proofs.lemmas.Bool.{eqb-false, eqb-true, false≢true, true≢false}
 use Rattle.std.proofs.lemmas.List.{take-append-drop}
@@ -182,7 +183,8 @@ module _ (P : ChunkPayloadData → Type 0) (own peer id : ℕ) (t s : Stage) (x 
               (λ f. absurd (true≢false (sym e ∙ f)))
           by false e =
               let keeps = keeps_call P peer id call x quiet accepted e in
-              let on = receives_on P peer id x left coming keeps (call_keeps_the_stage call x apart accepted e).handshake
+              let on = receives_on P peer id x left coming keeps (call_keeps_the_stage call x apart accepted
+              e).handshake
               m.receives in
               meets_by None on.0 on.1 on.2 (λ f. keeps.past m.sent m.sent_binds) (λ f. on.3)
 
@@ -256,7 +258,11 @@ module _ (P : ChunkPayloadData → Type 0) (own peer id : ℕ) (t s : Stage) (x 
         on.5,
         on.6,
         λ lost.
-            inr (ap (λ (z : Handshake). is_some z.peer_initial_tsn) (known_still id accepted lost) ∙ unknown, on.7 lost),
+            inr (
+              ap (λ (z : Handshake). is_some z.peer_initial_tsn) (known_still id accepted lost) ∙ unknown,
+              on.7
+                  lost,
+            ),
       )
 
   own_read_meets : (message : Option ReceivedMessage) → (read_from_stream x id).1 ≡ message → read_refusal x id ≡ None

@@ -112,7 +112,8 @@ module _ (sent_beside : (P : ChunkPayloadData → Type 0) → FollowsBesideSendi
 
     -- Meeting
 
-    met_by : AreMeeting own peer id st.stage_x st.stage_y x y of_x of_y out coming → CallGoes Meets id call r z of_x of_z
+    met_by : AreMeeting own peer id st.stage_x st.stage_y x y of_x of_y out coming
+        → CallGoes Meets id call r z of_x of_z
         → Acts
     met_by a g =
         met own peer id (is_poll call) x y z (message_given call r id) of_x of_y of_z g.given g.extends out coming st
@@ -157,7 +158,8 @@ module _ (sent_beside : (P : ChunkPayloadData → Type 0) → FollowsBesideSendi
 
     -- Talking
 
-    talked_by : AreTalking own peer id st.stage_x st.stage_y x y of_x of_y out coming → CallGoes Talks id call r z of_x of_z
+    talked_by : AreTalking own peer id st.stage_x st.stage_y x y of_x of_y out coming
+        → CallGoes Talks id call r z of_x of_z
         → Acts
     talked_by t g =
         talked own peer id (is_poll call) x y z (message_given call r id) of_x of_y of_z g.given g.extends out coming st

@@ -48,7 +48,8 @@ module _ (P : ChunkPayloadData → Type 0) (own peer id : ℕ) (t s : Stage) (x 
     (st : StandsAt P own peer id s x out coming)
   where
     -- Its own course stays as it is.
-    pub packets_talk : (packet : Option Packet) (now : ℕ) → OfEachChunk (IsBroughtTruly P own peer id t out coming) packet
+    pub packets_talk : (packet : Option Packet) (now : ℕ) → OfEachChunk (IsBroughtTruly P own peer id t out coming)
+        packet
         → SideTalks P own peer id s x out coming false None (after_packet x packet now) []
     packets_talk packet now brings = by (after_packet x packet now).lost refl
       where

@@ -1,6 +1,7 @@
 -- What the calls of a look give, put together, and one more turn of a poll.
 use Rattle.std.proofs.Common.{◌≡◌, ◌∙◌, ap, inl, inr, refl, subst, ℕ, ◌+◌, add-one, Bool, false, not, List, []}
-use Rattle.std.proofs.Common.{◌∷◌, slice_index, Option, Some, None, IfSome, Result, Ok, Err, IfErr, IsErrOf, OnErr, OnOk}
+use Rattle.std.proofs.Common.{◌∷◌, slice_index, Option, Some, None, IfSome, Result, Ok, Err, IfErr, IsErrOf, OnErr}
+use Rattle.std.proofs.Common.{OnOk}
 use Rattle.sctp_wire_types.specs.declared.error.Error.{Error}
 use Rattle.sctp_wire_types.specs.declared.error.Error.TheVariants as errors
 use Rattle.sctp_assoc.specs.Calls.{Refuses, RefusesOrLacksMemory, stream_refusal}

@@ -19,8 +19,8 @@ pub enum ChannelEvent {
     /// This channel ended, by either side, and all that came before was received. It is gone, and its identifier is
     /// free again, unless the reset of its stream failed: then it stays `Closing`.
     Closed(StreamId),
-    /// The peer's stream began with something else than an OPEN, and is being reset, or this channel could not be begun.
-    /// There is no such channel.
+    /// The peer's stream began with something else than an OPEN, and is being reset, or this channel could not be
+    /// begun. There is no such channel.
     Failed(StreamId),
     /// The association ended. All channels are gone.
     Lost(AssociationError),

@@ -8,7 +8,8 @@ ghost use Rattle.std.specs.Map.{remove_entry};
 ghost use Rattle.std.specs.Ordering.{nat_cmp};
 ghost use Rattle.channel_table.specs.Tables.{at_stage, keeping_first, stage_at};
 ghost use Rattle.sctp_channels.specs.Looking.{Acks, AnnouncesNone, Begins, Looks, Unacknowledged, acknowledged};
-ghost use Rattle.sctp_channels.specs.Looking.{begun, goes_on, may_pass, names_stream, with_dcep, with_sending, with_stream};
+ghost use Rattle.sctp_channels.specs.Looking.{begun, goes_on, may_pass, names_stream, with_dcep, with_sending};
+ghost use Rattle.sctp_channels.specs.Looking.{with_stream};
 ghost use Rattle.sctp_channels.specs.Steps.{AnnouncesChannel, AnsweredBy, AnsweredByDcep, AwaitsAnswer, BeginsChannel};
 ghost use Rattle.sctp_channels.specs.Steps.{Confirms, FailsToBegin, FailsToBeginOn, HasBegun, IsNotOpened, LooksAt};
 ghost use Rattle.sctp_channels.specs.Steps.{MeetsFirst, MeetsStream, ResetsOrNot, goes_after, goes_by, sending_by};
@@ -102,9 +103,9 @@ fn refuse(driver: &mut Driver, id: StreamId) -> Looked
     Looked::Ends(ChannelEvent::Failed(id))
 }
 
-// A channel of this side: its OPEN is written, or its stream opened where it is negotiated, if its stream is one of those
-// that both sides agreed on. It is to be looked at once for itself, so that where it cannot be begun, what came on its
-// stream meanwhile is still looked at behind it.
+// A channel of this side: its OPEN is written, or its stream opened where it is negotiated, if its stream is one of
+// those that both sides agreed on. It is to be looked at once for itself, so that where it cannot be begun, what came
+// on its stream meanwhile is still looked at behind it.
 #[tactic(auto, unfolding(crate::specs::Steps::BeginsChannel))]
 fn begin(table: &mut Table, driver: &mut Driver, id: StreamId) -> Result<Looked, Error>
     requires { stage_at table.old id ≡ Some stages.Waiting }

@@ -1,5 +1,6 @@
 // Events of the driver, and what they say of channels.
-ghost use Rattle.std.specs.Prelude.{◌≡◌, ◌≢◌, ◌⊎◌, ◌<◌, [], ◌∷◌, ◌++◌, IfErr, IfNone, IfOk, IfSome, None, OnErr, OnOk, Ok};
+ghost use Rattle.std.specs.Prelude.{◌≡◌, ◌≢◌, ◌⊎◌, ◌<◌, [], ◌∷◌, ◌++◌, IfErr, IfNone, IfOk, IfSome, None, OnErr, OnOk};
+ghost use Rattle.std.specs.Prelude.{Ok};
 ghost use Rattle.std.specs.Prelude.{slice_get, true};
 ghost use Rattle.std.specs.VecDeque.{deque_capacity, deque_len};
 ghost use Rattle.std.specs.BTreeMap.{is_at};
@@ -39,8 +40,8 @@ impl Channels {
     /// The next event of the channels; None where none waits. It takes the events of the driver, in place of the
     /// driver's `poll_event` and `accept_stream`. On the way it writes the OPENs that wait, if the association is
     /// established, reads the first messages of streams, and writes ACKs; what comes for a new channel before it is
-    /// established waits in the driver. Behind `Closed` it looks at the stream of a channel that is gone once more, since
-    /// the peer may have opened another one on it meanwhile.
+    /// established waits in the driver. Behind `Closed` it looks at the stream of a channel that is gone once more,
+    /// since the peer may have opened another one on it meanwhile.
     ///
     /// Errors: `Beneath(ErrNoMemory)`, after which it can be called again and goes on where it was, unless the
     /// association failed; `Beneath(ErrAssociationFailed)`.
@@ -68,6 +69,8 @@ impl Channels {
         Err(ChannelError::Beneath(Error::ErrNoMemory))
     }
 
+    // Nearly all events come here, so this function is put into its caller, as those are that it calls for them.
+    #[inline(always)]
     #[tactic(auto, unfolding(crate::specs::Turning::TakesTurn))]
     fn turn(&mut self, driver: &mut Driver) -> Result<Turn, Error>
         ensures takes { TakesTurn self.old driver.old result self.new driver.new }
@@ -87,6 +90,7 @@ impl Channels {
     }
 
     // The stream that is to be looked at next.
+    #[inline(always)]
     fn next_due(&self) -> Option<StreamId>
         ensures next { result ≡ slice_get self.now.due 0 }
         ensures none { IfNone result (self.now.due ≡ []) }
@@ -94,6 +98,7 @@ impl Channels {
         self.due.front().copied()
     }
 
+    #[inline(never)]
     #[tactic(auto, unfolding(crate::specs::Turning::LooksNext))]
     fn look_at(&mut self, driver: &mut Driver, id: StreamId) -> Result<Turn, Error>
         ensures looks { LooksNext id self.old driver.old result self.new driver.new }
@@ -154,6 +159,7 @@ impl Channels {
         Ok(Turn::Silent)
     }
 
+    #[inline(always)]
     #[tactic(auto, using(crate::proofs::Unannounced::acks_none), unfolding(crate::specs::Turning::TakesEvent))]
     fn take_event(&mut self, driver: &mut Driver) -> Result<Turn, Error>
         requires { self.old.due ≡ [] }
@@ -183,6 +189,7 @@ impl Channels {
 }
 
 // Makes room for a stream to look at where none is, so that any place that there is is free.
+#[inline(always)]
 fn make_room(due: &mut VecDeque<StreamId>) -> Result<(), AllocError>
     requires { due.old.items ≡ [] }
     ensures none { due.new.items ≡ [] }
@@ -195,6 +202,7 @@ fn make_room(due: &mut VecDeque<StreamId>) -> Result<(), AllocError>
 }
 
 // What an event asks for where no stream is to be looked at.
+#[inline(always)]
 #[tactic(auto, unfolding(crate::specs::Turning::MeetsEvent, crate::specs::Turning::accepted_where))]
 fn meet_event(
     alloc: Global,

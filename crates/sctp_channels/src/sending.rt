@@ -58,7 +58,8 @@ impl Channels {
         write(driver, id, payload_type, bytes)
     }
 
-    // Refuses what `send_text` does of a channel that is not at hand. It stays apart from what is done for each message.
+    // Refuses what `send_text` does of a channel that is not at hand. It stays apart from what is done for each
+    // message.
     #[inline(never)]
     fn check_sending(&self, id: StreamId) -> Result<(), ChannelError>
         ensures { result ≡ send_check (channel_at self.now.table id) }

@@ -26,8 +26,8 @@ Opens kind label protocol c d (Err fault) f =
     × IfSome (end_refusal d) (λ e. is_too_long label protocol ≡ false → fault ≡ e)
     × RefusesOpen c d kind label protocol fault × (f ≡ c)
 
--- What a poll for events gave is so, and a channel that is announced was acknowledged. Where no event waits no stream is
--- to be looked at, nor does an event wait at the driver.
+-- What a poll for events gave is so, and a channel that is announced was acknowledged. Where no event waits no stream
+-- is to be looked at, nor does an event wait at the driver.
 abbrev pub Finds : Result (Option ChannelEvent) ChannelError → ChannelsView → Driving → Type 0
 Finds (Ok (Some event)) f e = IsTold event f.table × IsAcknowledged event f.table e
 Finds (Ok None) f e = (f.due ≡ []) × IsIdle e

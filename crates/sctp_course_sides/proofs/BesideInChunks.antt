@@ -38,14 +38,18 @@ use Rattle.sctp_assoc.specs.Chunks.{deferred_where_admitted, dispatched, goes_un
 use Rattle.sctp_assoc.specs.Chunks.{on_counted_sack, on_data, on_new_data, on_sack, stream_found, taken_in}
 use Rattle.sctp_assoc.specs.Chunks.{taken_unless, taken_where_admitted, then_skips, told, with_message}
 use Rattle.sctp_assoc.specs.Closing.{is_exhausted}
+use Rattle.sctp_assoc.specs.Finding.{found_for}
 use Rattle.sctp_assoc.specs.Handshake.{information_returned, on_cookie_ack}
 use Rattle.sctp_assoc.specs.Handshake.{on_cookie_echo, on_heartbeat}
 use Rattle.sctp_assoc.specs.Resets.{after_param, asking_if, behind_first, behind_params, channels_of, handled_with}
 use Rattle.sctp_assoc.specs.Resets.{on_reconfig, on_request, on_response, responded_with, settled, settled_with}
 use Rattle.sctp_assoc.specs.Resets.{skips_applied_of, stopped_if, with_answer, with_beside, with_resetting}
 use Rattle.sctp_assoc.specs.Shown.{Shown, all_waiting}
+use Rattle.sctp_assoc.specs.Shutdown.{shutdown_continued}
 use Rattle.sctp_assoc.specs.Skipping.{asks_behind, on_forward, skips_of, with_passed, with_skip}
 use Rattle.sctp_assoc.specs.Skipping.{with_skips}
+use Rattle.sctp_assoc.proofs.Probes.{probes_keep}
+use Rattle.sctp_assoc.proofs.StreamsFound.{found_for_keeps}
 use Rattle.sctp_sides.proofs.ForwardKinds.{forward_is_one_of}
 use Rattle.sctp_sides.proofs.PeerRequestsInChunks.{flow_same}
 use Rattle.std.specs.List.{AllByRecursion}
@@ -57,7 +61,7 @@ use Rattle.sctp_streams.specs.declared.event.AssociationError.TheVariants as rea
 use Rattle.sctp_inbound.specs.declared.receiver.AckTrigger.TheVariants as triggers
 use Rattle.sctp_model.proofs.Lists.{all_push}
 use Rattle.sctp_assoc.specs.declared.control.Control.TheVariants as controls
-use Rattle.sctp_assoc.specs.Chunks.{after_chunks, after_packet, after_packet_of, goes_on}
+use Rattle.sctp_assoc.specs.Chunks.{after_chunks, after_packet, after_packet_of, after_sack, goes_on}
 use Rattle.sctp_assoc.specs.Closing.{closed_by, closed_open, exhausted, is_closed_state, out_of_resource}
 use Rattle.sctp_assoc.specs.Control.{queued, queued_under}
 use Rattle.sctp_assoc.specs.Handshake.{connected, echoed, learned, on_init, on_init_ack, sends_cookie}
@@ -241,7 +245,9 @@ outcome_keeps : (o : SackOutcome) (a : Shown) (cumulative_tsn_ack : ℕ) (blocks
 outcome_keeps outcomes.Older a cumulative_tsn_ack blocks window trigger now = λ x. x
 outcome_keeps outcomes.NotInFlight a cumulative_tsn_ack blocks window trigger now = λ x. x
 outcome_keeps outcomes.NamesTheUnsent a cumulative_tsn_ack blocks window trigger now = λ x. x
-outcome_keeps outcomes.Taken a cumulative_tsn_ack blocks window trigger now = λ x. x
+outcome_keeps outcomes.Taken a cumulative_tsn_ack blocks window trigger now =
+    probes_keep (λ (b : Shown). Keeps a b) (λ b f. f) (λ b f. f) a.sender.advertised_window window
+    (shutdown_continued (after_sack a cumulative_tsn_ack blocks window now)) (λ x. x)
 
 sack_keeps : (sends : Bool) (a : Shown) (cumulative_tsn_ack : ℕ) (blocks : List GapAckBlock) (window : ℕ)
     (trigger : AckTrigger) (now : ℕ) → sends_data a.state ≡ sends
@@ -253,6 +259,13 @@ sack_keeps true a cumulative_tsn_ack blocks window trigger now e =
 sack_keeps false a cumulative_tsn_ack blocks window trigger now e = rw e (λ x. x)
 
 -- FORWARD TSN
+
+-- the streams on which it skips are found or made
+founds_keep : (t : ℕ) (es : List SkippedStream) (a : Shown) → Keeps a (found_for t es a)
+founds_keep t es a =
+    found_for_keeps WaitsBeside
+    (λ (b : Shown) (stream : ℕ).
+    found_keeps (is_some (stream_at b.streams stream)) (generation_left b.streams) b stream refl refl) t es a
 
 skip_keeps : (retires : Bool) (t stream ssn : ℕ) (a : Shown) → resets.is_retiring a.resets stream ≡ retires
     → Keeps a (with_skip t stream ssn a)
@@ -284,7 +297,7 @@ forward_keeps : (a : Shown) (t : ℕ) (es : List SkippedStream) (trigger : AckTr
 forward_keeps a t es trigger now =
     forward_is_one_of t es (λ b x. Keeps b x.0) trigger now (λ b e. queued_keeps b unrecognized_chunk tt)
     (λ b e f x. x)
-    (λ b e f. ahead_keeps b t es trigger) a
+    (λ b e f. ahead_keeps b t es trigger) (λ b x f. then_on b (found_for t es b) x.0 (founds_keep t es b) f) a
 
 -- The handshake
 

@@ -106,6 +106,21 @@ none_live : (o : Option StreamView) → is_some o ≡ false → o ≡ None
 none_live None e = refl
 none_live (Some t) e = absurd (true≢false e)
 
+-- a stream that is not live is made
+pub made_following : (P : ChunkPayloadData → Type 0) (initial id k : ℕ) (a : Shown) (h : History) (c : Course)
+    → Follows P initial id a h c → is_some (stream_at a.streams k) ≡ false
+    → LeadsFollowing P initial id (with_new_stream a k) c
+made_following P initial id k a h c f none =
+    let binds : Binds (with_new_stream a k) h = record {
+      first = f.binds.first;
+      peer_last_tsn = f.binds.peer_last_tsn;
+      held = same_held h h a.streams (with_new_stream a k).streams (past_itself h) f.binds.held;
+      marked = f.binds.marked;
+    } in
+    keeps_following P initial id a (with_new_stream a k) h h c f binds (past_itself h)
+    (made_keeps P initial id a.resets a.streams k a.sender.queue.next_message_id kinds.Unknown
+    (none_live (stream_at a.streams k) none)) refl
+
 -- DATA comes to a side that follows the course of the stream.
 module _ (P : ChunkPayloadData → Type 0) (initial id : ℕ) (piece : ChunkPayloadData) (a : Shown) (h : History)
     (c : Course)
@@ -268,21 +283,6 @@ module _ (P : ChunkPayloadData → Type 0) (initial id : ℕ) (piece : ChunkPayl
       asks_behind P initial id c (taken_where_admitted a piece) piece trigger
       (admitted_following a h c f came new out (admits a.receiver piece.tsn (all_waiting a)))
 
-  made_following : (a : Shown) (h : History) (c : Course) → Follows P initial id a h c
-      → is_some (stream_at a.streams piece.stream_identifier) ≡ false
-      → LeadsFollowing P initial id (with_new_stream a piece.stream_identifier) c
-  made_following a h c f none =
-      let binds : Binds (with_new_stream a piece.stream_identifier) h = record {
-        first = f.binds.first;
-        peer_last_tsn = f.binds.peer_last_tsn;
-        held =
-            same_held h h a.streams (with_new_stream a piece.stream_identifier).streams (past_itself h) f.binds.held;
-        marked = f.binds.marked;
-      } in
-      keeps_following P initial id a (with_new_stream a piece.stream_identifier) h h c f binds (past_itself h)
-      (made_keeps P initial id a.resets a.streams piece.stream_identifier a.sender.queue.next_message_id kinds.Unknown
-      (none_live (stream_at a.streams piece.stream_identifier) none)) refl
-
   found_if : (there left : Bool) (a : Shown) (h : History) (c : Course) → Follows P initial id a h c
       → IsOfCourse initial id c piece → is_new_to a.receiver piece.tsn ≡ true
       → is_hidden a.resets piece.stream_identifier piece.tsn ≡ false
@@ -295,7 +295,8 @@ module _ (P : ChunkPayloadData → Type 0) (initial id : ℕ) (piece : ChunkPayl
   found_if true left a h c f came new out e = new_following a h c f came new out
   found_if false false a h c f came new out e = same_following P initial id a h c f
   found_if false true a h c f came new out e =
-      let l : LeadsFollowing P initial id (with_new_stream a piece.stream_identifier) c = made_following a h c f e in
+      let l : LeadsFollowing P initial id (with_new_stream a piece.stream_identifier) c =
+      made_following P initial id piece.stream_identifier a h c f e in
       then_following P initial id (with_new_stream a piece.stream_identifier)
       (on_new_data (with_new_stream a piece.stream_identifier, true) piece trigger).0 c l
       (new_following (with_new_stream a piece.stream_identifier) l.past l.after l.follows

@@ -1,12 +1,13 @@
 -- A FORWARD TSN that comes keeps a side on the course of a stream.
 use Rattle.std.proofs.Common.{◌≡◌, refl, sym, ap, ◌∙◌, subst, ℕ, suc, ◌+◌, ◌^◌, ◌<◌, ◌≤◌, Bool, true, false, not}
-use Rattle.std.proofs.Common.{◌&&◌, if◌then◌else◌, nat_lt, List, [], ◌∷◌, ◌++◌, arith}
+use Rattle.std.proofs.Common.{◌&&◌, if◌then◌else◌, is_some, nat_lt, List, [], ◌∷◌, ◌++◌, arith}
 use Rattle.sctp_serial.specs.Serial.{tsn, tsn_past}
 use Rattle.sctp_wire_types.specs.declared.chunk.ChunkPayloadData.{ChunkPayloadData}
 use Rattle.sctp_wire_types.specs.declared.chunk.SkippedStream.{SkippedStream}
 use Rattle.sctp_model.specs.Packets.{mem}
 use Rattle.sctp_streams.specs.Stream.{stream_skipped}
-use Rattle.sctp_streams.specs.Streams.{StreamMap, becomes_ready_in, changed_stream, passed_in}
+use Rattle.sctp_streams.specs.Streams.{StreamMap, becomes_ready_in, changed_stream, generation_left, passed_in}
+use Rattle.sctp_streams.specs.Streams.{stream_at}
 use Rattle.sctp_inbound.specs.declared.receiver.AckTrigger.{AckTrigger}
 use Rattle.sctp_inbound.specs.declared.receiver.Receiver.{Receiver}
 use Rattle.sctp_inbound.specs.Receiver.{is_behind}
@@ -24,6 +25,7 @@ use Rattle.sctp_directions.specs.Acts.{History, IsAhead, offset_in, reach_in}
 use Rattle.sctp_directions.specs.Acts as acts
 use Rattle.sctp_assoc.specs.declared.inbound.Flow.{Flow}
 use Rattle.sctp_assoc.specs.Closing.{is_exhausted}
+use Rattle.sctp_assoc.specs.Finding.{found_for, stream_found, with_new_stream}
 use Rattle.sctp_assoc.specs.Leads.{Binds}
 use Rattle.sctp_assoc.specs.Resets.{settled}
 use Rattle.sctp_assoc.specs.Shown.{Shown}
@@ -32,13 +34,15 @@ use Rattle.sctp_assoc.specs.Skipping.{with_passed, with_skip, with_skips}
 use Rattle.sctp_assoc.proofs.ForwardCame.{held_passes, last_tsn_passes, lies_ahead}
 use Rattle.sctp_assoc.proofs.Leading.{past_itself}
 use Rattle.sctp_assoc.proofs.MarksOutstanding.{AreMarkedRight}
+use Rattle.sctp_assoc.proofs.StreamsFound.{found_for_keeps}
 use Rattle.sctp_assoc.proofs.WhatCame.{came_on, passed_reach, same_held}
 use Rattle.sctp_sides.proofs.ForwardKinds.{forward_is_one_of}
 use Rattle.sctp_sides.proofs.PeerRequestsInChunks.{flow_same}
 use Rattle.sctp_course_sides.specs.Following.{LeadsFollowing}
 use Rattle.sctp_course_sides.specs.Follows.{Follows, IsSentUpTo}
-use Rattle.sctp_course_sides.proofs.Reaching.{keeps_following, reach_grown, reach_small, reaches, settled_following}
-use Rattle.sctp_course_sides.proofs.Reaching.{stays_following, then_following}
+use Rattle.sctp_course_sides.proofs.DataComes.{made_following}
+use Rattle.sctp_course_sides.proofs.Reaching.{keeps_following, reach_grown, reach_small, reaches, same_following}
+use Rattle.sctp_course_sides.proofs.Reaching.{settled_following, stays_following, then_following}
 
 -- A TSN up to which all was sent
 
@@ -61,6 +65,34 @@ sent_still initial c d t goes sent = record {
   assigned = subst (λ n. sent.reach ≤ n) (sym (goes_leaves c d goes).1) sent.assigned;
   is = sent.is;
 }
+
+-- The streams on which it skips
+
+module _ (P : ChunkPayloadData → Type 0) (initial id : ℕ) where
+  found_one_if : (there left : Bool) (k : ℕ) (a : Shown) (h : History) (c : Course) → Follows P initial id a h c
+      → is_some (stream_at a.streams k) ≡ there
+      → LeadsFollowing P initial id
+      (if◌then◌else◌ {A = Shown × Bool} there (a, true)
+      (if◌then◌else◌ {A = Shown × Bool} (not left) (a, false) (with_new_stream a k, true))).0 c
+  found_one_if true left k a h c f e = same_following P initial id a h c f
+  found_one_if false false k a h c f e = same_following P initial id a h c f
+  found_one_if false true k a h c f e = made_following P initial id k a h c f e
+
+  -- one of them is found, or made where it is not live
+  found_one : (k : ℕ) (a : Shown) (h : History) (c : Course) → Follows P initial id a h c
+      → LeadsFollowing P initial id (stream_found a k).0 c
+  unfolding stream_found
+  found_one k a h c f = found_one_if (is_some (stream_at a.streams k)) (generation_left a.streams) k a h c f refl
+
+  -- so are all of them
+  found_following : (tsn : ℕ) (es : List SkippedStream) (a : Shown) (h : History) (c : Course)
+      → Follows P initial id a h c
+      → LeadsFollowing P initial id (found_for tsn es a) c
+  found_following tsn es a h c f =
+      found_for_keeps (λ (b : Shown). LeadsFollowing P initial id b c)
+      (λ (b : Shown) (k : ℕ) (l : LeadsFollowing P initial id b c).
+      then_following P initial id b (stream_found b k).0 c l (found_one k b l.past l.after l.follows))
+      tsn es a (same_following P initial id a h c f)
 
 -- Skips of ordered messages
 
@@ -210,6 +242,17 @@ module _ (P : ChunkPayloadData → Type 0) (initial id tsn : ℕ) (es : List Ski
       (sym (flow_same (is_exhausted (settled (with_passed (with_skips tsn es a) tsn)))
       (settled (with_passed (with_skips tsn es a) tsn)) _ _)) all
 
+  -- What keeps to the course once the streams on which it skips are found or made keeps to it from before that.
+  behind_found : (a : Shown) (x : Shown × Flow)
+      → ((h : History) (c : Course) → IsSentUpTo initial c tsn → Follows P initial id (found_for tsn es a) h c
+      → LeadsFollowing P initial id x.0 c)
+      → (h : History) (c : Course) → IsSentUpTo initial c tsn → Follows P initial id a h c
+      → LeadsFollowing P initial id x.0 c
+  behind_found a x more h c sent f =
+      let l : LeadsFollowing P initial id (found_for tsn es a) c = found_following P initial id tsn es a h c f in
+      then_following P initial id (found_for tsn es a) x.0 c l
+      (more l.past l.after (sent_still initial c l.after tsn l.goes sent) l.follows)
+
   -- A FORWARD TSN that passes over no more than was sent keeps to the course.
   pub forward_follows : (a : Shown) (h : History) (c : Course) → IsSentUpTo initial c tsn → Follows P initial id a h c
       → LeadsFollowing P initial id (on_forward a tsn es trigger now).0 c
@@ -220,4 +263,5 @@ module _ (P : ChunkPayloadData → Type 0) (initial id tsn : ℕ) (es : List Ski
       → LeadsFollowing P initial id x.0 d) trigger now
       (λ b e k d up g. stays_following P initial id b (refused b trigger).0 k d refl refl refl g)
       (λ b e i k d up g. stays_following P initial id b (acknowledged_at_once b now) k d refl refl refl g)
-      (λ b e i k d up g. ahead_following b k d g up i) a h c sent f
+      (λ b e i k d up g. ahead_following b k d g up i)
+      behind_found a h c sent f

@@ -222,7 +222,12 @@ module _ (P : ChunkPayloadData → Type 0) (initial id : ℕ) (a : Shown) (h : H
       rw (e, f) (inl (echoed_at (first_cookie init.params) _ init.initial_tsn trigger now same (u refl) refl refl refl
       refl))
   init_ack_at true false header init trigger now e f same u =
-      rw (e, f) (still_before P initial id a _ h c (record { resets = refl; streams = refl; queue = refl; past = refl }) was)
+      rw (e, f) (still_before P initial id a _ h c (record {
+        resets = refl;
+        streams = refl;
+        queue = refl;
+        past = refl;
+      }) was)
   init_ack_at false back header init trigger now e f same u = rw e was
 
 -- the history is one on which the side stands

@@ -1,4 +1,4 @@
--- No chunk that comes assigns an offset: it acknowledges, at most, what is in flight.
+-- No chunk that comes assigns an offset: it acknowledges, at most, what is in flight, and marks it.
 use Rattle.std.proofs.Common.{ℕ, Bool, true, false, not, if◌then◌else◌, List, [], ◌∷◌}
 use Rattle.std.proofs.Common.{◌++◌, Option, Some, None, is_some, Result, Ok, Err}
 use Rattle.std.specs.List.{AllByRecursion}
@@ -24,13 +24,15 @@ use Rattle.sctp_assoc.specs.Calls.{is_beginning, is_cookie_wait, sends_data}
 use Rattle.sctp_assoc.specs.Chunks.{counted_data, deferred_where_admitted, goes_unread, stream_found, taken_in}
 use Rattle.sctp_assoc.specs.Chunks.{taken_where_admitted}
 use Rattle.sctp_assoc.specs.Happened.{acts_if_left, acts_of_checked, acts_of_chunk, acts_of_data, acts_of_deferring}
-use Rattle.sctp_assoc.specs.Happened.{acts_of_forward, acts_of_found, acts_of_hidden, acts_of_kind, acts_of_outcome}
-use Rattle.sctp_assoc.specs.Happened.{acts_of_skips_behind, acts_of_stream, acts_of_taking}
+use Rattle.sctp_assoc.specs.Happened.{acts_of_finding, acts_of_forward, acts_of_found, acts_of_hidden, acts_of_kind}
+use Rattle.sctp_assoc.specs.Happened.{acts_of_outcome, acts_of_skips_behind, acts_of_stream, acts_of_taking}
 use Rattle.sctp_assoc.specs.Happened.{acts_of_taking_where_admitted, acts_unless_faulty, acts_unless_refused}
+use Rattle.sctp_assoc.specs.Probes.{opens_window}
 use Rattle.sctp_assoc.specs.ResetActs.{acts_of_keeping, acts_of_kept_skips, acts_of_reconfig, acts_of_settling}
 use Rattle.sctp_assoc.specs.Resets.{skips_applied_of}
 use Rattle.sctp_assoc.specs.Shown.{Shown, all_waiting}
 use Rattle.sctp_assoc.specs.Skipping.{skips_of, with_passed, with_skips}
+use Rattle.sctp_assoc.proofs.StreamsFound.{finding_opens}
 use Rattle.sctp_sides.specs.Intake.{IsEndOfSpans}
 use Rattle.sctp_sides.proofs.ActsOfChunks.{give_if}
 use Rattle.sctp_sides.proofs.DataIntake.{settling_ends_spans, spans_end}
@@ -119,12 +121,13 @@ data_is_heard a piece =
 
 -- Other chunks
 
-outcome_is_heard : (outcome : SackOutcome) (n : ℕ) (blocks : List GapAckBlock) (missing : ℕ)
-    → AreHeard (acts_of_outcome outcome n blocks missing)
-outcome_is_heard outcomes.Older n blocks missing = tt
-outcome_is_heard outcomes.NotInFlight n blocks missing = tt
-outcome_is_heard outcomes.NamesTheUnsent n blocks missing = tt
-outcome_is_heard outcomes.Taken n blocks missing = (tt, tt)
+outcome_is_heard : (outcome : SackOutcome) (n : ℕ) (blocks : List GapAckBlock) (missing : ℕ) (opens : Bool)
+    → AreHeard (acts_of_outcome outcome n blocks missing opens)
+outcome_is_heard outcomes.Older n blocks missing opens = tt
+outcome_is_heard outcomes.NotInFlight n blocks missing opens = tt
+outcome_is_heard outcomes.NamesTheUnsent n blocks missing opens = tt
+outcome_is_heard outcomes.Taken n blocks missing true = (tt, (tt, tt))
+outcome_is_heard outcomes.Taken n blocks missing false = (tt, tt)
 
 ahead_is_heard : (a : Shown) (t : ℕ) (skips : List SkippedStream)
     → AreHeard (acts_of_keeping t skips a ++ acts_of_settling (with_passed (with_skips t skips a) t))
@@ -138,12 +141,16 @@ ahead_is_heard a t skips =
 forward_is_heard : (a : Shown) (t : ℕ) (skips : List SkippedStream) → AreHeard (acts_of_forward a t skips)
 forward_is_heard a t skips =
     acts_are_one_of t skips (λ b acts. AreHeard acts) (λ b e. tt) (λ b e f. tt)
-    (λ b e f. (tt, ahead_is_heard b t skips)) a
+    (λ b e f. (tt, ahead_is_heard b t skips))
+    (λ b acts heard.
+    all_join IsHeard (acts_of_finding t skips b) acts (finding_opens IsHeard (λ id first. tt) t skips b) heard) a
 
 kind_is_heard : (a : Shown) (header : CommonHeader) (chunk : Chunk) → AreHeard (acts_of_kind a header chunk)
 kind_is_heard a header (chunks.Data piece) = data_is_heard a piece
 kind_is_heard a header (chunks.SelectiveAck sack) =
-    give_if IsHeard (sends_data a.state) _ [] (outcome_is_heard _ _ sack.gap_ack_blocks _) tt
+    give_if IsHeard (sends_data a.state) _ []
+    (outcome_is_heard _ _ sack.gap_ack_blocks _
+    (opens_window a.profile a.sender.advertised_window sack.advertised_receiver_window_credit)) tt
 kind_is_heard a header (chunks.Init init) = give_if IsHeard (is_beginning a.state) _ [] (tt, tt) tt
 kind_is_heard a header (chunks.InitAck init) =
     give_if IsHeard (is_cookie_wait a.state) _ []

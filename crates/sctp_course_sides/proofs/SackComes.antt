@@ -18,7 +18,7 @@ use Rattle.sctp_outbound.specs.declared.sender.SackOutcome.{SackOutcome}
 use Rattle.sctp_outbound.specs.declared.sender.SackOutcome.TheVariants as outcomes
 use Rattle.sctp_outbound.specs.declared.sender.Sender.{Sender}
 use Rattle.sctp_outbound.specs.GapAcks.{released_among, with_blocks}
-use Rattle.sctp_outbound.specs.Sacks.{before_acknowledging, progress_of, reports_of, sack_taken}
+use Rattle.sctp_outbound.specs.Sacks.{before_acknowledging, progress_of, sack_taken}
 use Rattle.sctp_outbound.specs.Sender.{acknowledged, after_first, sack_outcome, streams_after, tsns_up_to}
 use Rattle.sctp_resets.specs.Resets.{ResetsView}
 use Rattle.sctp_courses.specs.Course.{Course}
@@ -29,14 +29,18 @@ use Rattle.sctp_directions.specs.Acts.{Act, History, Parts, done_all}
 use Rattle.sctp_assoc.specs.Calls.{sends_data}
 use Rattle.sctp_assoc.specs.declared.inbound.Flow.{Flow}
 use Rattle.sctp_assoc.specs.declared.inbound.Flow.TheVariants as flows
-use Rattle.sctp_assoc.specs.Chunks.{checked_first, counted_sack, on_chunk, on_counted_sack, on_sack}
+use Rattle.sctp_assoc.specs.Chunks.{after_sack, checked_first, counted_sack, on_chunk, on_counted_sack, on_sack}
 use Rattle.sctp_assoc.specs.Chunks.{with_acknowledged}
-use Rattle.sctp_assoc.specs.Happened.{acts_of_chunk}
+use Rattle.sctp_assoc.specs.Happened.{acts_of_chunk, marks_if}
 use Rattle.sctp_assoc.specs.Leads.{IsSamePast, parts}
+use Rattle.sctp_assoc.specs.Probes.{forgiven_if, marked_if, probes_answered}
 use Rattle.sctp_assoc.specs.Shown.{Shown}
+use Rattle.sctp_assoc.specs.Shutdown.{shutdown_continued}
 use Rattle.sctp_assoc.proofs.CallsLeadOn.{chunk_leads}
 use Rattle.sctp_assoc.proofs.Leading.{past_itself}
-use Rattle.sctp_sides.proofs.ActsOfChunks.{checked_sack}
+use Rattle.sctp_assoc.proofs.Probes.{probes_keep}
+use Rattle.sctp_sides.specs.SideLaws.{IsAcknowledging}
+use Rattle.sctp_sides.proofs.ActsOfChunks.{sacks_acknowledge}
 use Rattle.sctp_course_sides.specs.Following.{LeadsFollowing}
 use Rattle.sctp_course_sides.specs.Follows.{Follows}
 use Rattle.sctp_course_sides.proofs.Reaching.{keeps_following}
@@ -106,6 +110,15 @@ module _ (P : ChunkPayloadData → Type 0) (initial id : ℕ) where
       → LeavesCourse P initial id a (with_acknowledged a progress now x)
   acknowledged_leaves a progress now (s, e, m) keeps = leaves a _ refl keeps
 
+  -- probes of a closed window that are answered leave both
+  probes_leave : (a b : Shown) (before window : ℕ) → LeavesCourse P initial id a b
+      → LeavesCourse P initial id a (probes_answered before window b)
+  probes_leave a b before window l =
+      probes_keep (λ (z : Shown). LeavesCourse P initial id a z)
+      (λ (z : Shown) (k : LeavesCourse P initial id a z). leaves a (forgiven_if true z) k.resets k.streams)
+      (λ (z : Shown) (k : LeavesCourse P initial id a z). leaves a (marked_if true z) k.resets k.streams)
+      before window b l
+
   outcome_leaves : (o : SackOutcome) (b : Shown) (cumulative_tsn_ack : ℕ) (blocks : List GapAckBlock) (window : ℕ)
       (trigger : AckTrigger) (now : ℕ)
       → LeavesCourse P initial id b (on_counted_sack o b cumulative_tsn_ack blocks window trigger now).0
@@ -114,10 +127,11 @@ module _ (P : ChunkPayloadData → Type 0) (initial id : ℕ) where
   outcome_leaves outcomes.NamesTheUnsent b cumulative_tsn_ack blocks window trigger now = same_leaves b
   outcome_leaves outcomes.Taken b cumulative_tsn_ack blocks window trigger now =
       let x = sack_taken cumulative_tsn_ack blocks window now b.sender b.estimate b.streams in
+      let d : Shown = shutdown_continued (after_sack b cumulative_tsn_ack blocks window now) in
       let l =
       acknowledged_leaves b (progress_of b.sender cumulative_tsn_ack blocks) now x
       (sack_keeps P initial id b.resets cumulative_tsn_ack blocks window now b.sender b.estimate b.streams) in
-      leaves b _ l.resets l.streams
+      probes_leave b d b.sender.advertised_window window (leaves b d l.resets l.streams)
 
   sack_leaves_if : (c : Bool) (a : Shown) (cumulative_tsn_ack : ℕ) (blocks : List GapAckBlock) (window : ℕ)
       (trigger : AckTrigger) (now : ℕ)
@@ -152,14 +166,20 @@ module _ (P : ChunkPayloadData → Type 0) (initial id : ℕ) where
   chunk_leaves a header sack trigger now =
       checked_leaves (checked_chunk (chunks.SelectiveAck sack)) a header sack trigger now
 
--- its acts leave what came
-acked_past : (xs : List Act) (n : ℕ) (blocks : List GapAckBlock) (missing : ℕ) (p : Parts)
-    → (xs ≡ []) ⊎ (xs ≡ Act.Acknowledged n blocks missing ∷ []) → IsSamePast p.history (done_all xs p).history
-acked_past xs n blocks missing p (inl e) =
+-- what is acknowledged, and marked behind that, leaves what came
+marked_past : (marked : Bool) (n : ℕ) (blocks : List GapAckBlock) (missing : ℕ) (p : Parts)
+    → IsSamePast p.history (done_all (Act.Acknowledged n blocks missing ∷ marks_if marked) p).history
+marked_past true n blocks missing p = record { peer = refl; taken = refl; passed = refl }
+marked_past false n blocks missing p = record { peer = refl; taken = refl; passed = refl }
+
+-- so do the acts of a SACK
+acked_past : (a : Shown) (h : History) (sack : ChunkSelectiveAck) (xs : List Act) (p : Parts)
+    → (xs ≡ []) ⊎ IsAcknowledging a h sack xs → IsSamePast p.history (done_all xs p).history
+acked_past a h sack xs p (inl e) =
     subst (λ ys. IsSamePast p.history (done_all ys p).history) (sym e) (past_itself p.history)
-acked_past xs n blocks missing p (inr e) =
-    subst (λ ys. IsSamePast p.history (done_all ys p).history) (sym e)
-    (record { peer = refl; taken = refl; passed = refl })
+acked_past a h sack xs p (inr acked) =
+    subst (λ ys. IsSamePast p.history (done_all ys p).history) (sym acked.are)
+    (marked_past acked.marked acked.count sack.gap_ack_blocks acked.missing p)
 
 -- A SACK keeps to the course.
 pub sack_follows : (P : ChunkPayloadData → Type 0) (initial id : ℕ) (a : Shown) (h : History) (c : Course)
@@ -173,9 +193,8 @@ sack_follows P initial id a h c header sack trigger now f =
     ap (λ (p : Parts). p.history) leads.1.there in
     let past : IsSamePast h leads.0 =
     subst (IsSamePast h) (sym is)
-    (acked_past (acts_of_chunk a header (chunks.SelectiveAck sack)) (tsns_up_to a.sender sack.cumulative_tsn_ack)
-    sack.gap_ack_blocks (reports_of a.sender sack.cumulative_tsn_ack sack.gap_ack_blocks) (parts a h)
-    (checked_sack (checked_chunk (chunks.SelectiveAck sack)) a header sack)) in
+    (acked_past a h sack (acts_of_chunk a header (chunks.SelectiveAck sack)) (parts a h)
+    (sacks_acknowledge a h header sack f.binds)) in
     let left = chunk_leaves P initial id a header sack trigger now in
     keeps_following P initial id a b h leads.0 c f leads.1.binds past
     (subst (λ (r : ResetsView). KeepsCourse P initial id a.resets a.streams r b.streams) (sym left.resets) left.streams)

@@ -40,11 +40,13 @@ use Rattle.sctp_courses.specs.Invariants.{Invariant}
 use Rattle.sctp_assoc.specs.declared.inbound.Flow.{Flow}
 use Rattle.sctp_assoc.specs.declared.inbound.Flow.TheVariants as flows
 use Rattle.sctp_assoc.specs.Calls.{is_beginning, is_cookie_echoed, is_cookie_wait, is_established, sends_data}
-use Rattle.sctp_assoc.specs.Chunks.{asks, asks_or_faults, checked_first, counted_data, counted_sack, deferred_unless}
-use Rattle.sctp_assoc.specs.Chunks.{deferred_where_admitted, dispatched, goes_unread, left_or_handed_over, on_chunk}
-use Rattle.sctp_assoc.specs.Chunks.{on_counted_sack, on_data, on_new_data, on_sack, stream_found, taken_in}
-use Rattle.sctp_assoc.specs.Chunks.{taken_unless, taken_where_admitted, then_skips, told, with_message}
+use Rattle.sctp_assoc.specs.Chunks.{after_sack, asks, asks_or_faults, checked_first, counted_data, counted_sack}
+use Rattle.sctp_assoc.specs.Chunks.{deferred_unless, deferred_where_admitted, dispatched, goes_unread}
+use Rattle.sctp_assoc.specs.Chunks.{left_or_handed_over, on_chunk, on_counted_sack, on_data, on_new_data, on_sack}
+use Rattle.sctp_assoc.specs.Chunks.{stream_found, taken_in, taken_unless, taken_where_admitted, then_skips, told}
+use Rattle.sctp_assoc.specs.Chunks.{with_message}
 use Rattle.sctp_assoc.specs.Closing.{is_exhausted}
+use Rattle.sctp_assoc.specs.Finding.{found_for}
 use Rattle.sctp_assoc.specs.Handshake.{cookie_queued, echoed, information_returned, learned_back, on_cookie_ack}
 use Rattle.sctp_assoc.specs.Handshake.{on_cookie_echo, on_heartbeat, on_init, on_init_ack, sends_cookie}
 use Rattle.sctp_assoc.specs.Happened.{acts_of_chunk}
@@ -53,8 +55,11 @@ use Rattle.sctp_assoc.specs.Resets.{after_param, asking_if, behind_first, behind
 use Rattle.sctp_assoc.specs.Resets.{on_reconfig, on_request, on_response, responded_with, settled, settled_with}
 use Rattle.sctp_assoc.specs.Resets.{skips_applied_of, stopped_if, with_answer, with_beside, with_resetting}
 use Rattle.sctp_assoc.specs.Shown.{Shown, all_waiting}
+use Rattle.sctp_assoc.specs.Shutdown.{shutdown_continued}
 use Rattle.sctp_assoc.specs.Skipping.{asks_behind, on_forward, skips_of, with_passed, with_skip}
 use Rattle.sctp_assoc.specs.Skipping.{with_skips}
+use Rattle.sctp_assoc.proofs.Probes.{probes_keep}
+use Rattle.sctp_assoc.proofs.StreamsFound.{found_for_keeps}
 use Rattle.sctp_sides.proofs.ActsWithoutWrites.{chunk_writes_nothing}
 use Rattle.sctp_sides.proofs.ForwardKinds.{forward_is_one_of}
 use Rattle.sctp_sides.proofs.QuietQueues.{acts_add_none}
@@ -248,7 +253,9 @@ module _ (initial id : ℕ) (c : Course) where
   outcome_keeps outcomes.Older a cumulative_tsn_ack blocks window trigger now = λ x. x
   outcome_keeps outcomes.NotInFlight a cumulative_tsn_ack blocks window trigger now = λ x. x
   outcome_keeps outcomes.NamesTheUnsent a cumulative_tsn_ack blocks window trigger now = λ x. x
-  outcome_keeps outcomes.Taken a cumulative_tsn_ack blocks window trigger now = λ x. x
+  outcome_keeps outcomes.Taken a cumulative_tsn_ack blocks window trigger now =
+      probes_keep (λ (b : Shown). Keeps a b) (λ b f. f) (λ b f. f) a.sender.advertised_window window
+      (shutdown_continued (after_sack a cumulative_tsn_ack blocks window now)) (λ x. x)
 
   sack_keeps : (sends : Bool) (a : Shown) (cumulative_tsn_ack : ℕ) (blocks : List GapAckBlock) (window : ℕ)
       (trigger : AckTrigger) (now : ℕ) → sends_data a.state ≡ sends
@@ -260,6 +267,13 @@ module _ (initial id : ℕ) (c : Course) where
   sack_keeps false a cumulative_tsn_ack blocks window trigger now e = rw e (λ x. x)
 
   -- FORWARD TSN
+
+  -- the streams on which it skips are found or made
+  founds_keep : (t : ℕ) (es : List SkippedStream) (a : Shown) → Keeps a (found_for t es a)
+  founds_keep t es a =
+      found_for_keeps (λ (b : Shown). AsksOf initial id c b.resets)
+      (λ (b : Shown) (stream : ℕ).
+      found_keeps (is_some (stream_at b.streams stream)) (generation_left b.streams) b stream refl refl) t es a
 
   skip_keeps : (retires : Bool) (t stream ssn : ℕ) (a : Shown) → resets.is_retiring a.resets stream ≡ retires
       → Keeps a (with_skip t stream ssn a)
@@ -290,7 +304,7 @@ module _ (initial id : ℕ) (c : Course) where
       → Keeps a (on_forward a t es trigger now).0
   forward_keeps a t es trigger now =
       forward_is_one_of t es (λ b x. Keeps b x.0) trigger now (λ b e x. x) (λ b e f x. x)
-      (λ b e f. ahead_keeps b t es trigger) a
+      (λ b e f. ahead_keeps b t es trigger) (λ b x f. then_on b (found_for t es b) x.0 (founds_keep t es b) f) a
 
   -- The handshake
 

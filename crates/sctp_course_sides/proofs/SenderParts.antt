@@ -202,7 +202,7 @@ missed_count (suc n) (x ∷ xs) = ap suc (missed_count n xs)
 left_behind : (all base n flown left : ℕ) → all ≡ base + flown → n ≤ flown → left ≡ flown - n → all ≡ base + n + left
 left_behind all base n flown left e within d = omega (arith, e, within, d)
 
--- the retransmission timer expired
+-- all that is outstanding was marked: the retransmission timer expired, or the peer's window opened
 pub marked_flown : (id : ℕ) (c : Course) (xs : List InFlight) (base : ℕ) → Flown id c xs base
     → Flown id c (map marked_again xs) base
 marked_flown id c xs base f = record {
@@ -234,13 +234,14 @@ abbrev pub IsHeard : Act → Type 0
 IsHeard (Act.PeerKnown t) = ⊤
 IsHeard (Act.Opened stream first kind) = ⊤
 IsHeard (Act.SpansEnded ids m) = ⊤
+IsHeard Act.Marked = ⊤
 IsHeard (Act.Acknowledged n blocks missing) = ⊤
 IsHeard (Act.Took piece) = ⊤
 IsHeard (Act.Deferred piece) = ⊤
 IsHeard (Act.PassedOver t skipped) = ⊤
 IsHeard act = ⊥
 
--- the initial TSN stays, and so does what is in flight, but for what is acknowledged
+-- the initial TSN stays, and so does what is in flight, but for what is acknowledged or marked
 record LeavesFlown (p q : Parts) : Type 0 where
   own : q.history.own ≡ p.history.own
   flown : (id : ℕ) (c : Course) → Flown id c p.queue.in_flight p.history.base
@@ -254,7 +255,10 @@ act_leaves (Act.Adjusted stream setting) p heard can = absurd heard
 act_leaves (Act.SpansEnded ids m) p heard can = record { own = refl; flown = λ id c f. f }
 act_leaves (Act.Sent now) p heard can = absurd heard
 act_leaves (Act.SentAgain by index) p heard can = absurd heard
-act_leaves Act.Marked p heard can = absurd heard
+act_leaves Act.Marked p heard can = record {
+  own = refl;
+  flown = λ id c f. marked_flown id c p.queue.in_flight p.history.base f;
+}
 act_leaves (Act.Acknowledged n blocks missing) p heard can = record {
   own = refl;
   flown = λ id c f.

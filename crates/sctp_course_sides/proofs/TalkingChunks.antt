@@ -86,7 +86,8 @@ hearer_is_past : (t : Stage) (a : Shown) → HasCome a → MayHear (stage_of a) 
 hearer_is_past t a (inl w) hears one client = absurd (true≢false (sym (one w.client client) ∙ w.incomplete))
 hearer_is_past t a (inr (inl w)) hears one client = absurd (true≢false (sym (one w.client client) ∙ w.incomplete))
 hearer_is_past t a (inr (inr (inl l))) (inl done) one client = absurd (true≢false (sym done ∙ l.incomplete))
-hearer_is_past t a (inr (inr (inl l))) (inr (is_client, known)) one client = absurd (not_both (sym is_client ∙ l.server))
+hearer_is_past t a (inr (inr (inl l))) (inr (is_client, known)) one client =
+    absurd (not_both (sym is_client ∙ l.server))
 hearer_is_past t a (inr (inr (inr s))) hears one client = s.state
 
 -- and it is not closed
@@ -134,7 +135,8 @@ module _ (P : ChunkPayloadData → Type 0) (own initial id : ℕ) (t s : Stage) 
 
     -- of DATA and of what belongs to it
     data_talks : (header : CommonHeader) (chunk : Chunk) (a : Shown) (trigger : AckTrigger) (now : ℕ)
-        → IsNoGreeting chunk → ComesTruly P initial id t c chunk → Talks a → Talks (on_chunk a header chunk trigger now).0
+        → IsNoGreeting chunk → ComesTruly P initial id t c chunk → Talks a → Talks
+        (on_chunk a header chunk trigger now).0
     data_talks header chunk a trigger now shakes (came, speaks, so) k =
         let b : Shown = (on_chunk a header chunk trigger now).0 in
         let came_then : ChunkComes initial id k.after chunk = comes_still initial id c k.after k.goes chunk came in

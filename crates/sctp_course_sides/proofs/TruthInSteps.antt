@@ -29,18 +29,23 @@ use Rattle.sctp_resets.specs.Resets as resets
 use Rattle.sctp_resets.specs.Skips as skips
 use Rattle.sctp_courses.specs.Course.{Course}
 use Rattle.sctp_assoc.specs.Calls.{is_beginning, is_cookie_echoed, is_established, sends_data}
-use Rattle.sctp_assoc.specs.Chunks.{asks, asks_or_faults, counted_data, counted_sack, deferred_unless}
+use Rattle.sctp_assoc.specs.Chunks.{after_sack, asks, asks_or_faults, counted_data, counted_sack, deferred_unless}
 use Rattle.sctp_assoc.specs.Chunks.{deferred_where_admitted, goes_unread, left_or_handed_over, on_counted_sack}
 use Rattle.sctp_assoc.specs.Chunks.{on_data, on_new_data, on_sack, stream_found, taken_in, taken_unless}
 use Rattle.sctp_assoc.specs.Chunks.{taken_where_admitted, then_skips, told, with_message}
 use Rattle.sctp_assoc.specs.Closing.{is_exhausted}
 use Rattle.sctp_assoc.specs.Control.{queued}
+use Rattle.sctp_assoc.specs.Finding.{found_for}
 use Rattle.sctp_assoc.specs.Handshake.{connected, information_returned, on_cookie_ack, on_cookie_echo, on_heartbeat}
+use Rattle.sctp_assoc.specs.Probes.{forgiven_if, marked_if, probes_answered}
 use Rattle.sctp_assoc.specs.Resets.{asking_if, channels_of, settled, settled_with, skips_applied_of, with_beside}
 use Rattle.sctp_assoc.specs.Resets.{with_resetting}
 use Rattle.sctp_assoc.specs.Shown.{Shown, all_waiting}
+use Rattle.sctp_assoc.specs.Shutdown.{shutdown_continued}
 use Rattle.sctp_assoc.specs.Skipping.{acknowledged_at_once, asks_behind, on_forward, unrecognized_chunk, with_passed}
 use Rattle.sctp_assoc.specs.Skipping.{with_skip, with_skips}
+use Rattle.sctp_assoc.proofs.Probes.{probes_keep}
+use Rattle.sctp_assoc.proofs.StreamsFound.{found_for_keeps}
 use Rattle.sctp_sides.proofs.ForwardKinds.{forward_is_one_of}
 use Rattle.sctp_sides.proofs.PeerRequestsInChunks.{flow_same}
 use Rattle.sctp_course_sides.specs.Answers.{AnswersTruly, ChunkIsTrue, IsOfPerformed}
@@ -327,13 +332,25 @@ module _ (initial : ℕ) (d : Course) where
 
   -- SACK
 
+  -- probes of a closed window are answered
+  pub probes_stay : (before window : ℕ) (a : Shown) → Stays a (probes_answered before window a)
+  probes_stay before window a =
+      probes_keep (λ (b : Shown). Stays a b)
+      (λ (b : Shown) (s : Stays a b).
+      then_stays a b (forgiven_if true b) s (stays_by b (forgiven_if true b) refl refl refl))
+      (λ (b : Shown) (s : Stays a b).
+      then_stays a b (marked_if true b) s (stays_by b (marked_if true b) refl refl refl)) before window a (same a)
+
   pub outcome_stays : (o : SackOutcome) (a : Shown) (cumulative_tsn_ack : ℕ) (blocks : List GapAckBlock) (window : ℕ)
       (trigger : AckTrigger) (now : ℕ)
       → Stays a (on_counted_sack o a cumulative_tsn_ack blocks window trigger now).0
   outcome_stays outcomes.Older a cumulative_tsn_ack blocks window trigger now = same a
   outcome_stays outcomes.NotInFlight a cumulative_tsn_ack blocks window trigger now = same a
   outcome_stays outcomes.NamesTheUnsent a cumulative_tsn_ack blocks window trigger now = same a
-  outcome_stays outcomes.Taken a cumulative_tsn_ack blocks window trigger now = stays_by a _ refl refl refl
+  outcome_stays outcomes.Taken a cumulative_tsn_ack blocks window trigger now =
+      let b : Shown = shutdown_continued (after_sack a cumulative_tsn_ack blocks window now) in
+      then_stays a b (probes_answered a.sender.advertised_window window b) (stays_by a b refl refl refl)
+      (probes_stay a.sender.advertised_window window b)
 
   pub sack_stays : (sends : Bool) (a : Shown) (cumulative_tsn_ack : ℕ) (blocks : List GapAckBlock) (window : ℕ)
       (trigger : AckTrigger) (now : ℕ) → sends_data a.state ≡ sends
@@ -346,6 +363,14 @@ module _ (initial : ℕ) (d : Course) where
   sack_stays false a cumulative_tsn_ack blocks window trigger now e = rw e (same a)
 
   -- FORWARD TSN
+
+  -- the streams on which it skips are found or made
+  pub founds_stay : (tsn : ℕ) (es : List SkippedStream) (a : Shown) → Stays a (found_for tsn es a)
+  founds_stay tsn es a =
+      found_for_keeps (λ (b : Shown). Stays a b)
+      (λ (b : Shown) (id : ℕ) (s : Stays a b).
+      then_stays a b (stream_found b id).0 s
+      (found_stays (is_some (stream_at b.streams id)) (generation_left b.streams) b id refl refl)) tsn es a (same a)
 
   pub skip_stays : (retires : Bool) (tsn id ssn : ℕ) (a : Shown) → resets.is_retiring a.resets id ≡ retires
       → Stays a (with_skip tsn id ssn a)
@@ -378,6 +403,7 @@ module _ (initial : ℕ) (d : Course) where
       (λ b e. still 1 b _ (queued_stays b unrecognized_chunk tt))
       (λ b e f. still 1 b (acknowledged_at_once b now) (stays_by b (acknowledged_at_once b now) refl refl refl))
       (λ b e f. passed_steps b tsn es trigger)
+      (λ b x s. behind 1 b (found_for tsn es b) x.0 (founds_stay tsn es b) s)
       a
 
   -- Chunks of the handshake that are no greeting, and beside it

@@ -80,8 +80,8 @@ receiving p =
 pub data Act : Type 0 where
   -- the peer's initial TSN became known; what came before is forgotten
   PeerKnown : ℕ → Act
-  -- the application or the peer's DATA made a stream; its own messages have an identifier from this one on and this
-  -- payload type
+  -- the application, or DATA or a FORWARD TSN of the peer, made a stream; its own messages have an identifier from this
+  -- one on and this payload type
   Opened : ℕ → ℕ → PayloadProtocolIdentifier → Act
   -- a write of these bytes was accepted on a stream, under the payload type that it names, or else the stream's
   Wrote : ℕ → Option PayloadProtocolIdentifier → List ℕ → Act

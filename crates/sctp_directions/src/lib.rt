@@ -22,8 +22,8 @@ ghost use Rattle.sctp_directions.specs.Laws.{ShortMessagesAreOnePiece, WhatComes
 ghost use Rattle.sctp_directions.specs.Laws.{WritesAreAcceptedLast};
 
 /// What an association writes, sends again, finds acknowledged, abandons and drops happens at the sender of its
-/// direction, and so do a FORWARD TSN that it makes and the end of a stream's span. Of marks, of deadlines and of what an
-/// application sets on a stream that sender knows nothing.
+/// direction, and so do a FORWARD TSN that it makes and the end of a stream's span. Of marks, of deadlines and of what
+/// an application sets on a stream that sender knows nothing.
 pub fn its_own_acts_are_events()
     ensures writes { ItsWritesAreAccepted }
     ensures pieces { ItsPiecesAreGiven }

@@ -1,5 +1,5 @@
--- A message that was just read, of a stream of which none is kept: it is given as if it were kept behind the others, and
--- given from there.
+-- A message that was just read, of a stream of which none is kept: it is given as if it were kept behind the others,
+-- and given from there.
 use Rattle.std.proofs.Common.{◌≡◌, refl, ap, sym, ◌∙◌, subst, ℕ, true, List, [], ◌∷◌, ◌++◌, length}
 use Rattle.std.proofs.Common.{Option, Some, None, arith, ◌==◌, remove}
 use Rattle.std.proofs.lemmas.Bool.Decides.{nat_tests}

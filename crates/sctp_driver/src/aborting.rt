@@ -16,12 +16,12 @@ const USER_INITIATED_ABORT: u16 = 12;
 
 impl Driver {
     /// Closes the association at once, as `close` does, and tells the peer by an ABORT, which goes out behind the
-    /// datagrams that wait in the driver (RFC 4960 section 9.1). `reason` stands in its cause User-Initiated Abort: text
-    /// for people, of any length up to 65,527 bytes, and best so short that a datagram carries it. In Closed nothing
-    /// changes; before the peer's tag is known it closes, and there is nobody to tell.
+    /// datagrams that wait in the driver (RFC 4960 section 9.1). `reason` stands in its cause User-Initiated Abort:
+    /// text for people, of any length up to 65,527 bytes, and best so short that a datagram carries it. In Closed
+    /// nothing changes; before the peer's tag is known it closes, and there is nobody to tell.
     ///
-    /// Refused: `ErrAssociationFailed` and `ErrOutboundPacketTooLarge`, with nothing changed; `ErrNoMemory`, with nothing
-    /// changed or the association failed.
+    /// Refused: `ErrAssociationFailed` and `ErrOutboundPacketTooLarge`, with nothing changed; `ErrNoMemory`, with
+    /// nothing changed or the association failed.
     pub fn abort(&mut self, reason: &[u8]) -> Result<(), Error>
         ensures ok { OnOk result (Aborts self.old reason.now self.new) }
         ensures failed { IsErrOf result Error.ErrAssociationFailed ↔ (self.old.association.failed ≡ true) }

@@ -1,22 +1,19 @@
 // A driver: how it is made, and its calls with datagrams and moments.
-ghost use Rattle.std.specs.Prelude.{◌≡◌, ◌≢◌, ◌↔◌, ◌⊎◌, ◌-◌, ◌^◌, [], None, Err, IsErrOf, IfOk, OnErr, OnOk};
-ghost use Rattle.std.specs.Prelude.{false, min, true};
+ghost use Rattle.std.specs.Prelude.{◌≡◌, ◌≢◌, ◌↔◌, ◌⊎◌, ◌-◌, [], None, Err, IsErrOf, IfOk, OnErr, OnOk, false, true};
 ghost use Rattle.std.specs.Option.{option_copied};
 ghost use Rattle.sctp_wire.specs.Packets.{finished};
-ghost use Rattle.sctp_parts.specs.State.{is_closing};
 ghost use Rattle.sctp_parts.specs.Timers.{least_moment};
 ghost use Rattle.sctp_streams.specs.Streams.{live_ids};
-ghost use Rattle.sctp_assoc.specs.Calls.{Refuses, RefusesOrLacksMemory, event_polled, failed_refusal};
-ghost use Rattle.sctp_assoc.specs.Calls.{first_refusal, is_established, with_max_send_message_size};
+ghost use Rattle.sctp_assoc.specs.Calls.{Refuses, RefusesOrLacksMemory, event_polled, failed_refusal, first_refusal};
+ghost use Rattle.sctp_assoc.specs.Calls.{with_max_send_message_size};
 ghost use Rattle.sctp_assoc.specs.Chunks.{after_packet};
-ghost use Rattle.sctp_assoc.specs.Closing.{closed_by, is_closed_state, tells_exhaustion};
+ghost use Rattle.sctp_assoc.specs.Closing.{closed_by, is_closed_state};
 ghost use Rattle.sctp_assoc.specs.Created.{client, create_refusal, created, join_refusal, joined, server};
 ghost use Rattle.sctp_assoc.specs.Gather.{has_something_to_give};
 ghost use Rattle.sctp_assoc.specs.Inbound.{taken_packet};
 ghost use Rattle.sctp_assoc.specs.Shutdown.{endpoint_event_polled, shutdown_begun, shutdown_refusal};
 ghost use Rattle.sctp_assoc.specs.Timeouts.{after_timeouts, timeouts_take_memory};
-ghost use Rattle.sctp_driver.specs.Driving.{RunsOutOfMemory, begun_with, by_rfcs, timeout_refusal};
-ghost use Rattle.sctp_driver.specs.Driving.{with_association};
+ghost use Rattle.sctp_driver.specs.Driving.{RunsOutOfMemory, begun_with, by_rfcs, timeout_refusal, with_association};
 ghost use Rattle.sctp_driver.specs.Sending.{Sends, asked};
 ghost use Rattle.sctp_driver.specs.Tags.{answer_to, begins, judged_packet, packet_in};
 
@@ -26,9 +23,9 @@ use crate::sending::{PollAnswer, packets_in, take_first};
 use crate::tags::{DatagramAnswer, first_chunk, judge};
 use bytes::Bytes;
 use sctp_assoc::{
-    Association, AssociationError, AssociationEvent, AssociationState, AssociationStats, ChunkInit,
-    EndpointEvent, Error, Event, Instant, PartialDecode, Payload, Profile, ServerConfig, StreamId,
-    Transmit, TransportConfig,
+    Association, AssociationError, AssociationEvent, AssociationState, ChunkInit, EndpointEvent,
+    Error, Event, Instant, PartialDecode, Payload, Profile, ServerConfig, StreamId, Transmit,
+    TransportConfig,
 };
 use std::alloc::Global;
 use std::collections::VecDeque;
@@ -216,8 +213,8 @@ impl Driver {
 
     /// Takes in one datagram that came at `now`, in nanoseconds. One that is no packet, whose verification tag RFC 4960
     /// section 8.5 does not accept, or that is an INIT past the handshake, is left and changes nothing. An ABORT or a
-    /// SHUTDOWN COMPLETE may have the peer's tag and its T bit set (section 8.5.1). A SHUTDOWN begins a shutdown at this
-    /// side, too, and a SHUTDOWN COMPLETE ends it: the association closes then (section 9.2).
+    /// SHUTDOWN COMPLETE may have the peer's tag and its T bit set (section 8.5.1). A SHUTDOWN begins a shutdown at
+    /// this side, too, and a SHUTDOWN COMPLETE ends it: the association closes then (section 9.2).
     ///
     /// Errors: `ErrAssociationFailed`, with nothing changed; `ErrNoMemory`, which leaves all as it was, or the
     /// association failed where it was at reading the packet.
@@ -280,8 +277,8 @@ impl Driver {
 
     /// Copies the next datagram that is due at `now`, in nanoseconds, to the front of the buffer and takes it out.
     /// Where the buffer is shorter the datagram waits on, and `NoRoom` says how long it is. Call it until it answers
-    /// `Nothing`. The association is asked only where no datagram waits in the driver. Where a SHUTDOWN COMPLETE is due,
-    /// the association closes as it is asked, and its datagrams still go out.
+    /// `Nothing`. The association is asked only where no datagram waits in the driver. Where a SHUTDOWN COMPLETE is
+    /// due, the association closes as it is asked, and its datagrams still go out.
     ///
     /// Errors, only where none waits: `ErrAssociationFailed`, with nothing changed; `ErrNoMemory`, only where there is
     /// something to give, after which the association is failed and the packets of this poll are lost.
@@ -376,8 +373,8 @@ impl Driver {
     /// peer's does; `Event::AssociationLost` tells it, for the reason `AssociationClosed`. Read what comes before that,
     /// as the end of a stream takes unread messages with it. A peer that is gone is waited for without a limit of time.
     ///
-    /// Refused, in this order with nothing changed: `ErrAssociationFailed`; `ErrShutdownNonEstablished` in any state but
-    /// Established, so also where the peer began a shutdown. Takes no memory.
+    /// Refused, in this order with nothing changed: `ErrAssociationFailed`; `ErrShutdownNonEstablished` in any state
+    /// but Established, so also where the peer began a shutdown. Takes no memory.
     pub fn shutdown(&mut self) -> Result<(), Error>
         ensures refused { Refuses result (shutdown_refusal self.old.association) }
         ensures ok { OnOk result (self.new
@@ -412,7 +409,7 @@ impl Driver {
             .set_max_send_message_size(max_send_message_size);
     }
 
-    /// The identifiers of the streams, ascending: those that this side opened, and those on which DATA came.
+    /// The identifiers of the streams, ascending: those that this side opened, and those that the peer did.
     ///
     /// Refused, in this order with nothing changed: `ErrAssociationFailed`, `ErrNoMemory`.
     pub fn stream_ids(&self) -> Result<Vec<StreamId>, Error>
@@ -420,74 +417,6 @@ impl Driver {
         ensures ids { IfOk result (λ ids. ids.items ≡ live_ids self.now.association.streams) }
     {
         self.association.stream_ids()
-    }
-
-    /// What was counted since the association was made: DATA and SACK chunks that came, and expired timers (RFC 4960
-    /// sections 6.2 and 6.3), and DATA chunks that were retransmitted fast (section 7.2.4).
-    pub fn stats(&self) -> AssociationStats
-        ensures { result ≡ self.now.association.counts }
-    {
-        self.association.stats()
-    }
-
-    /// The retransmission timeout (RFC 4960 section 6.3.1), in ms, up to the greatest u64.
-    pub fn rto_ms(&self) -> u64
-        ensures { result ≡ min self.now.association.estimate.rto (2 ^ 64 - 1) }
-    {
-        self.association.rtt().as_millis().min(u64::MAX as u128) as u64
-    }
-
-    /// How many streams this side may send on, those with the identifiers below it: as many as it offers, and once the
-    /// handshake has got that far as many as both sides agreed on (RFC 4960 section 5.1.1). No call of a stream holds to
-    /// it; a peer answers DATA on another stream by an ERROR.
-    pub fn outbound_streams(&self) -> u16
-        ensures { result ≡ self.now.association.handshake.num_outbound_streams }
-    {
-        self.association.stream_counts().0
-    }
-
-    /// Whether the state is Established (RFC 4960 section 4): messages can be written.
-    pub fn is_established(&self) -> bool
-        ensures { result ≡ is_established self.now.association.state }
-    {
-        matches!(self.association.state(), AssociationState::Established)
-    }
-
-    /// Whether a shutdown has begun, at either side, and the association is not closed yet (RFC 4960 section 9.2).
-    pub fn is_closing(&self) -> bool
-        ensures { result ≡ is_closing self.now.association.state }
-    {
-        self.association.is_closing()
-    }
-
-    /// Whether the state is Closed: that of a server until a handshake establishes it, and of any side after a loss.
-    pub fn is_closed(&self) -> bool
-        ensures { result ≡ is_closed_state self.now.association.state }
-    {
-        self.association.is_closed()
-    }
-
-    /// Whether the association was lost: a fault closed it, or `close`, or the end of a shutdown. Nothing is left to do
-    /// for it then but to send the datagrams that wait, and to ask for its events and messages.
-    pub fn is_drained(&self) -> bool
-        ensures { result ≡ self.now.association.lost }
-    {
-        self.association.is_drained()
-    }
-
-    /// Whether the newest event that nobody asked for yet tells that the receive buffer was exhausted, which closed the
-    /// association.
-    pub fn tells_exhaustion(&self) -> bool
-        ensures { result ≡ tells_exhaustion self.now.association }
-    {
-        self.association.tells_exhaustion()
-    }
-
-    /// Whether an earlier call found no memory in its middle. Then the association is over.
-    pub fn is_failed(&self) -> bool
-        ensures { result ≡ self.now.association.failed }
-    {
-        self.association.is_failed()
     }
 }
 

@@ -30,6 +30,7 @@ mod driver;
 mod lending;
 mod messages;
 mod paths;
+mod readers;
 mod sending;
 mod streams;
 mod tags;

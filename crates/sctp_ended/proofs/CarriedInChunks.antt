@@ -43,8 +43,10 @@ use Rattle.sctp_assoc.specs.Calls.{is_beginning, is_cookie_echoed, is_cookie_wai
 use Rattle.sctp_assoc.specs.Chunks.{after_packet, after_packet_of, after_sack, checked_first, counted_sack, dispatched}
 use Rattle.sctp_assoc.specs.Chunks.{after_chunks, ended, goes_on, on_chunk, on_counted_sack, on_sack, with_acknowledged}
 use Rattle.sctp_assoc.specs.Closing.{is_exhausted}
+use Rattle.sctp_assoc.specs.Finding.{found_for}
 use Rattle.sctp_assoc.specs.Handshake.{connected, cookie_queued, echoed, information_returned, learned, learned_back}
 use Rattle.sctp_assoc.specs.Handshake.{on_cookie_ack, on_cookie_echo, on_heartbeat, on_init, on_init_ack, sends_cookie}
+use Rattle.sctp_assoc.specs.Probes.{probes_answered}
 use Rattle.sctp_assoc.specs.Resets.{after_param, asking_if, behind_first, behind_params, channels_of, handled_with}
 use Rattle.sctp_assoc.specs.Resets.{on_reconfig, on_request, on_response, responded_with, settled, stopped_if}
 use Rattle.sctp_assoc.specs.Resets.{with_beside, with_resetting}
@@ -52,6 +54,8 @@ use Rattle.sctp_assoc.specs.Shown.{Shown}
 use Rattle.sctp_assoc.specs.Shutdown.{shutdown_answered, shutdown_continued, shutdown_taken}
 use Rattle.sctp_assoc.specs.Skipping.{acknowledged_at_once, asks_behind, on_forward, skips_of, with_passed, with_skip}
 use Rattle.sctp_assoc.specs.Skipping.{with_skips}
+use Rattle.sctp_assoc.proofs.Probes.{probes_keep}
+use Rattle.sctp_assoc.proofs.StreamsFound.{found_for_keeps}
 use Rattle.sctp_sides.proofs.ForwardKinds.{forward_is_one_of}
 use Rattle.sctp_sides.proofs.PeerRequestsInChunks.{flow_same}
 use Rattle.sctp_ended.specs.Boundaries.{GoesOn, HoldsThroughChunks, HoldsThroughPacket, HoldsWhereThere}
@@ -60,7 +64,7 @@ use Rattle.sctp_ended.proofs.Carried.{Carries, IsCarried, SideIs, asking_if_carr
 use Rattle.sctp_ended.proofs.Carried.{exhausted_carries, nothing_carries, queued_carries, resetting_carries}
 use Rattle.sctp_ended.proofs.Carried.{responding_carries, same_carries, same_side_carries, skipped_is_mild}
 use Rattle.sctp_ended.proofs.Carried.{streams_carry, then_carries}
-use Rattle.sctp_ended.proofs.CarriedInData.{on_data_carries, settling_carries}
+use Rattle.sctp_ended.proofs.CarriedInData.{on_data_carries, settling_carries, stream_found_carries}
 use Rattle.sctp_ended.proofs.CarriedInResets.{handled_carries, responded_carries}
 use Rattle.sctp_ended.proofs.CarriedInSending.{sack_taken_carries}
 
@@ -73,6 +77,14 @@ module _ {Open : GenerationsView → PeerView → Type 0} {T : GenerationsView �
   acknowledged_carries a progress now (sender, estimate, streams) still =
       streams_carry a _ still refl refl
 
+  -- probes that it answers change timers and what is to be sent again alone
+  probed_carries : (before window : ℕ) (a : Shown) → Carries T a (probes_answered before window a)
+  probed_carries before window a =
+      probes_keep (Carries T a)
+      (λ b k. then_carries k (same_carries b _ refl refl refl))
+      (λ b k. then_carries k (same_carries b _ refl refl refl))
+      before window a (nothing_carries a)
+
   outcome_carries : (o : SackOutcome) (a : Shown) (cumulative_tsn_ack : ℕ) (blocks : List GapAckBlock) (window : ℕ)
       (trigger : AckTrigger) (now : ℕ)
       → Carries T a (on_counted_sack o a cumulative_tsn_ack blocks window trigger now).0
@@ -82,13 +94,14 @@ module _ {Open : GenerationsView → PeerView → Type 0} {T : GenerationsView �
       nothing_carries a
   outcome_carries outcomes.Taken a cumulative_tsn_ack blocks window trigger now =
       let b : Shown = after_sack a cumulative_tsn_ack blocks window now in
+      let c : Shown = shutdown_continued b in
       then_carries
       (acknowledged_carries a (progress_of a.sender cumulative_tsn_ack blocks) now
       (sack_taken cumulative_tsn_ack blocks window now a.sender a.estimate a.streams)
       (λ h. sack_taken_carries (T a.resets.generations a.resets.peer)
       (rules.streams.changes a.resets.generations a.resets.peer)
       cumulative_tsn_ack blocks window now a.sender a.estimate a.streams h))
-      (same_carries b (shutdown_continued b) refl refl refl)
+      (then_carries (same_carries b c refl refl refl) (probed_carries a.sender.advertised_window window c))
 
   sack_carries : (sends : Bool) (a : Shown) (cumulative_tsn_ack : ℕ) (blocks : List GapAckBlock) (window : ℕ)
       (trigger : AckTrigger) (now : ℕ) → sends_data a.state ≡ sends
@@ -235,6 +248,12 @@ module _ {Open : GenerationsView → PeerView → Type 0} {T : GenerationsView �
       (then_carries (passed_carries b tsn)
       (then_carries (settling_carries rules c) (asks_behind_carries (settled c) trigger)))
 
+  -- the streams on which it skips are found or made before
+  all_found_carry : (tsn : ℕ) (es : List SkippedStream) (a : Shown) → Carries T a (found_for tsn es a)
+  all_found_carry tsn es a =
+      found_for_keeps (Carries T a) (λ b id k. then_carries k (stream_found_carries rules b id)) tsn es a
+      (nothing_carries a)
+
   on_forward_carries : (a : Shown) (tsn : ℕ) (es : List SkippedStream) (trigger : AckTrigger) (now : ℕ)
       → Carries T a (on_forward a tsn es trigger now).0
   on_forward_carries a tsn es trigger now =
@@ -242,6 +261,7 @@ module _ {Open : GenerationsView → PeerView → Type 0} {T : GenerationsView �
       (λ b e. queued_carries b _)
       (λ b e f. same_carries b (acknowledged_at_once b now) refl refl refl)
       (λ b e f. ahead_carries b tsn es trigger)
+      (λ b x k. then_carries (all_found_carry tsn es b) k)
       a
 
   -- RE-CONFIG

@@ -84,7 +84,7 @@ module _ {Open : GenerationsView → PeerView → Type 0} {T : GenerationsView �
       kinds.Unknown (none_of (stream_at a.streams id) e) h) refl refl)
   found_carries_if false false a id e f = rw (e, f) (nothing_carries a)
 
-  stream_found_carries : (a : Shown) (id : ℕ) → Carries T a (stream_found a id).0
+  pub stream_found_carries : (a : Shown) (id : ℕ) → Carries T a (stream_found a id).0
   stream_found_carries a id =
       found_carries_if (is_some (stream_at a.streams id)) (generation_left a.streams) a id refl refl
 

@@ -33,7 +33,8 @@ pub record Underway (x : Surroundings) (B : By → ℕ → Type 0) (a : Shown) :
 -- the same association, or one that differs beside its directions, stands open where its parts hold
 unfoldable pub stands_by : (x : Surroundings) {a b : Shown} (k : History) {out coming : Direction}
     → (s : StandsOpen x.loose x.own x.peer a out coming) → KeepsTheStage a b → ResetsPastOnly x.coming.over b
-    → Binds b k → (k.peer ≡ s.past.peer) → x.out.sender.plan.size ≡ out.sender.plan.size → Holds x (parts b k) → OpenAt x b
+    → Binds b k → (k.peer ≡ s.past.peer) → x.out.sender.plan.size ≡ out.sender.plan.size → Holds x (parts b k)
+    → OpenAt x b
 stands_by x {a} {b} k s same past binds met size h = record {
   past = k;
   own_is = h.own_is;

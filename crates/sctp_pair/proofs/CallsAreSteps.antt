@@ -129,7 +129,8 @@ faces_b step reply w f = record {
 
 -- What a step and its reply add, read and bring is at this side this alone, and at the other side nothing; the DATA
 -- that comes to this side has this initial TSN. The spans that the step may end are these.
-pub record IsCallEnding (Ended : ℕ → Type 0) (step : Step) (reply : Reply) (side : Side2) (w : World) (initial : ℕ) (Added : ℕ → List Message)
+pub record IsCallEnding (Ended : ℕ → Type 0) (step : Step) (reply : Reply) (side : Side2) (w : World) (initial : ℕ)
+    (Added : ℕ → List Message)
     (Read : ℕ → Option letters.ReceivedMessage) (Brought : By → ℕ → Type 0) : Type 0 where
   pub adds : (s : ℕ) → Added s ≡ accepted_at step reply side s w
   pub reads : (s : ℕ) → Read s ≡ message_read step reply side s
@@ -282,7 +283,8 @@ module _ (step : Step) (reply : Reply) (w : World) (q : Ends) where
           (λ o n. absurd n) (accepted_in_order step reply w q fits ends sides.A) (is_open s) s.sound_out
           (receives_or_stopped w.initial_b w.initial_a q.b s.coming2 s.out2 stands.side_b) restarted;
       ba_step =
-          direction_step sides.B sides.A w.initial_b s.does_coming call.ends call.adds_alone call.reads call.brings call.passes
+          direction_step sides.B sides.A w.initial_b s.does_coming call.ends call.adds_alone call.reads call.brings
+          call.passes
           (accepted_in_order step reply w q fits ends sides.B)
           (inr (ap (λ (z : Sender). z.plan.places) s.coming_still)) s.sound_coming
           (receives_or_stopped w.initial_a w.initial_b q.a s.out2 s.coming2 stands.side_a)
@@ -373,7 +375,8 @@ module _ (step : Step) (reply : Reply) (w : World) (q : Ends) where
       loose_a_is = λ s. refl;
       loose_b_is = λ s. refl;
       ab_step =
-          direction_step sides.A sides.B w.initial_a s.does_coming call.ends call.adds_alone call.reads call.brings call.passes
+          direction_step sides.A sides.B w.initial_a s.does_coming call.ends call.adds_alone call.reads call.brings
+          call.passes
           (accepted_in_order step reply w q fits ends sides.A)
           (inr (ap (λ (z : Sender). z.plan.places) s.coming_still)) s.sound_coming
           (receives_or_stopped w.initial_b w.initial_a q.b s.out2 s.coming2 stands.side_b)

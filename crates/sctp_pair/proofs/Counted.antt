@@ -128,7 +128,8 @@ IsRead waiting w = (s : ℕ) → length (w.sender.plan.accepted s) ≤ length (w
 -- A step of the direction from side x.
 module _ {x : Side2} {step : Step} {r : Reply} {w : World} {q : Ends} {initial : ℕ} {before after : Direction}
     (h : IsDirectionStep step r x (other_side x) w q initial before after) where
-  pub pieces_counted : {n : ℕ} → HasAccepted n before → HasAccepted (n + pieces_of before.sender.plan.size x step r) after
+  pub pieces_counted : {n : ℕ} → HasAccepted n before
+      → HasAccepted (n + pieces_of before.sender.plan.size x step r) after
   pieces_counted a =
       let more : AcceptsMore (λ s. accepted_at step r x s w) before after =
       record { size = h.size; accepted = h.accepted } in

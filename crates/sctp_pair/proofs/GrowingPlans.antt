@@ -93,7 +93,8 @@ module _ (w : Direction) where
   grew_drop : (s i : ℕ) → Grew w (happens w (Event.Drop s i))
   unfolding happens
   grew_drop s i =
-      cond_both (can_drop w.sender s i) (record w { sender = dropped w.sender s i }) w (Grew w) (λ b. stays) (λ b. stays)
+      cond_both (can_drop w.sender s i) (record w { sender = dropped w.sender s i }) w (Grew w) (λ b. stays)
+      (λ b. stays)
 
   grew_counted : (s i number : ℕ) (b : Bool)
       → IsGrown w.sender.plan (counted (sent w.sender (first_place s i number)) s i b).plan
@@ -167,7 +168,8 @@ module _ (w : Direction) where
   unfolding happens
   grew_restart s =
       cond_both (can_restart w s)
-      (record w { sender = (let x = w.sender in record x { ssn = put x.ssn s 0 }) }) w (Grew w) (λ b. stays) (λ b. stays)
+      (record w { sender = (let x = w.sender in record x { ssn = put x.ssn s 0 }) }) w (Grew w) (λ b. stays)
+      (λ b. stays)
 
   grew_by : (e : Event) → Grew w (happens w e)
   unfolding happens

@@ -22,6 +22,7 @@ pub mod HandshakeChunk
 pub mod HandshakeStages
 pub mod CountedRuns
 pub mod MessageBytes
+pub mod MissingStreams
 pub mod NeverTakenBack
 pub mod NumbersAnew
 pub mod NewPairs

@@ -28,10 +28,10 @@ use Rattle.sctp_directions.specs.Said.{IsForwardMade}
 use Rattle.sctp_directions.specs.Reports.{SaysWhatWasTaken}
 use Rattle.sctp_directions.proofs.Proved.{its_abandonments_are_alike, its_acknowledgements_are_alike}
 use Rattle.sctp_directions.proofs.Proved.{acts_keep_the_initial_tsns, its_drops_are_alike, its_forwards_say_the_same}
-use Rattle.sctp_directions.proofs.Proved.{its_starts_are_no_events, its_tails_are_abandoned_alike}
+use Rattle.sctp_directions.proofs.Proved.{its_marks_are_no_events, its_pieces_are_given, its_starts_are_no_events}
 use Rattle.sctp_directions.proofs.Proved.{events_keep_the_limits, only_beginnings_assign, own_acts_leave_what_comes}
 use Rattle.sctp_directions.proofs.Proved.{only_ends_close_reads, only_settings_loosen, own_acts_end_no_span}
-use Rattle.sctp_directions.proofs.Proved.{its_pieces_are_given, senders_events_keep_the_invariant}
+use Rattle.sctp_directions.proofs.Proved.{its_tails_are_abandoned_alike, senders_events_keep_the_invariant}
 use Rattle.sctp_sides.specs.SideLaws.{GivesNew, GivesUpOrAgain}
 use Rattle.sctp_pair.proofs.BetweenDirections.{Goes, Holds, IsOrderly, None_brought, OtherStands, Surroundings}
 use Rattle.sctp_pair.proofs.BetweenDirections.{goes_by_sender, goes_nowhere, goes_on, other_by_sender, sound_after}
@@ -260,6 +260,21 @@ act_acknowledged {x} {p} n k missing c sack h e says at can = (
   λ within. events_keep_the_limits x.out (Event.SackComes k) tt within,
   only_beginnings_assign x.out (Event.SackComes k) tt (λ n. n),
 )
+
+-- all that is outstanding is marked to go out again: the directions hold the association still, as they are
+pub marks_hold : (x : Surroundings) (p : Parts) → Holds x p → Holds x (done Act.Marked p)
+marks_hold x p h = record {
+  own_is = h.own_is;
+  sound_out = h.sound_out;
+  sound_coming = h.sound_coming;
+  between = record {
+    outgoing = its_marks_are_no_events p x.out h.between.outgoing;
+    incoming = own_acts_leave_what_comes Act.Marked p x.coming tt h.between.incoming;
+  };
+  in_order = h.in_order;
+  reads_open = h.reads_open;
+  other = h.other;
+}
 
 -- what is given out, and a piece of what was accepted, stays so
 given_piece_grows : (own : ℕ) (w v : Direction) (c : ChunkPayloadData) → Goes None_brought w v → IsGivenPiece own w c

@@ -11,7 +11,6 @@ use Rattle.sctp_wire_types.specs.declared.chunk.ChunkForwardTsn.{ChunkForwardTsn
 use Rattle.sctp_wire_types.specs.declared.chunk.ChunkPayloadData.{ChunkPayloadData}
 use Rattle.sctp_wire_types.specs.declared.chunk.ChunkReconfig.{ChunkReconfig}
 use Rattle.sctp_wire_types.specs.declared.chunk.ChunkSelectiveAck.{ChunkSelectiveAck}
-use Rattle.sctp_wire_types.specs.declared.chunk.SkippedStream.{SkippedStream}
 use Rattle.sctp_wire_types.specs.declared.packet.CommonHeader.{CommonHeader}
 use Rattle.sctp_wire.specs.declared.packet.Packet.{Packet}
 use Rattle.sctp_model.specs.Invariants.{IsForward, IsPiece}
@@ -20,7 +19,7 @@ use Rattle.sctp_model.specs.Packets.{Data, Forward}
 use Rattle.sctp_serial.specs.Serial.{tsn}
 use Rattle.sctp_model.specs.Machine.{Sender}
 use Rattle.sctp_model.specs.Safe.{IsWithin}
-use Rattle.sctp_model.proofs.Lists.{all_get, all_join}
+use Rattle.sctp_model.proofs.Lists.{all_get, all_join, all_weaker}
 use Rattle.sctp_fit.specs.Incoming.{IsSaid, tsn_before}
 use Rattle.sctp_fit.specs.Sendings.{IsGiven}
 use Rattle.sctp_directions.specs.Acts.{Act, CanAll, History, IsNotPeerKnown, Parts, done, done_all}
@@ -28,21 +27,22 @@ use Rattle.sctp_directions.specs.Reports.{SaysWhatWasTaken}
 use Rattle.sctp_directions.specs.Said.{IsForwardMade, IsMade}
 use Rattle.sctp_directions.proofs.Proved.{acts_keep_the_initial_tsns, sacks_mean_the_same}
 use Rattle.sctp_assoc.specs.Leads.{Leads, parts}
-use Rattle.sctp_assoc.specs.Happened.{acts_of_chunk}
+use Rattle.sctp_assoc.specs.Happened.{acts_of_chunk, marks_if}
 use Rattle.sctp_assoc.specs.Shown.{Shown}
 use Rattle.sctp_sides.specs.Meeting.{Greets, Stage}
 use Rattle.sctp_sides.specs.PastSpan.{EndsPast, ResetsPast, ResetsPastIfAny, ResetsPastOnly}
-use Rattle.sctp_sides.specs.SideLaws.{DefersOnly, IsAcknowledging, IsPassingOver, IsTaking, OpensAndTakes}
+use Rattle.sctp_sides.specs.SideLaws.{DefersOnly, IsAcknowledging, IsOpened, IsTaking, OpensAndTakes}
 use Rattle.sctp_sides.specs.SideLaws.{KeepsTheStage, OpensOnly, TakesChunk, TakesOnly, WithEndsBehind}
-use Rattle.sctp_sides.proofs.Proved.{data_opens_or_takes, done_append, forwards_pass_over, more_are_past}
-use Rattle.sctp_sides.proofs.Proved.{more_is_asked_past, reconfigs_end_past, reconfigs_keep_the_status, sacks_acknowledge}
-use Rattle.sctp_sides.proofs.Proved.{the_same_status_is_the_same_stage}
+use Rattle.sctp_sides.proofs.Proved.{data_opens_or_takes, done_append, more_are_past}
+use Rattle.sctp_sides.proofs.Proved.{more_is_asked_past, reconfigs_end_past, reconfigs_keep_the_status}
+use Rattle.sctp_sides.proofs.Proved.{sacks_acknowledge, the_same_status_is_the_same_stage}
 use Rattle.sctp_pair.specs.Fits.{IsSaidBy}
 use Rattle.sctp_pair.specs.World.{HasData, HasForward}
 use Rattle.sctp_pair.proofs.BetweenDirections.{By, Holds, None_brought, Surroundings, can_back, can_front, goes_nowhere}
 use Rattle.sctp_pair.proofs.BetweenDirections.{goes_on, moved, spans_of}
 use Rattle.sctp_pair.proofs.PastSpans.{changes_as, ends_are_not_peer_known, ends_change_past}
-use Rattle.sctp_pair.proofs.OutgoingData.{AfterOut, act_acknowledged}
+use Rattle.sctp_pair.proofs.OutgoingData.{AfterOut, act_acknowledged, marks_hold}
+use Rattle.sctp_pair.proofs.MissingStreams.{OpenMissing, PassesOverFound, forwards_open_missing}
 use Rattle.sctp_pair.proofs.SaidStaysSaid.{data_stays_said, forward_stays_said}
 use Rattle.sctp_pair.proofs.HandshakeStages.{hearers_know}
 use Rattle.sctp_pair.proofs.HandshakeChunk.{greet_step}
@@ -198,7 +198,8 @@ ends_not_peer_known over Are acts w each =
 -- known, led the direction that comes on.
 pub came_on : {x : Surroundings} {B : By → ℕ → Type 0} {a b : Shown} (u : Underway x B a) (acts : List Act)
     (leads : (k : History) × Leads acts a u.stands.past b k) → KeepsTheStage a b → ResetsPastOnly u.coming2.over b
-    → AllByRecursion IsNotPeerKnown acts → Comes (moved x u.out2 u.coming2) B (parts a u.stands.past) acts → Underway x B b
+    → AllByRecursion IsNotPeerKnown acts → Comes (moved x u.out2 u.coming2) B (parts a u.stands.past) acts
+    → Underway x B b
 unfolding stands_by
 came_on {x} {B} {a} {b} u acts leads same past nobody after =
     let next : Surroundings = moved x u.out2 after.coming2 in
@@ -219,8 +220,8 @@ came_on {x} {B} {a} {b} u acts leads same past nobody after =
       goes = goes_same a b same u.goes;
       meets = meets_same a b same u.meets;
       stands = stands_by next leads.0 u.stands same
-          (more_are_past u.coming2.over after.coming2.over b (λ t o. after.goes.same_spans t ∙ o) past) leads.1.binds met
-          refl holds;
+          (more_are_past u.coming2.over after.coming2.over b (λ t o. after.goes.same_spans t ∙ o) past) leads.1.binds
+          met refl holds;
       holds = holds;
     }
 
@@ -278,29 +279,71 @@ forward_is_known {x} {a = a} k f u e = u.stands.peer_is (⊎_elim
     none_ahead : (m n : ℕ) → m < n → n ≤ 0 → ⊥
     none_ahead m n l z = omega (arith, l, z)
 
--- An association takes a FORWARD TSN between directions that hold it.
-forward_shape : (x : Surroundings) (B : By → ℕ → Type 0) (a : Shown) (h : History) (c : ChunkForwardTsn)
-    → h.peer ≡ x.peer → IsWithin x.coming → Holds x (parts a h) → (acts : List Act)
-    → IsPassingOver c.new_cumulative_tsn c.streams acts → CanAll acts (parts a h) → IsForwardMade x.peer x.coming c
-    → ((n : ℕ) → c.new_cumulative_tsn ≡ tsn_before (tsn x.peer n) → B By.ByForward n) → Comes x B (parts a h) acts
-forward_shape x B a h c known within holds acts (inl n) can made brings =
-    subst (Comes x B (parts a h)) (sym n) (coming_nowhere B within holds)
-forward_shape x B a h c known within holds acts (inr t) can (k, f, e, said) brings =
-    let one = subst (λ zs. CanAll zs (parts a h)) t can in
-    subst (Comes x B (parts a h)) (sym t) (act_passed x (parts a h) B holds within c record {
-      index = k;
-      forward = f;
-      there = e;
-      said = said;
-      brought = brings f.reach said.reach;
-      known = known;
-      can = one.0;
-    })
+-- An association opens streams that are missing and then passes over what a FORWARD TSN says, between directions that
+-- hold it; what that brings is B.
+module _ (B : By → ℕ → Type 0) (c : ChunkForwardTsn) where
+  -- such acts, behind those that open streams
+  abbrev passed_behind : List Act → List Act
+  passed_behind opened = opened ++ Act.PassedOver c.new_cumulative_tsn c.streams ∷ []
 
-passing_is_not_peer_known : (tsn : ℕ) (skipped : List SkippedStream) (acts : List Act) → IsPassingOver tsn skipped acts
+  -- a stream that is opened changes no FORWARD TSN of the direction
+  opened_then_passed : (opened : List Act) (x : Surroundings) (p : Parts) → AllByRecursion IsOpened opened
+      → OpenMissing (passed_behind opened) p.streams → CanAll (passed_behind opened) p → p.history.peer ≡ x.peer
+      → IsWithin x.coming → Holds x p → IsForwardMade x.peer x.coming c
+      → ((n : ℕ) → c.new_cumulative_tsn ≡ tsn_before (tsn x.peer n) → B By.ByForward n)
+      → Comes x B p (passed_behind opened)
+  opened_then_passed [] x p are missing (can, rest) known within holds (k, f, e, said) brings =
+      act_passed x p B holds within c record {
+        index = k;
+        forward = f;
+        there = e;
+        said = said;
+        brought = brings f.reach said.reach;
+        known = known;
+        can = can;
+      }
+  opened_then_passed (Act.Opened id first kind ∷ opened) x p (is, are) (none, missing) (can, rest) known within holds
+      (k, f, e, said) brings =
+      let one = act_opened x p B holds within id first kind none in
+      let next : Surroundings = record x { coming = one.coming2 } in
+      let made : IsForwardMade next.peer next.coming c =
+      (k, f, one.goes.forwards k f e, forward_stays_said x.peer c f (spans_of one.goes) said) in
+      let two =
+      opened_then_passed opened next (done (Act.Opened id first kind) p) are missing rest known one.within one.holds
+      made brings in
+      record {
+        coming2 = two.coming2;
+        goes = goes_on B x.coming one.coming2 two.coming2 one.goes two.goes;
+        still = two.still ∙ one.still;
+        within = two.within;
+        holds = two.holds;
+      }
+  opened_then_passed (act ∷ opened) x p (is, are) missing can known within holds made brings = absurd is
+
+  -- it does so, or nothing
+  forward_shape : (x : Surroundings) (a : Shown) (h : History) → h.peer ≡ x.peer → IsWithin x.coming
+      → Holds x (parts a h) → (acts : List Act) → PassesOverFound c a acts → CanAll acts (parts a h)
+      → IsForwardMade x.peer x.coming c
+      → ((n : ℕ) → c.new_cumulative_tsn ≡ tsn_before (tsn x.peer n) → B By.ByForward n) → Comes x B (parts a h) acts
+  forward_shape x a h known within holds acts (inl n, missing) can made brings =
+      subst (Comes x B (parts a h)) (sym n) (coming_nowhere B within holds)
+  forward_shape x a h known within holds acts (inr t, missing) can made brings =
+      subst (Comes x B (parts a h)) (sym t.are)
+      (opened_then_passed t.opened x (parts a h) t.opened_are
+      (subst (λ (zs : List Act). OpenMissing zs a.streams) t.are missing)
+      (subst (λ (zs : List Act). CanAll zs (parts a h)) t.are can) known within holds made brings)
+
+opened_is_not_peer_known : (act : Act) → IsOpened act → IsNotPeerKnown act
+opened_is_not_peer_known (Act.Opened id first kind) is = tt
+opened_is_not_peer_known act is = absurd is
+
+passing_is_not_peer_known : (c : ChunkForwardTsn) (a : Shown) (acts : List Act) → PassesOverFound c a acts
     → AllByRecursion IsNotPeerKnown acts
-passing_is_not_peer_known tsn skipped acts (inl n) = subst (AllByRecursion IsNotPeerKnown) (sym n) tt
-passing_is_not_peer_known tsn skipped acts (inr t) = subst (AllByRecursion IsNotPeerKnown) (sym t) (tt, tt)
+passing_is_not_peer_known c a acts (inl n, missing) = subst (AllByRecursion IsNotPeerKnown) (sym n) tt
+passing_is_not_peer_known c a acts (inr t, missing) =
+    subst (AllByRecursion IsNotPeerKnown) (sym t.are)
+    (all_join IsNotPeerKnown t.opened (Act.PassedOver c.new_cumulative_tsn c.streams ∷ [])
+    (all_weaker IsOpened IsNotPeerKnown t.opened opened_is_not_peer_known t.opened_are) (tt, tt))
 
 forward_step : {x : Surroundings} {B : By → ℕ → Type 0} (header : CommonHeader) (c : ChunkForwardTsn) {a b : Shown}
     → TakesChunk header (chunks.ForwardTsn c) a b → IsForwardMade x.peer x.coming c
@@ -310,16 +353,15 @@ forward_step {x} {B} header c {a} {b} takes (k, f, e, said) brings u past =
     let h : History = u.stands.past in
     let acts : List Act = acts_of_chunk a header (chunks.ForwardTsn c) in
     let now : Surroundings = moved x u.out2 u.coming2 in
-    let Passing : List Act → Type 0 = IsPassingOver c.new_cumulative_tsn c.streams in
-    let passing = forwards_pass_over u.coming2.over a header c u.stands.resets.resets in
+    let passing = forwards_open_missing u.coming2.over a header c u.stands.resets.resets in
     let leads = takes.leads h u.stands.binds in
     let there = u.goes_coming.forwards k f e in
     let still = forward_stays_said x.peer c f (spans_of u.goes_coming) said in
     came_on u acts leads (the_same_status_is_the_same_stage a b takes.leaves) past
-    (ends_not_peer_known u.coming2.over Passing acts passing
-    (λ front is. passing_is_not_peer_known c.new_cumulative_tsn c.streams front is))
-    (with_ends now B (parts a h) u.both Passing acts passing leads.1.can
-    (λ front is can. forward_shape now B a h c (forward_is_known k f u there) u.within_coming u.holds front is can
+    (ends_not_peer_known u.coming2.over (PassesOverFound c a) acts passing
+    (λ front is. passing_is_not_peer_known c a front is))
+    (with_ends now B (parts a h) u.both (PassesOverFound c a) acts passing leads.1.can
+    (λ front is can. forward_shape B c now a h (forward_is_known k f u there) u.within_coming u.holds front is can
     (k, f, there, still) brings))
 
 -- SACK
@@ -329,6 +371,21 @@ abbrev Goes_out : Surroundings → Parts → List Act → Type 0
 Goes_out x p acts =
     (after : AfterOut x (done_all acts p) []) × IsWithin after.out2
     × (after.out2.sender.plan.places ≡ x.out.sender.plan.places)
+
+-- behind such an act all that is outstanding may be marked to go out again, which its own direction does not see
+marked_out : (marks : Bool) (x : Surroundings) (p : Parts) (act : Act) → Goes_out x p (act ∷ [])
+    → Goes_out x p (act ∷ marks_if marks)
+marked_out true x p act (after, within, same) = (
+  record {
+    out2 = after.out2;
+    goes = after.goes;
+    holds = marks_hold (record x { out = after.out2 }) (done act p) after.holds;
+    said = after.said;
+  },
+  within,
+  same,
+)
+marked_out false x p act out = out
 
 sack_shape : (x : Surroundings) (a : Shown) (h : History) (c : ChunkSelectiveAck) (acts : List Act)
     → (acts ≡ []) ⊎ IsAcknowledging a h c acts → IsMade x.own x.out c → IsWithin x.out
@@ -342,13 +399,20 @@ sack_shape x a h c acts (inr s) (k, sack, e, says) within holds =
     let at : sack.reach ≡ x.out.sender.reach + s.count =
     sacks_mean_the_same (parts a h) s.count c.cumulative_tsn_ack k sack x.out e named.at s.at s.within within
     holds.sound_out.invariant holds.between.outgoing in
+    let act : Act = Act.Acknowledged s.count c.gap_ack_blocks s.missing in
     let one = act_acknowledged s.count k s.missing c sack holds e named at s.within in
-    subst (Goes_out x (parts a h)) (sym s.are) (one.0, one.1 within, one.2)
+    subst (Goes_out x (parts a h)) (sym s.are)
+    (marked_out s.marked x (parts a h) act (one.0, one.1 within, one.2))
+
+marks_are_not_peer_known : (marks : Bool) → AllByRecursion IsNotPeerKnown (marks_if marks)
+marks_are_not_peer_known true = (tt, tt)
+marks_are_not_peer_known false = tt
 
 sack_is_not_peer_known : (a : Shown) (h : History) (c : ChunkSelectiveAck) (acts : List Act)
     → (acts ≡ []) ⊎ IsAcknowledging a h c acts → AllByRecursion IsNotPeerKnown acts
 sack_is_not_peer_known a h c acts (inl n) = subst (AllByRecursion IsNotPeerKnown) (sym n) tt
-sack_is_not_peer_known a h c acts (inr s) = subst (AllByRecursion IsNotPeerKnown) (sym s.are) (tt, tt)
+sack_is_not_peer_known a h c acts (inr s) =
+    subst (AllByRecursion IsNotPeerKnown) (sym s.are) (tt, marks_are_not_peer_known s.marked)
 
 sack_step : {x : Surroundings} {B : By → ℕ → Type 0} (header : CommonHeader) (s : ChunkSelectiveAck) {a b : Shown}
     → TakesChunk header (chunks.SelectiveAck s) a b → IsMade x.own x.out s → (u : Underway x B a)

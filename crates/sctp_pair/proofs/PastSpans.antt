@@ -1,4 +1,5 @@
--- Streams past their span may become anything: what an association does to such streams alone its directions do not see.
+-- Streams past their span may become anything: what an association does to such streams alone its directions do not
+-- see.
 use Rattle.std.proofs.Common.{◌≡◌, refl, sym, ap, ◌∙◌, subst, ⊎_elim, inl, inr, ℕ, Bool, true, false, List, [], ◌∷◌}
 use Rattle.std.proofs.Common.{◌++◌, eqb, Option, Some, None}
 use Rattle.std.proofs.lemmas.Bool.{cases_Bool, cond-false, eqb-true, true≢false, false_from_ne_true}

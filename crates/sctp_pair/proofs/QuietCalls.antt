@@ -325,7 +325,8 @@ module _ (x : Surroundings) (a : Shown) (id : ℕ) (kind : PayloadProtocolIdenti
             ∙ within);
         same = same;
         resets =
-            past_by_receiver x.coming (Event.Open id) tt (opened_streams_reset_no_more a id kind x.coming.over s.resets);
+            past_by_receiver x.coming (Event.Open id) tt
+            (opened_streams_reset_no_more a id kind x.coming.over s.resets);
         size = refl;
         outgoing =
             opened_out p id first kind x.out none f.sound_out.invariant f.sound_out.counts s.between.outgoing;

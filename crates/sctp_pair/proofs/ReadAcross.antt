@@ -1,5 +1,5 @@
--- Messages that were read stand at indexes of their own among those that were written, whether their stream was reset in
--- between or not.
+-- Messages that were read stand at indexes of their own among those that were written, whether their stream was reset
+-- in between or not.
 use Rattle.std.proofs.Common.{◌≡◌, refl, sym, ap, ◌∙◌, subst, ⊎_elim, ℕ, ◌<◌, ◌≤◌, ◌+◌, arith, Bool, true, false, eqb}
 use Rattle.std.proofs.Common.{List, [], ◌∷◌, ◌++◌, length, map, Option, Some, None}
 use Rattle.std.specs.Prelude.{◌||◌}

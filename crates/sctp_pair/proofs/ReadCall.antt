@@ -39,7 +39,8 @@ use Rattle.sctp_assoc.specs.declared.call.Reply.TheVariants as replies
 use Rattle.sctp_pair.specs.Fits.{IsAt, StandsClosed}
 use Rattle.sctp_assoc.specs.Replies.{Reads}
 use Rattle.sctp_pair.proofs.BetweenDirections.{orderly_acts_keep_order, passes_on}
-use Rattle.sctp_pair.proofs.BetweenDirections.{ClosedAt, Does, DoesEnding, Faces, Goes, None_brought, OpenAt, OtherStands}
+use Rattle.sctp_pair.proofs.BetweenDirections.{ClosedAt, Does, DoesEnding, Faces, Goes, None_brought, OpenAt}
+use Rattle.sctp_pair.proofs.BetweenDirections.{OtherStands}
 use Rattle.sctp_pair.proofs.BetweenDirections.{Settles, SettlesQuietly, StandsAt, goes_by_receiver, run_append}
 use Rattle.sctp_pair.proofs.BetweenDirections.{Surroundings, does_by_goes, goes_nowhere, nothing_added}
 use Rattle.sctp_pair.proofs.BetweenDirections.{none_ends, nothing_read, other_by_receiver, same_spans_go_on}

@@ -62,7 +62,8 @@ module _ (own peer : ℕ) {s t : Stage} {out coming out2 coming2 : Direction}
     (g : StageGoesOn s t out coming out2 coming2) where
   -- one chunk
   chunk_grows : (c : Chunk) → Says own peer out coming c → Says own peer out2 coming2 c
-  chunk_grows (chunks.Data c) (k, d, there, said) = (k, d, g.datas k d there, data_stays_said own c d g.spans.within said)
+  chunk_grows (chunks.Data c) (k, d, there, said) =
+      (k, d, g.datas k d there, data_stays_said own c d g.spans.within said)
   chunk_grows (chunks.SelectiveAck c) (k, x, there, made) = (k, x, g.sacks k x there, made)
   chunk_grows (chunks.ForwardTsn c) (k, f, there, said) =
       (k, f, g.forwards k f there, forward_stays_said own c f g.spans.within said)
@@ -73,7 +74,8 @@ module _ (own peer : ℕ) {s t : Stage} {out coming out2 coming2 : Direction}
   piece_stays (chunks.Data c) piece = accepted_pieces_stay own out.sender.plan out2.sender.plan c g.plan piece
   piece_stays c piece = tt
 
-  -- a chunk of the handshake says it of a later stage, too, and one that resets streams of more that are past their span
+  -- a chunk of the handshake says it of a later stage, too, and one that resets streams of more that are past their
+  -- span
   said_by_grows : (c : Chunk) → IsSaidBy own peer s out coming c → IsSaidBy own peer t out2 coming2 c
   said_by_grows c (inl said) = inl (chunk_grows c said.0, piece_stays c said.1)
   said_by_grows c (inr (inl greets)) = inr (inl (greetings_stay_true own s t c g.goes greets))

@@ -39,7 +39,8 @@ use Rattle.sctp_pair.specs.Fits.{AreSaid, Fits, LeadsSafely}
 use Rattle.sctp_pair.proofs.BetweenDirections.{Faces, None_brought, None_ended, Settles, SettlesEnding}
 use Rattle.sctp_pair.proofs.BetweenDirections.{SettlesQuietly, Surroundings}
 use Rattle.sctp_pair.proofs.BetweenDirections.{nothing_added, nothing_read}
-use Rattle.sctp_pair.proofs.CallsAreSteps.{IsCallAt, IsCallEnding, around_a, around_b, faces_a, faces_b, settled_a, settled_b}
+use Rattle.sctp_pair.proofs.CallsAreSteps.{IsCallAt, IsCallEnding, around_a, around_b, faces_a, faces_b, settled_a}
+use Rattle.sctp_pair.proofs.CallsAreSteps.{settled_b}
 use Rattle.sctp_pair.proofs.AcceptedAndRead.{IsQuiet, quiet_call, read_call, write_call}
 use Rattle.sctp_pair.proofs.PacketCall.{brings_more, brought_by, packet_settles}
 use Rattle.sctp_pair.proofs.PacketChunks.{Brings_of}

@@ -22,7 +22,8 @@ use Rattle.sctp_streams.specs.Streams.{stream_at}
 use Rattle.sctp_sides.specs.Meeting.{IsTruthful}
 use Rattle.sctp_sides.specs.NoReset.{HasNoReset}
 use Rattle.sctp_sides.specs.SideLaws.{IsOver}
-use Rattle.sctp_sides.proofs.Proved.{exhaustion_closes, exhaustion_ends_resets, exhaustion_resets_no_more, more_are_past}
+use Rattle.sctp_sides.proofs.Proved.{exhaustion_closes, exhaustion_ends_resets, exhaustion_resets_no_more}
+use Rattle.sctp_sides.proofs.Proved.{more_are_past}
 use Rattle.sctp_sides.proofs.Proved.{open_stops_reset_that_stream, stops_are_in_established, stops_keep_the_status}
 use Rattle.sctp_sides.proofs.Proved.{the_same_status_is_the_same_stage}
 use Rattle.sctp_assoc.specs.declared.call.Reply.{Reply}
@@ -312,7 +313,8 @@ module _ {x : Surroundings} {a : Shown} (id : ℕ) (f : Faces x a) where
       let c = stopped_open a id in
       let stops = stops_keep_the_status a id in
       let at : IsAt c x.here = at_same a c x.here (the_same_status_is_the_same_stage a c stops.same) f.at in
-      let Settled : Shown → Type 0 = λ (z : Shown). SettlesEnding (That id) x z nothing_added nothing_read None_brought in
+      let Settled : Shown → Type 0 =
+      λ (z : Shown). SettlesEnding (That id) x z nothing_added nothing_read None_brought in
       stopped_so Settled (λ tells z k. telling_settles tells z k)
       (holds_of (λ t. is_read_half_open t.halves) a id) (credit_in a) a c
       (quietly (nothing_settles f))

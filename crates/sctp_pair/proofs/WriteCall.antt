@@ -1,5 +1,6 @@
 -- A write that an association accepts: the direction accepts that message behind those accepted before.
-use Rattle.std.proofs.Common.{◌≡◌, refl, sym, ap, ◌∙◌, subst, inl, inr, ℕ, Bool, ◌<◌, true, if◌then◌else◌, List, [], ◌∷◌}
+use Rattle.std.proofs.Common.{◌≡◌, refl, sym, ap, ◌∙◌, subst, inl, inr, ℕ, Bool, ◌<◌, true, if◌then◌else◌, List, []}
+use Rattle.std.proofs.Common.{◌∷◌}
 use Rattle.std.proofs.Common.{◌++◌, length, Option, Some, None, is_some}
 use Rattle.std.specs.Prelude.{◌==◌, not, slice_get}
 use Rattle.std.proofs.lemmas.Bool.{true≢false}
@@ -84,7 +85,8 @@ write_does a id n named bytes t w there some =
       sacks = λ k x e. subst (λ (ks : List Sack). slice_get ks k ≡ Some x) (sym sent.0.sacks) e;
       spans = same_spans_go_on w (happens w (Event.Write id (message_on t kind bytes))) sent.0.over;
       ends =
-          none_ends w (happens w (Event.Write id (message_on t kind bytes))) (λ s. ap (λ (f : ℕ → Bool). f s) sent.0.over);
+          none_ends w (happens w (Event.Write id (message_on t kind bytes)))
+          (λ s. ap (λ (f : ℕ → Bool). f s) sent.0.over);
       reach_on = sent.1;
     }
 

@@ -113,8 +113,8 @@ replies_in x remote packets (s ∷ ss) (r ∷ rs) =
 replies_in x remote packets [] rs = []
 replies_in x remote packets (s ∷ ss) [] = []
 
--- The calls of side x, and the replies to them, where the steps with these replies led to q: what was delivered is among
--- the packets that the other side gave out until then.
+-- The calls of side x, and the replies to them, where the steps with these replies led to q: what was delivered is
+-- among the packets that the other side gave out until then.
 abbrev pub calls_until : Side2 → SocketAddr → List Step → List Reply → Ends → List Call
 calls_until x remote ss rs q = calls_in x remote (packets_of (other_side x) q) ss rs
 

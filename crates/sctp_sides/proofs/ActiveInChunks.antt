@@ -55,18 +55,22 @@ use Rattle.sctp_assoc.specs.declared.inbound.Flow.TheVariants as flows
 use Rattle.sctp_assoc.specs.Calls.{is_beginning, is_cookie_echoed, is_cookie_wait, is_established, sends_data}
 use Rattle.sctp_assoc.specs.Chunks.{asks, asks_or_faults, checked_first, counted_data, counted_sack, deferred_unless}
 use Rattle.sctp_assoc.specs.Chunks.{deferred_where_admitted, dispatched, on_chunk, on_counted_sack, on_data}
-use Rattle.sctp_assoc.specs.Chunks.{goes_unread, left_or_handed_over, on_new_data}
+use Rattle.sctp_assoc.specs.Chunks.{after_sack, goes_unread, left_or_handed_over, on_new_data}
 use Rattle.sctp_assoc.specs.Chunks.{on_sack, stream_found, taken_in, taken_unless, taken_where_admitted, then_skips}
 use Rattle.sctp_assoc.specs.Chunks.{told, with_message}
 use Rattle.sctp_assoc.specs.Closing.{is_exhausted}
+use Rattle.sctp_assoc.specs.Finding.{found_for}
 use Rattle.sctp_assoc.specs.Handshake.{cookie_queued, echoed, information_returned, learned_back, on_cookie_ack}
 use Rattle.sctp_assoc.specs.Handshake.{on_cookie_echo, on_heartbeat, on_init, on_init_ack, sends_cookie}
 use Rattle.sctp_assoc.specs.Resets.{after_param, asking_if, behind_first, behind_params, channels_of, handled_with}
 use Rattle.sctp_assoc.specs.Resets.{on_reconfig, on_request, on_response, responded_with, settled, settled_with}
 use Rattle.sctp_assoc.specs.Resets.{skips_applied_of, stopped_if, with_answer, with_beside, with_resetting}
 use Rattle.sctp_assoc.specs.Shown.{Shown, all_waiting}
+use Rattle.sctp_assoc.specs.Shutdown.{shutdown_continued}
 use Rattle.sctp_assoc.specs.Skipping.{acknowledged_at_once, asks_behind, on_forward, skips_of, with_passed, with_skip}
 use Rattle.sctp_assoc.specs.Skipping.{with_skips}
+use Rattle.sctp_assoc.proofs.Probes.{probes_keep}
+use Rattle.sctp_assoc.proofs.StreamsFound.{found_for_is}
 use Rattle.sctp_sides.specs.Restarts.{is_reset_by}
 use Rattle.sctp_sides.proofs.ForwardKinds.{forward_is_one_of}
 use Rattle.sctp_sides.proofs.PeerRequestsInChunks.{flow_same}
@@ -435,7 +439,10 @@ outcome_leaves : (o : SackOutcome) (a : Shown) (cumulative_tsn_ack : ℕ) (block
 outcome_leaves outcomes.Older a cumulative_tsn_ack blocks window trigger now = by_active a _ refl
 outcome_leaves outcomes.NotInFlight a cumulative_tsn_ack blocks window trigger now = by_active a _ refl
 outcome_leaves outcomes.NamesTheUnsent a cumulative_tsn_ack blocks window trigger now = by_active a _ refl
-outcome_leaves outcomes.Taken a cumulative_tsn_ack blocks window trigger now = by_active a _ refl
+outcome_leaves outcomes.Taken a cumulative_tsn_ack blocks window trigger now =
+    let b : Shown = shutdown_continued (after_sack a cumulative_tsn_ack blocks window now) in
+    probes_keep (LeavesActive a) (λ c k. record { from = k.from }) (λ c k. record { from = k.from })
+    a.sender.advertised_window window b (by_active a b refl)
 
 sack_leaves : (sends : Bool) (a : Shown) (cumulative_tsn_ack : ℕ) (blocks : List GapAckBlock) (window : ℕ)
     (trigger : AckTrigger) (now : ℕ) → sends_data a.state ≡ sends
@@ -475,6 +482,11 @@ ahead_leaves a tsn es trigger =
     (by_active (settled c) _
     (ap (λ (z : Shown). z.resets.own.active) (flow_same (is_exhausted (settled c)) (settled c) _ _)))
 
+-- the streams on which it skips are found or made before
+all_found_leave : (tsn : ℕ) (es : List SkippedStream) (a : Shown) → LeavesActive a (found_for tsn es a)
+all_found_leave tsn es a =
+    by_active a (found_for tsn es a) (ap (λ (z : Shown). z.resets.own.active) (found_for_is tsn es a))
+
 forward_leaves : (a : Shown) (tsn : ℕ) (es : List SkippedStream) (trigger : AckTrigger) (now : ℕ)
     → LeavesActive a (on_forward a tsn es trigger now).0
 forward_leaves a tsn es trigger now =
@@ -482,6 +494,7 @@ forward_leaves a tsn es trigger now =
     (λ b e. by_active b _ refl)
     (λ b e f. by_active b (acknowledged_at_once b now) refl)
     (λ b e f. ahead_leaves b tsn es trigger)
+    (λ b x k. then_on b (found_for tsn es b) x.0 (all_found_leave tsn es b) k)
     a
 
 -- The handshake

@@ -12,6 +12,7 @@ use Rattle.sctp_wire_types.specs.declared.chunk.ChunkInit.{ChunkInit}
 use Rattle.sctp_wire_types.specs.declared.packet.CommonHeader.{CommonHeader}
 use Rattle.sctp_wire_types.specs.declared.chunk.ChunkSelectiveAck.{ChunkSelectiveAck}
 use Rattle.sctp_wire_types.specs.declared.chunk.GapAckBlock.{GapAckBlock}
+use Rattle.sctp_wire_types.specs.declared.chunk.SkippedStream.{SkippedStream}
 use Rattle.sctp_received.specs.Received.{is_named}
 use Rattle.sctp_wire_types.specs.declared.error.Error.{Error}
 use Rattle.sctp_wire_types.specs.Checks.{checked_chunk}
@@ -32,13 +33,13 @@ use Rattle.sctp_outbound.specs.BlockOffsets.{is_in_flight_at, name_unsent}
 use Rattle.sctp_outbound.proofs.BlockOffsets.{names_sets}
 use Rattle.sctp_outbound.specs.Sender.{names_unsent, tsns_up_to, resends_alone, sack_outcome, sent_one}
 use Rattle.sctp_model.proofs.Lists.{all_join}
-use Rattle.sctp_directions.specs.Acts.{Act, CanAll, History}
+use Rattle.sctp_directions.specs.Acts.{Act, CanAll, History, IsAhead, Parts, done}
 use Rattle.sctp_assoc.specs.Leads.{Binds, parts}
 use Rattle.sctp_fit.specs.Incoming.{tsn_before}
 use Rattle.sctp_assoc.specs.Calls.{exchanges_data, is_beginning, is_cookie_wait, sends_data}
 use Rattle.sctp_assoc.specs.Gather.{both_of, fast_polled, late_abandoned, late_dropped, marks_polled, spent_abandoned}
 use Rattle.sctp_assoc.specs.Happened.{acts_of_abandoning, acts_of_dropping, acts_of_drops, acts_of_expiry}
-use Rattle.sctp_assoc.specs.Happened.{acts_of_fast_poll, acts_of_forwarding, acts_of_giving_all_up}
+use Rattle.sctp_assoc.specs.Happened.{acts_of_fast_poll, acts_of_forward, acts_of_forwarding, acts_of_giving_all_up}
 use Rattle.sctp_assoc.specs.Happened.{acts_of_giving_up, acts_of_late, acts_of_marks_poll, acts_of_spent, acts_of_tail}
 use Rattle.sctp_assoc.specs.Happened.{acts_of_unsent, forwards_of_poll}
 use Rattle.sctp_assoc.specs.Happened.{acts_of_ack, acts_of_checked, acts_of_chunk, acts_of_data_poll}
@@ -53,43 +54,47 @@ use Rattle.sctp_outbound_queue.specs.Message.{is_expired_unsent, picks, room_tak
 use Rattle.sctp_outbound_queue.specs.declared.message.Retransmission.{Retransmission}
 use Rattle.sctp_outbound_queue.specs.declared.message.Retransmission.TheVariants as causes
 use Rattle.sctp_assoc.specs.Happened.{acts_of_marks, acts_of_new, acts_of_outcome, acts_of_resending, acts_of_sending}
-use Rattle.sctp_assoc.specs.Happened.{first_again, first_sent}
+use Rattle.sctp_assoc.specs.Happened.{first_again, first_sent, marks_if}
+use Rattle.sctp_assoc.specs.Probes.{opens_window}
 use Rattle.sctp_assoc.specs.Timeouts.{after_shutdown_timer}
 use Rattle.sctp_sides.specs.SideLaws.{GivesNew, GivesUpOrAgain}
-use Rattle.sctp_sides.specs.SideLaws.{GreetingsMakeThePeerKnown, IsOther, IsPeerKnown}
+use Rattle.sctp_sides.specs.SideLaws.{GreetingsMakeThePeerKnown, IsOpened, IsOther, IsPeerKnown}
 use Rattle.sctp_sides.specs.SideLaws.{OnlyForwardsAheadPassOver, UnusedForwardsDoNothing}
 use Rattle.sctp_sides.specs.SideLaws.{OtherChunksDoNothing, OtherSacksDoNothing, PollsGiveAndReport, SacksAcknowledge}
 use Rattle.sctp_sides.specs.SideLaws.{TakenSacksAcknowledge, TimeoutsMarkAtMost}
 use Rattle.sctp_assoc.specs.Shown.{Shown, uses_forward_tsn}
 use Rattle.sctp_assoc.proofs.CallsLeadOn.{chunk_leads}
-use Rattle.sctp_sides.proofs.ForwardKinds.{acts_are_one_of}
+use Rattle.sctp_sides.proofs.ForwardKinds.{with_use}
 
 -- SACK
 
-outcome_acts : (o : SackOutcome) (n : ℕ) (blocks : List GapAckBlock) (missing : ℕ)
-    → (acts_of_outcome o n blocks missing ≡ [])
-    ⊎ (acts_of_outcome o n blocks missing ≡ Act.Acknowledged n blocks missing ∷ [])
-outcome_acts outcomes.Older n blocks missing = inl refl
-outcome_acts outcomes.NotInFlight n blocks missing = inl refl
-outcome_acts outcomes.NamesTheUnsent n blocks missing = inl refl
-outcome_acts outcomes.Taken n blocks missing = inr refl
+outcome_acts : (o : SackOutcome) (n : ℕ) (blocks : List GapAckBlock) (missing : ℕ) (opens : Bool)
+    → (acts_of_outcome o n blocks missing opens ≡ [])
+    ⊎ (acts_of_outcome o n blocks missing opens ≡ Act.Acknowledged n blocks missing ∷ marks_if opens)
+outcome_acts outcomes.Older n blocks missing opens = inl refl
+outcome_acts outcomes.NotInFlight n blocks missing opens = inl refl
+outcome_acts outcomes.NamesTheUnsent n blocks missing opens = inl refl
+outcome_acts outcomes.Taken n blocks missing opens = inr refl
 
-sack_if : (sends : Bool) (o : SackOutcome) (n : ℕ) (blocks : List GapAckBlock) (missing : ℕ)
-    → ((if sends then acts_of_outcome o n blocks missing else []) ≡ [])
-    ⊎ ((if sends then acts_of_outcome o n blocks missing else []) ≡ Act.Acknowledged n blocks missing ∷ [])
-sack_if true o n blocks missing = outcome_acts o n blocks missing
-sack_if false o n blocks missing = inl refl
+sack_if : (sends : Bool) (o : SackOutcome) (n : ℕ) (blocks : List GapAckBlock) (missing : ℕ) (opens : Bool)
+    → ((if sends then acts_of_outcome o n blocks missing opens else []) ≡ [])
+    ⊎ ((if sends then acts_of_outcome o n blocks missing opens else [])
+    ≡ Act.Acknowledged n blocks missing ∷ marks_if opens)
+sack_if true o n blocks missing opens = outcome_acts o n blocks missing opens
+sack_if false o n blocks missing opens = inl refl
 
 pub checked_sack : (r : Result (Unit {0}) Error) (a : Shown) (header : CommonHeader) (k : ChunkSelectiveAck)
     → (acts_of_checked r a header (chunks.SelectiveAck k) ≡ [])
     ⊎ (acts_of_checked r a header (chunks.SelectiveAck k)
     ≡ Act.Acknowledged (tsns_up_to a.sender k.cumulative_tsn_ack) k.gap_ack_blocks
-    (reports_of a.sender k.cumulative_tsn_ack k.gap_ack_blocks) ∷ [])
+    (reports_of a.sender k.cumulative_tsn_ack k.gap_ack_blocks)
+    ∷ marks_if (opens_window a.profile a.sender.advertised_window k.advertised_receiver_window_credit))
 checked_sack (Err fault) a header k = inl refl
 checked_sack (Ok done) a header k =
     sack_if (sends_data a.state) (sack_outcome a.sender k.cumulative_tsn_ack k.gap_ack_blocks)
     (tsns_up_to a.sender k.cumulative_tsn_ack) k.gap_ack_blocks
     (reports_of a.sender k.cumulative_tsn_ack k.gap_ack_blocks)
+    (opens_window a.profile a.sender.advertised_window k.advertised_receiver_window_credit)
 
 -- a cumulative TSN ack that is n past the TSN before the first one in flight
 pub acked_back : (own base t : ℕ)
@@ -105,12 +110,14 @@ sacks_acknowledge a h header sack binds =
     (λ (e : acts_of_chunk a header (chunks.SelectiveAck sack) ≡ []). inl e)
     (λ (e : acts_of_chunk a header (chunks.SelectiveAck sack)
     ≡ Act.Acknowledged (tsns_up_to a.sender sack.cumulative_tsn_ack) sack.gap_ack_blocks
-    (reports_of a.sender sack.cumulative_tsn_ack sack.gap_ack_blocks) ∷ []).
+    (reports_of a.sender sack.cumulative_tsn_ack sack.gap_ack_blocks)
+    ∷ marks_if (opens_window a.profile a.sender.advertised_window sack.advertised_receiver_window_credit)).
     let leads = chunk_leads header (chunks.SelectiveAck sack) a triggers.None 0 h binds in
     let can = subst (λ zs. CanAll zs (parts a h)) e leads.1.can in
     inr (record {
       count = tsns_up_to a.sender sack.cumulative_tsn_ack;
       missing = reports_of a.sender sack.cumulative_tsn_ack sack.gap_ack_blocks;
+      marked = opens_window a.profile a.sender.advertised_window sack.advertised_receiver_window_credit;
       are = e;
       within = can.0;
       at =
@@ -156,10 +163,11 @@ outcome_taken : (older beyond unsent : Bool) → older ≡ false → beyond ≡ 
     → outcome_of older beyond unsent ≡ outcomes.Taken
 outcome_taken older beyond unsent e f g = rw (e, f, g) refl
 
-taken_acts : (sends : Bool) (o : SackOutcome) (n count : ℕ) (blocks : List GapAckBlock) (missing : ℕ)
+taken_acts : (sends : Bool) (o : SackOutcome) (n count : ℕ) (blocks : List GapAckBlock) (missing : ℕ) (opens : Bool)
     → sends ≡ true → o ≡ outcomes.Taken → n ≡ count
-    → (if sends then acts_of_outcome o n blocks missing else []) ≡ Act.Acknowledged count blocks missing ∷ []
-taken_acts sends o n count blocks missing e f g = rw (e, f, g) refl
+    → (if sends then acts_of_outcome o n blocks missing opens else [])
+    ≡ Act.Acknowledged count blocks missing ∷ marks_if opens
+taken_acts sends o n count blocks missing opens e f g = rw (e, f, g) refl
 
 -- where each offset that is named is in flight, none is not
 none_unsent : (found : Bool) (n count flown : ℕ) (blocks : List GapAckBlock) → n ≡ count
@@ -188,7 +196,8 @@ taken_sacks_acknowledge a h header sack count sends binds names =
     λ (none : count ≡ 0). at ∙ named_first h.own h.base ∙ ap (λ (n : ℕ). tsn_before (tsn h.own (h.base + n))) (sym none)
     ∙ sym names.at in
     taken_acts (sends_data a.state) (sack_outcome a.sender t sack.gap_ack_blocks) (tsns_up_to a.sender t) count
-    sack.gap_ack_blocks (reports_of a.sender t sack.gap_ack_blocks) sends
+    sack.gap_ack_blocks (reports_of a.sender t sack.gap_ack_blocks)
+    (opens_window a.profile a.sender.advertised_window sack.advertised_receiver_window_credit) sends
     (outcome_taken (tsn_gt acked t) (ltb (length a.sender.queue.in_flight) (tsns_up_to a.sender t))
     (names_unsent a.sender t sack.gap_ack_blocks)
     (not_behind acked t count past names.near first)
@@ -198,14 +207,13 @@ taken_sacks_acknowledge a h header sack count sends binds names =
     (length a.sender.queue.in_flight) sack.gap_ack_blocks past refl names.named))
     past
 
-other_acts_of_sack : (sends older beyond unsent : Bool) (n : ℕ) (blocks : List GapAckBlock)
-    (missing : ℕ)
-    → (sends ≡ false) ⊎ (older ≡ true)
-    → (if sends then acts_of_outcome (outcome_of older beyond unsent) n blocks missing else []) ≡ []
-other_acts_of_sack false older beyond unsent n blocks missing other = refl
-other_acts_of_sack true true beyond unsent n blocks missing other = refl
-other_acts_of_sack true false beyond unsent n blocks missing (inl e) = absurd (false≢true (sym e))
-other_acts_of_sack true false beyond unsent n blocks missing (inr e) = absurd (false≢true e)
+other_acts_of_sack : (sends older beyond unsent : Bool) (n : ℕ) (blocks : List GapAckBlock) (missing : ℕ)
+    (opens : Bool) → (sends ≡ false) ⊎ (older ≡ true)
+    → (if sends then acts_of_outcome (outcome_of older beyond unsent) n blocks missing opens else []) ≡ []
+other_acts_of_sack false older beyond unsent n blocks missing opens other = refl
+other_acts_of_sack true true beyond unsent n blocks missing opens other = refl
+other_acts_of_sack true false beyond unsent n blocks missing opens (inl e) = absurd (false≢true (sym e))
+other_acts_of_sack true false beyond unsent n blocks missing opens (inr e) = absurd (false≢true e)
 
 pub other_sacks_do_nothing : OtherSacksDoNothing
 other_sacks_do_nothing a h header sack binds other =
@@ -214,6 +222,7 @@ other_sacks_do_nothing a h header sack binds other =
     other_acts_of_sack (sends_data a.state) (tsn_gt acked t)
     (ltb (length a.sender.queue.in_flight) (tsns_up_to a.sender t)) (names_unsent a.sender t sack.gap_ack_blocks)
     (tsns_up_to a.sender t) sack.gap_ack_blocks (reports_of a.sender t sack.gap_ack_blocks)
+    (opens_window a.profile a.sender.advertised_window sack.advertised_receiver_window_credit)
     (⊎_elim
     (λ (e : sends_data a.state ≡ false). inl e)
     (λ (e : tsn_gt (tsn_before (tsn h.own h.base)) sack.cumulative_tsn_ack ≡ true).
@@ -251,12 +260,15 @@ greetings_make_the_peer_known a header init = (
 
 -- one passes over only where it is used, and only what lies ahead
 
+unused_acts : (uses : Bool) (a : Shown) (tsn : ℕ) (es : List SkippedStream) → uses ≡ false
+    → acts_of_forward (with_use uses a) tsn es ≡ []
+unused_acts false a tsn es e = refl
+unused_acts true a tsn es e = absurd (false≢true (sym e))
+
 unused_checked : (r : Result (Unit {0}) Error) (a : Shown) (header : CommonHeader) (x : ChunkForwardTsn)
     → uses_forward_tsn a ≡ false → acts_of_checked r a header (chunks.ForwardTsn x) ≡ []
 unused_checked (Err fault) a header x e = refl
-unused_checked (Ok done) a header x e =
-    acts_are_one_of x.new_cumulative_tsn x.streams (λ b acts. uses_forward_tsn b ≡ false → acts ≡ [])
-    (λ b f g. refl) (λ b f g h. refl) (λ b f g h. absurd (false≢true (sym h ∙ f))) a e
+unused_checked (Ok done) a header x e = unused_acts (uses_forward_tsn a) a x.new_cumulative_tsn x.streams e
 
 pub unused_forwards_do_nothing : UnusedForwardsDoNothing
 unused_forwards_do_nothing a header x e = unused_checked (checked_chunk (chunks.ForwardTsn x)) a header x e
@@ -266,23 +278,32 @@ abbrev does_some : List Act → Bool
 does_some [] = false
 does_some (act ∷ acts) = true
 
-no_act_is_none : (act : Act) (behind : List Act) → [] ≡ act ∷ behind → ⊥
-no_act_is_none act behind e = false≢true (ap does_some e)
+no_act_is_none : (opened : List Act) (act : Act) (behind : List Act) → [] ≡ opened ++ act ∷ behind → ⊥
+no_act_is_none [] act behind e = false≢true (ap does_some e)
+no_act_is_none (first ∷ opened) act behind e = false≢true (ap does_some e)
 
-used_from : (uses : Bool) (acts : List Act) (act : Act) (behind : List Act) → acts ≡ act ∷ behind
+used_from : (uses : Bool) (acts opened : List Act) (act : Act) (behind : List Act) → acts ≡ opened ++ act ∷ behind
     → (uses ≡ false → acts ≡ []) → uses ≡ true
-used_from true acts act behind e none = refl
-used_from false acts act behind e none = absurd (no_act_is_none act behind (sym (none refl) ∙ e))
+used_from true acts opened act behind e none = refl
+used_from false acts opened act behind e none = absurd (no_act_is_none opened act behind (sym (none refl) ∙ e))
+
+-- streams that are opened before leave what came as it is
+ahead_behind : (tsn : ℕ) (skips : List SkippedStream) (opened behind : List Act) (p : Parts)
+    → AllByRecursion IsOpened opened → CanAll (opened ++ Act.PassedOver tsn skips ∷ behind) p → IsAhead p.history tsn
+ahead_behind tsn skips [] behind p are (can, cans) = can
+ahead_behind tsn skips (Act.Opened id first kind ∷ opened) behind p (is, are) (can, cans) =
+    ahead_behind tsn skips opened behind (done (Act.Opened id first kind) p) are cans
+ahead_behind tsn skips (act ∷ opened) behind p (is, are) can = absurd is
 
 pub only_forwards_ahead_pass_over : OnlyForwardsAheadPassOver
-only_forwards_ahead_pass_over a h header x behind binds e =
+only_forwards_ahead_pass_over a h header x opened behind binds are e =
     let leads = chunk_leads header (chunks.ForwardTsn x) a triggers.None 0 h binds in
     let can = subst (λ zs. CanAll zs (parts a h)) e leads.1.can in
     record {
       used =
-          used_from (uses_forward_tsn a) (acts_of_chunk a header (chunks.ForwardTsn x))
+          used_from (uses_forward_tsn a) (acts_of_chunk a header (chunks.ForwardTsn x)) opened
           (Act.PassedOver x.new_cumulative_tsn x.streams) behind e (unused_forwards_do_nothing a header x);
-      ahead = can.0;
+      ahead = ahead_behind x.new_cumulative_tsn x.streams opened behind (parts a h) are can;
     }
 
 -- Any other chunk

@@ -35,25 +35,26 @@ use Rattle.sctp_resets.proofs.KeptOver.{request_ids_over, responded_over, retiri
 use Rattle.sctp_resets.proofs.KeptOver.{skips_done_of_over, unordered_over}
 use Rattle.sctp_directions.specs.Acts.{Act, HasReadOpen}
 use Rattle.sctp_assoc.specs.Chunks.{counted_data, deferred_unless, deferred_where_admitted, goes_unread}
-use Rattle.sctp_assoc.specs.Chunks.{left_or_handed_over, stream_found, taken_in}
-use Rattle.sctp_assoc.specs.Chunks.{taken_unless, then_skips, told, with_message, with_new_stream}
-use Rattle.sctp_assoc.specs.Happened.{acts_if_left, acts_of_checked, acts_of_forward, acts_of_found}
-use Rattle.sctp_assoc.specs.Happened.{acts_of_hidden, acts_of_skips_behind, acts_of_stream, acts_of_taking}
-use Rattle.sctp_assoc.specs.Happened.{acts_unless_faulty, acts_unless_refused}
+use Rattle.sctp_assoc.specs.Chunks.{left_or_handed_over, taken_in, taken_unless, then_skips, told, with_message}
+use Rattle.sctp_assoc.specs.Finding.{found_for, stream_found, with_new_stream}
+use Rattle.sctp_assoc.specs.Happened.{acts_if_left, acts_of_checked, acts_of_finding, acts_of_forward}
+use Rattle.sctp_assoc.specs.Happened.{acts_of_found, acts_of_hidden, acts_of_passing}
+use Rattle.sctp_assoc.specs.Happened.{acts_of_skips_behind, acts_of_stream, acts_of_taking, acts_unless_faulty}
+use Rattle.sctp_assoc.specs.Happened.{acts_unless_refused}
 use Rattle.sctp_assoc.specs.ResetActs.{acts_of_keeping, acts_of_kept_skips, acts_of_param, acts_of_second}
 use Rattle.sctp_assoc.specs.ResetActs.{acts_of_settling, spans_end_if}
 use Rattle.sctp_assoc.specs.Resets.{after_param, asking_if, channels_of, handled_with, on_request, on_response}
 use Rattle.sctp_assoc.specs.Resets.{responded_with, settled, settling_takes_memory, skips_applied_of, stopped_if}
 use Rattle.sctp_assoc.specs.Resets.{with_beside, with_resetting}
-use Rattle.sctp_assoc.specs.Shown.{Shown, all_waiting}
-use Rattle.sctp_assoc.specs.Skipping.{skips_of, with_passed, with_skip, with_skips}
+use Rattle.sctp_assoc.specs.Shown.{Shown, all_waiting, uses_forward_tsn}
+use Rattle.sctp_assoc.specs.Skipping.{is_ahead, skips_of, with_passed, with_skip, with_skips}
 use Rattle.sctp_fit.proofs.StreamsThere.{at_made}
+use Rattle.sctp_assoc.proofs.StreamsFound.{finding_opens, found_for_is}
 use Rattle.sctp_assoc.proofs.UnreadData.{acts_where_read, made_is_read, unread_is_over}
 use Rattle.sctp_sides.specs.PastSpan.{EndsPast, ParamIsPast, ParamIsPastIf, ResetsPast}
 use Rattle.sctp_sides.specs.SideLaws.{DataOpensOrTakes, DefersOnly, ForwardsPassOver, IForwardsPassOver}
-use Rattle.sctp_sides.specs.SideLaws.{IsPassingOver}
-use Rattle.sctp_sides.specs.SideLaws.{IsTaking, ReconfigsEndPast, WithEndsBehind}
-use Rattle.sctp_sides.proofs.ForwardKinds.{acts_are_one_of}
+use Rattle.sctp_sides.specs.SideLaws.{IsOpened, IsPassingOver, IsTaking, ReconfigsEndPast, WithEndsBehind}
+use Rattle.sctp_sides.proofs.ForwardKinds.{with_use}
 
 -- The streams that are past their span.
 module _ (over : ℕ → Bool) where
@@ -390,31 +391,50 @@ module _ (over : ℕ → Bool) where
       (skip_is_over_if (is_retiring a.resets e.stream_identifier) tsn e.stream_identifier e.stream_sequence_number a
       refl h)
 
+  -- the streams on which it skips are found or made before, which leaves resets as they were
+  all_found_is_over : (tsn : ℕ) (skips : List SkippedStream) (a : Shown) → IsOver a → IsOver (found_for tsn skips a)
+  all_found_is_over tsn skips a h =
+      subst (ResetsOver over) (sym (ap (λ (z : Shown). z.resets) (found_for_is tsn skips a))) h
+
+  -- what it says is passed over, and no stream is opened before
+  abbrev PassesAlone : ℕ → List SkippedStream → List Act → Type 0
+  PassesAlone tsn skips acts = acts ≡ Act.PassedOver tsn skips ∷ []
+
+  passing_acts : (a : Shown) (tsn : ℕ) (skips : List SkippedStream) → IsOver a
+      → WithEndsBehind over (PassesAlone tsn skips) (acts_of_passing a tsn skips)
+  passing_acts a tsn skips h =
+      let b : Shown = with_skips tsn skips a in
+      let c : Shown = with_passed b tsn in
+      record {
+        front = Act.PassedOver tsn skips ∷ [];
+        front_are = refl;
+        behind = acts_of_keeping tsn skips a ++ acts_of_settling c;
+        behind_are =
+            all_join (EndsPast over) (acts_of_keeping tsn skips a) (acts_of_settling c) (keeping_ends tsn skips a h)
+            (settling_ends c (unordered_over over b.resets tsn (skips_are_over tsn skips a h)));
+        are = refl;
+      }
+
+  acts_by_use : (uses ahead : Bool) (a : Shown) (tsn : ℕ) (skips : List SkippedStream) → is_ahead a tsn ≡ ahead
+      → IsOver (with_use uses a)
+      → WithEndsBehind over (IsPassingOver tsn skips) (acts_of_forward (with_use uses a) tsn skips)
+  acts_by_use false ahead a tsn skips e h = none_behind (IsPassingOver tsn skips) (inl refl)
+  acts_by_use true false a tsn skips e h = rw e (none_behind (IsPassingOver tsn skips) (inl refl))
+  acts_by_use true true a tsn skips e h =
+      let used : Shown = with_use true a in
+      let b : Shown = found_for tsn skips used in
+      let before : List Act = acts_of_finding tsn skips used in
+      rw e (with_front (PassesAlone tsn skips) (IsPassingOver tsn skips) before (acts_of_passing b tsn skips)
+      (λ (front : List Act) (e : front ≡ Act.PassedOver tsn skips ∷ []). inr (record {
+        opened = before;
+        opened_are = finding_opens IsOpened (λ id first. tt) tsn skips used;
+        are = ap (λ (z : List Act). before ++ z) e;
+      }))
+      (passing_acts b tsn skips (all_found_is_over tsn skips used h)))
+
   forward_acts : (a : Shown) (tsn : ℕ) (skips : List SkippedStream) → IsOver a
       → WithEndsBehind over (IsPassingOver tsn skips) (acts_of_forward a tsn skips)
-  forward_acts a tsn skips h =
-      acts_are_one_of tsn skips
-      (λ b acts. IsOver b → WithEndsBehind over (IsPassingOver tsn skips) acts)
-      (λ b e g. none_behind (IsPassingOver tsn skips) (inl refl))
-      (λ b e f g. none_behind (IsPassingOver tsn skips) (inl refl))
-      (λ b e f g. passing b g) a h
-    where
-      passing : (b : Shown) → IsOver b
-          → WithEndsBehind over (IsPassingOver tsn skips) (Act.PassedOver tsn skips ∷ (acts_of_keeping tsn skips b
-          ++ acts_of_settling (with_passed (with_skips tsn skips b) tsn)))
-      passing b g =
-          let c : Shown = with_skips tsn skips b in
-          let d : Shown = with_passed c tsn in
-          record {
-            front = Act.PassedOver tsn skips ∷ [];
-            front_are = inr refl;
-            behind = acts_of_keeping tsn skips b ++ acts_of_settling d;
-            behind_are =
-                all_join (EndsPast over) (acts_of_keeping tsn skips b) (acts_of_settling d)
-                (keeping_ends tsn skips b g)
-                (settling_ends d (unordered_over over c.resets tsn (skips_are_over tsn skips b g)));
-            are = refl;
-          }
+  forward_acts a tsn skips h = acts_by_use (uses_forward_tsn a) (is_ahead a tsn) a tsn skips refl h
 
   checked_forward : (r : Result (Unit {0}) Error) (a : Shown) (header : CommonHeader) (x : ChunkForwardTsn) → IsOver a
       → WithEndsBehind over (IsPassingOver x.new_cumulative_tsn x.streams)

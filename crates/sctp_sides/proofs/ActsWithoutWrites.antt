@@ -37,24 +37,27 @@ use Rattle.sctp_assoc.specs.Gather.{fast_polled, is_due, late_dropped, open_poll
 use Rattle.sctp_assoc.specs.Happened.{acts_after, acts_if_left, acts_of_ack, acts_of_checked, acts_of_chunk}
 use Rattle.sctp_assoc.specs.Happened.{acts_of_chunks}
 use Rattle.sctp_assoc.specs.Happened.{acts_of_close, acts_of_close_stream, acts_of_counted_data, acts_of_data_poll}
-use Rattle.sctp_assoc.specs.Happened.{acts_of_deferring, acts_of_ending, acts_of_exchange, acts_of_forward}
+use Rattle.sctp_assoc.specs.Happened.{acts_of_deferring, acts_of_ending, acts_of_exchange, acts_of_finding}
+use Rattle.sctp_assoc.specs.Happened.{acts_of_forward}
 use Rattle.sctp_assoc.specs.Happened.{acts_of_forwarding, acts_of_found, acts_of_hidden, acts_of_kind, acts_of_outcome}
 use Rattle.sctp_assoc.specs.Happened.{acts_of_packet, acts_of_packet_of, acts_of_poll, acts_of_read}
 use Rattle.sctp_assoc.specs.Happened.{acts_of_skips_behind, acts_of_stop, acts_of_stream, acts_of_taking}
 use Rattle.sctp_assoc.specs.Happened.{acts_of_timeouts, acts_unless_faulty, acts_unless_refused, forwards_of_poll}
+use Rattle.sctp_assoc.specs.Probes.{opens_window}
 use Rattle.sctp_assoc.specs.ResetActs.{acts_of_draining, acts_of_keeping, acts_of_kept_skips, acts_of_reconfig}
 use Rattle.sctp_assoc.specs.ResetActs.{acts_of_settling}
 use Rattle.sctp_assoc.specs.Resets.{skips_applied_of}
 use Rattle.sctp_assoc.specs.Shown.{Shown, all_waiting}
 use Rattle.sctp_assoc.specs.Shutdown.{completes_shutdown}
 use Rattle.sctp_assoc.specs.Skipping.{skips_of, with_passed, with_skips}
+use Rattle.sctp_assoc.proofs.StreamsFound.{finding_opens}
 use Rattle.sctp_sides.specs.Intake.{IsEndOfSpans}
 use Rattle.sctp_sides.specs.SideLaws.{GivesNew, GivesUpOrAgain}
 use Rattle.sctp_sides.proofs.ActsOfChunks.{data_poll_acts, give_if, new_acts, new_gives, old_acts, old_acts_are_old}
 use Rattle.sctp_sides.proofs.ActsOfChunks.{timeouts_mark_at_most}
 use Rattle.sctp_sides.proofs.DataIntake.{settling_ends_spans, spans_end}
 use Rattle.sctp_sides.proofs.ForwardKinds.{acts_are_one_of}
-use Rattle.sctp_sides.proofs.NothingElseTaken.{reconfigs_end_spans}
+use Rattle.sctp_sides.proofs.NothingElseTaken.{marks_are, reconfigs_end_spans}
 use Rattle.sctp_sides.proofs.QuietQueues.{IsNoWrite}
 
 abbrev pub AreNoWrites : List Act → Type 0
@@ -137,12 +140,12 @@ data_writes_nothing a piece =
 
 -- Other chunks
 
-outcomes_write_nothing : (outcome : SackOutcome) (n : ℕ) (blocks : List GapAckBlock) (missing : ℕ)
-    → AreNoWrites (acts_of_outcome outcome n blocks missing)
-outcomes_write_nothing outcomes.Older n blocks missing = tt
-outcomes_write_nothing outcomes.NotInFlight n blocks missing = tt
-outcomes_write_nothing outcomes.NamesTheUnsent n blocks missing = tt
-outcomes_write_nothing outcomes.Taken n blocks missing = (tt, tt)
+outcomes_write_nothing : (outcome : SackOutcome) (n : ℕ) (blocks : List GapAckBlock) (missing : ℕ) (opens : Bool)
+    → AreNoWrites (acts_of_outcome outcome n blocks missing opens)
+outcomes_write_nothing outcomes.Older n blocks missing opens = tt
+outcomes_write_nothing outcomes.NotInFlight n blocks missing opens = tt
+outcomes_write_nothing outcomes.NamesTheUnsent n blocks missing opens = tt
+outcomes_write_nothing outcomes.Taken n blocks missing opens = (tt, marks_are IsNoWrite tt opens)
 
 ahead_writes_nothing : (a : Shown) (tsn : ℕ) (skips : List SkippedStream)
     → AreNoWrites (acts_of_keeping tsn skips a ++ acts_of_settling (with_passed (with_skips tsn skips a) tsn))
@@ -157,12 +160,16 @@ forward_writes_nothing : (a : Shown) (tsn : ℕ) (skips : List SkippedStream)
     → AreNoWrites (acts_of_forward a tsn skips)
 forward_writes_nothing a tsn skips =
     acts_are_one_of tsn skips (λ b acts. AreNoWrites acts) (λ b e. tt) (λ b e f. tt)
-    (λ b e f. (tt, ahead_writes_nothing b tsn skips)) a
+    (λ b e f. (tt, ahead_writes_nothing b tsn skips))
+    (λ b acts all. all_join IsNoWrite (acts_of_finding tsn skips b) acts
+    (finding_opens IsNoWrite (λ id first. tt) tsn skips b) all) a
 
 kind_writes_nothing : (a : Shown) (header : CommonHeader) (chunk : Chunk) → AreNoWrites (acts_of_kind a header chunk)
 kind_writes_nothing a header (chunks.Data piece) = data_writes_nothing (counted_data a) piece
 kind_writes_nothing a header (chunks.SelectiveAck sack) =
-    give_if IsNoWrite (sends_data a.state) _ [] (outcomes_write_nothing _ _ sack.gap_ack_blocks _) tt
+    give_if IsNoWrite (sends_data a.state) _ []
+    (outcomes_write_nothing _ _ sack.gap_ack_blocks _
+    (opens_window a.profile a.sender.advertised_window sack.advertised_receiver_window_credit)) tt
 kind_writes_nothing a header (chunks.Init init) = give_if IsNoWrite (is_beginning a.state) _ [] (tt, tt) tt
 kind_writes_nothing a header (chunks.InitAck init) =
     give_if IsNoWrite (is_cookie_wait a.state) _ []

@@ -48,6 +48,7 @@ use Rattle.sctp_assoc.specs.Chunks.{goes_unread, left_or_handed_over, on_new_dat
 use Rattle.sctp_assoc.specs.Chunks.{stream_found, taken_in, taken_unless, taken_where_admitted, then_skips, told}
 use Rattle.sctp_assoc.specs.Chunks.{with_acknowledged, with_message, with_new_stream}
 use Rattle.sctp_assoc.specs.Closing.{is_exhausted}
+use Rattle.sctp_assoc.specs.Finding.{found_for}
 use Rattle.sctp_assoc.specs.Handshake.{connected, cookie_queued, echoed, information_returned, learned, learned_back}
 use Rattle.sctp_assoc.specs.Handshake.{on_cookie_ack, on_cookie_echo, on_heartbeat, on_init, on_init_ack, sends_cookie}
 use Rattle.sctp_assoc.specs.Resets.{after_param, asking_if, behind_first, behind_params, channels_of, handled_with}
@@ -58,6 +59,8 @@ use Rattle.sctp_assoc.specs.Shown.{Shown, all_waiting}
 use Rattle.sctp_assoc.specs.Shutdown.{shutdown_answered, shutdown_continued, shutdown_taken}
 use Rattle.sctp_assoc.specs.Skipping.{acknowledged_at_once, asks_behind, on_forward, skips_of, with_passed, with_skip}
 use Rattle.sctp_assoc.specs.Skipping.{with_skips}
+use Rattle.sctp_assoc.proofs.Probes.{probes_keep}
+use Rattle.sctp_assoc.proofs.StreamsFound.{found_for_keeps}
 use Rattle.sctp_sides.proofs.ForwardKinds.{forward_is_one_of}
 use Rattle.sctp_sides.proofs.PacketsByChunks.{chunks_carry}
 use Rattle.sctp_sides.proofs.PeerRequestsInChunks.{flow_same}
@@ -248,11 +251,13 @@ module _ (P : StreamMap → Type 0) (law : IsKept P) where
   outcome_keeps outcomes.NamesTheUnsent a cumulative_tsn_ack blocks window trigger now = stays_kept P a
   outcome_keeps outcomes.Taken a cumulative_tsn_ack blocks window trigger now =
       let b : Shown = after_sack a cumulative_tsn_ack blocks window now in
-      then_kept P
+      probes_keep (Keeps P a) (λ c k. record { holds = k.holds }) (λ c k. record { holds = k.holds })
+      a.sender.advertised_window window (shutdown_continued b)
+      (then_kept P
       (acknowledged_keeps a (progress_of a.sender cumulative_tsn_ack blocks) now
       (sack_taken cumulative_tsn_ack blocks window now a.sender a.estimate a.streams)
       (λ h. sack_holds P law cumulative_tsn_ack blocks window now a.sender a.estimate a.streams h))
-      (same_kept P b (shutdown_continued b) refl)
+      (same_kept P b (shutdown_continued b) refl))
 
   sack_keeps : (sends : Bool) (a : Shown) (cumulative_tsn_ack : ℕ) (blocks : List GapAckBlock) (window : ℕ)
       (trigger : AckTrigger) (now : ℕ) → sends_data a.state ≡ sends
@@ -363,6 +368,11 @@ module _ (P : StreamMap → Type 0) (law : IsKept P) where
       then_kept P (skips_keep tsn es a)
       (then_kept P (passed_keeps b tsn) (then_kept P (settled_keeps c) (asks_behind_keeps (settled c) trigger)))
 
+  -- the streams on which it skips are found or made before
+  all_found_keep : (tsn : ℕ) (es : List SkippedStream) (a : Shown) → Keeps P a (found_for tsn es a)
+  all_found_keep tsn es a =
+      found_for_keeps (Keeps P a) (λ b id k. then_kept P k (stream_found_keeps b id)) tsn es a (stays_kept P a)
+
   on_forward_keeps : (a : Shown) (tsn : ℕ) (es : List SkippedStream) (trigger : AckTrigger) (now : ℕ)
       → Keeps P a (on_forward a tsn es trigger now).0
   on_forward_keeps a tsn es trigger now =
@@ -370,6 +380,7 @@ module _ (P : StreamMap → Type 0) (law : IsKept P) where
       (λ b e. queued_kept P b _)
       (λ b e f. same_kept P b (acknowledged_at_once b now) refl)
       (λ b e f. ahead_keeps b tsn es trigger)
+      (λ b x k. then_kept P (all_found_keep tsn es b) k)
       a
 
   -- RE-CONFIG

@@ -1,13 +1,12 @@
 -- No call but that which stops a stream begins a reset, and of what comes only RE-CONFIG does.
 use Rattle.std.proofs.Common.{◌≡◌, refl, sym, ap, ◌∙◌, subst, ℕ, Bool, true, false, if◌then◌else◌, not, List, [], ◌∷◌}
-use Rattle.std.proofs.Common.{◌++◌, ◌&&◌, slice_get, remove, Option, Some, None, is_some, Result, Ok, Err}
+use Rattle.std.proofs.Common.{slice_get, remove, Option, Some, None, is_some, Result, Ok, Err}
 use Rattle.std.specs.List.{AllByRecursion}
 use Rattle.sctp_wire_types.specs.declared.chunk.Chunk.{Chunk}
 use Rattle.sctp_wire_types.specs.declared.chunk.Chunk.TheVariants as chunks
 use Rattle.sctp_wire_types.specs.declared.chunk.ChunkHeartbeat.{ChunkHeartbeat}
 use Rattle.sctp_wire_types.specs.declared.chunk.ChunkInit.{ChunkInit}
 use Rattle.sctp_wire_types.specs.declared.chunk.ChunkPayloadData.{ChunkPayloadData}
-use Rattle.sctp_wire_types.specs.declared.chunk.ChunkSelectiveAck.{ChunkSelectiveAck}
 use Rattle.sctp_wire_types.specs.declared.chunk.GapAckBlock.{GapAckBlock}
 use Rattle.sctp_wire_types.specs.declared.chunk.SkippedStream.{SkippedStream}
 use Rattle.sctp_wire_types.specs.declared.error.Error.{Error}
@@ -38,12 +37,10 @@ use Rattle.sctp_outbound.specs.Sacks.{progress_of, sack_taken}
 use Rattle.sctp_outbound.specs.Sender.{sack_outcome}
 use Rattle.sctp_outbound.specs.declared.progress.Progress.{Progress}
 use Rattle.sctp_parts.specs.Estimate.{Estimate}
-use Rattle.sctp_generations.specs.Generations.{GenerationsView}
 use Rattle.sctp_reset_requests.specs.Debts.{DebtsView, no_debt}
 use Rattle.sctp_resets.specs.Resets.{Beside, ResetsView, event_told_at, is_hidden, is_retiring, with_event}
 use Rattle.sctp_resets.specs.Telling.{debts_told, next_told}
 use Rattle.sctp_assoc.specs.declared.inbound.Flow.{Flow}
-use Rattle.sctp_assoc.specs.declared.inbound.Flow.TheVariants as flows
 use Rattle.sctp_assoc.specs.Calls.{accepted_from, after_ack_delay, after_read, after_t3, credit_in, drained_behind}
 use Rattle.sctp_assoc.specs.Calls.{eased, event_from, exchanges_data}
 use Rattle.sctp_assoc.specs.Calls.{is_beginning, is_cookie_echoed, is_cookie_wait, is_established, retransmits}
@@ -52,27 +49,28 @@ use Rattle.sctp_assoc.specs.Shutdown.{shutdown_answered, shutdown_continued, shu
 use Rattle.sctp_assoc.specs.Calls.{t3_expired, tells_window, told_if, written_at}
 use Rattle.sctp_assoc.specs.Chunks.{after_sack, asks, asks_or_faults, checked_first, counted_data, counted_sack}
 use Rattle.sctp_assoc.specs.Chunks.{deferred_where_admitted, dispatched, goes_unread, left_or_handed_over, on_chunk}
-use Rattle.sctp_assoc.specs.Chunks.{on_counted_data, on_counted_sack}
-use Rattle.sctp_assoc.specs.Chunks.{on_data, on_new_data, on_sack, stream_found, taken_in, taken_unless}
+use Rattle.sctp_assoc.specs.Chunks.{on_counted_sack, on_data, on_new_data, on_sack, taken_in, taken_unless}
 use Rattle.sctp_assoc.specs.Chunks.{taken_where_admitted, then_skips, told, with_acknowledged, with_message}
-use Rattle.sctp_assoc.specs.Chunks.{with_new_stream}
 use Rattle.sctp_assoc.specs.Closing.{closed_by, closed_open, exhausted, is_closed_state, is_exhausted, out_of_resource}
 use Rattle.sctp_assoc.specs.Closing.{relieved}
 use Rattle.sctp_assoc.specs.Control.{queued, queued_under, untagged}
+use Rattle.sctp_assoc.specs.Finding.{found_for, stream_found}
 use Rattle.sctp_assoc.specs.Gather.{ack_after, ack_polled, after_both, data_after, data_polled, exchange_after}
 use Rattle.sctp_assoc.specs.Gather.{exchange_polled, forward_after, forward_polled, is_due, open_polled}
 use Rattle.sctp_assoc.specs.Gather.{reconfig_run_after, requests_after}
 use Rattle.sctp_assoc.specs.Gather.{requests_polled, without_control}
-use Rattle.sctp_assoc.specs.Handshake.{acknowledged_cookie, after_t1_cookie, after_t1_init, answered, connected}
-use Rattle.sctp_assoc.specs.Handshake.{cookie_queued, echoed, information_returned, init_queued, learned, learned_back}
-use Rattle.sctp_assoc.specs.Handshake.{learns_peer, on_cookie_ack, on_cookie_echo, on_heartbeat, on_init, on_init_ack}
-use Rattle.sctp_assoc.specs.Handshake.{sends_cookie, sends_init, t1_cookie_expired, t1_init_expired, with_echo}
+use Rattle.sctp_assoc.specs.Handshake.{after_t1_cookie, after_t1_init, connected, cookie_queued, echoed}
+use Rattle.sctp_assoc.specs.Handshake.{information_returned, init_queued, learned, on_cookie_ack, on_cookie_echo}
+use Rattle.sctp_assoc.specs.Handshake.{on_heartbeat, on_init, on_init_ack, sends_cookie, sends_init}
+use Rattle.sctp_assoc.specs.Handshake.{t1_cookie_expired, t1_init_expired}
 use Rattle.sctp_assoc.specs.Resets.{asks_again, after_reconfig_timer, gives_up, reconfig_expired, settled}
-use Rattle.sctp_assoc.specs.Resets.{skips_applied_of, with_beside, with_reconfig_run}
+use Rattle.sctp_assoc.specs.Resets.{with_beside, with_reconfig_run}
 use Rattle.sctp_assoc.specs.Shown.{Shown, all_waiting}
 use Rattle.sctp_assoc.specs.Shutdown.{after_t2_shutdown}
 use Rattle.sctp_assoc.specs.Skipping.{acknowledged_at_once, asks_behind, on_forward, skips_of, with_passed, with_skip}
 use Rattle.sctp_assoc.specs.Skipping.{with_skips}
+use Rattle.sctp_assoc.proofs.Probes.{probes_keep}
+use Rattle.sctp_assoc.proofs.StreamsFound.{found_for_is}
 use Rattle.sctp_sides.specs.NoReset.{AcceptedStreamsBeginNoReset, BeginsNoReset, ClosesBeginNoReset}
 use Rattle.sctp_sides.specs.NoReset.{CreatedSidesResetNothing, ExhaustionBeginsNoReset, HasNoReset, IsNoReconfig}
 use Rattle.sctp_sides.specs.NoReset.{IsOfNoReset, JoinedSidesResetNothing, LimitsBeginNoReset}
@@ -501,7 +499,8 @@ data_none_if true false a piece trigger e = λ n.
     (found_none (is_some (stream_at a.streams piece.stream_identifier)) (generation_left a.streams) a
     piece.stream_identifier refl refl n)
 
-on_data_none : (a : Shown) (piece : ChunkPayloadData) (trigger : AckTrigger) → BeginsNoReset a (on_data a piece trigger).0
+on_data_none : (a : Shown) (piece : ChunkPayloadData) (trigger : AckTrigger)
+    → BeginsNoReset a (on_data a piece trigger).0
 unfolding on_data
 on_data_none a piece trigger = λ n.
     let b : Shown = counted_data a in
@@ -521,9 +520,11 @@ outcome_none outcomes.NotInFlight a cumulative_tsn_ack blocks window trigger now
 outcome_none outcomes.NamesTheUnsent a cumulative_tsn_ack blocks window trigger now = λ n. n
 outcome_none outcomes.Taken a cumulative_tsn_ack blocks window trigger now = λ n.
     let b : Shown = after_sack a cumulative_tsn_ack blocks window now in
-    same_resets b (shutdown_continued b) refl refl
+    probes_keep HasNoReset (λ c m. same_resets c _ refl refl m) (λ c m. same_resets c _ refl refl m)
+    a.sender.advertised_window window (shutdown_continued b)
+    (same_resets b (shutdown_continued b) refl refl
     (acknowledged_none a (progress_of a.sender cumulative_tsn_ack blocks) now
-    (sack_taken cumulative_tsn_ack blocks window now a.sender a.estimate a.streams) n)
+    (sack_taken cumulative_tsn_ack blocks window now a.sender a.estimate a.streams) n))
 
 sack_none : (sends : Bool) (a : Shown) (cumulative_tsn_ack : ℕ) (blocks : List GapAckBlock) (window : ℕ)
     (trigger : AckTrigger) (now : ℕ) → sends_data a.state ≡ sends
@@ -622,6 +623,12 @@ ahead_none a tsn es trigger = λ n.
     asks_behind_none (settled b) trigger
     (settled_none b (passed_none (with_skips tsn es a) tsn (skipped_none tsn es a n)))
 
+-- the streams on which a FORWARD TSN skips are found or made before
+all_found_none : (tsn : ℕ) (es : List SkippedStream) (a : Shown) → BeginsNoReset a (found_for tsn es a)
+all_found_none tsn es a =
+    same_resets a (found_for tsn es a) (ap (λ (z : Shown). z.resets) (found_for_is tsn es a))
+    (ap (λ (z : Shown). z.control) (found_for_is tsn es a))
+
 on_forward_none : (a : Shown) (tsn : ℕ) (es : List SkippedStream) (trigger : AckTrigger) (now : ℕ)
     → BeginsNoReset a (on_forward a tsn es trigger now).0
 on_forward_none a tsn es trigger now =
@@ -629,6 +636,7 @@ on_forward_none a tsn es trigger now =
     (λ b e. one_more_waits b _ tt)
     (λ b e f. same_resets b (acknowledged_at_once b now) refl refl)
     (λ b e f. ahead_none b tsn es trigger)
+    (λ b x begins n. begins (all_found_none tsn es b n))
     a
 
 kind_none : (a : Shown) (header : CommonHeader) (c : Chunk) (trigger : AckTrigger) (now : ℕ) → IsNoReconfig c
@@ -647,8 +655,8 @@ kind_none a header (chunks.Shutdown x) trigger now plain = same_resets a (shutdo
 kind_none a header chunks.ShutdownAck trigger now plain = same_resets a (shutdown_answered a) refl refl
 kind_none a header (chunks.Error x) trigger now plain = λ n. n
 kind_none a header (chunks.CookieEcho cookie) trigger now plain =
-    cookie_echo_none (has_issued a.handshake cookie) (is_beginning a.state) (is_established a.state) a cookie trigger refl
-    refl refl
+    cookie_echo_none (has_issued a.handshake cookie) (is_beginning a.state) (is_established a.state) a cookie trigger
+    refl refl refl
 kind_none a header chunks.CookieAck trigger now plain = cookie_ack_none (is_cookie_echoed a.state) a trigger refl
 kind_none a header chunks.ShutdownComplete trigger now plain = λ n. n
 kind_none a header (chunks.Reconfig x) trigger now plain = absurd plain

@@ -1,5 +1,5 @@
 -- Whatever chunk comes, resets go on to concern streams past their span alone, if a RE-CONFIG names no other stream.
-use Rattle.std.proofs.Common.{◌≡◌, refl, sym, subst, ℕ, Bool, true, false, if◌then◌else◌, not, List, [], ◌∷◌}
+use Rattle.std.proofs.Common.{◌≡◌, refl, sym, ap, subst, ℕ, Bool, true, false, if◌then◌else◌, not, List, [], ◌∷◌}
 use Rattle.std.proofs.Common.{Option, Some, None, is_some, Result, Ok, Err}
 use Rattle.std.specs.List.{AllByRecursion}
 use Rattle.sctp_wire_types.specs.declared.chunk.Chunk.{Chunk}
@@ -47,10 +47,11 @@ use Rattle.sctp_assoc.specs.Shutdown.{shutdown_answered, shutdown_continued, shu
 use Rattle.sctp_assoc.specs.Chunks.{after_sack, asks, asks_or_faults, checked_first, counted_data, counted_sack}
 use Rattle.sctp_assoc.specs.Chunks.{deferred, goes_unread, left_or_handed_over}
 use Rattle.sctp_assoc.specs.Chunks.{deferred_unless, deferred_where_admitted, dispatched, on_chunk, on_counted_sack}
-use Rattle.sctp_assoc.specs.Chunks.{on_data, on_new_data, on_sack, stream_found, taken_in, taken_unless}
+use Rattle.sctp_assoc.specs.Chunks.{on_data, on_new_data, on_sack, taken_in, taken_unless}
 use Rattle.sctp_assoc.specs.Chunks.{taken_where_admitted, then_skips, told, with_acknowledged, with_message}
 use Rattle.sctp_assoc.specs.Closing.{is_exhausted}
 use Rattle.sctp_assoc.specs.Control.{asking, queued}
+use Rattle.sctp_assoc.specs.Finding.{found_for, stream_found}
 use Rattle.sctp_assoc.specs.Handshake.{connected, cookie_queued, echoed, information_returned, learned, learned_back}
 use Rattle.sctp_assoc.specs.Handshake.{on_cookie_ack, on_cookie_echo, on_heartbeat, on_init, on_init_ack, sends_cookie}
 use Rattle.sctp_assoc.specs.Resets.{after_param, asking_if, behind_first, behind_params, channels_of, handled_with}
@@ -60,6 +61,8 @@ use Rattle.sctp_assoc.specs.Resets.{with_resetting}
 use Rattle.sctp_assoc.specs.Shown.{Shown, all_waiting}
 use Rattle.sctp_assoc.specs.Skipping.{acknowledged_at_once, asks_behind, on_forward, skips_of, with_passed, with_skip}
 use Rattle.sctp_assoc.specs.Skipping.{with_skips}
+use Rattle.sctp_assoc.proofs.Probes.{probes_keep}
+use Rattle.sctp_assoc.proofs.StreamsFound.{found_for_is}
 use Rattle.sctp_sides.specs.PastSpan.{ChunksResetNoMore, ParamIsPast, ParamIsPastIf, ResetsPastIfAny, WaitsPast}
 use Rattle.sctp_sides.proofs.ForwardKinds.{forward_is_one_of}
 use Rattle.sctp_sides.proofs.PastOnly.{one_more_is_past}
@@ -313,10 +316,12 @@ module _ (over : ℕ → Bool) where
   outcome_keeps outcomes.NamesTheUnsent a cumulative_tsn_ack blocks window trigger now = stays a
   outcome_keeps outcomes.Taken a cumulative_tsn_ack blocks window trigger now =
       let b : Shown = after_sack a cumulative_tsn_ack blocks window now in
-      then_keeps
+      probes_keep (KeepsPast over a) (λ c k. then_keeps k (keeps_same c _ refl refl))
+      (λ c k. then_keeps k (keeps_same c _ refl refl)) a.sender.advertised_window window (shutdown_continued b)
+      (then_keeps
       (acknowledged_keeps a (progress_of a.sender cumulative_tsn_ack blocks) now
       (sack_taken cumulative_tsn_ack blocks window now a.sender a.estimate a.streams))
-      (keeps_same b (shutdown_continued b) refl refl)
+      (keeps_same b (shutdown_continued b) refl refl))
 
   sack_keeps : (sends : Bool) (a : Shown) (cumulative_tsn_ack : ℕ) (blocks : List GapAckBlock) (window : ℕ)
       (trigger : AckTrigger) (now : ℕ) → sends_data a.state ≡ sends
@@ -435,6 +440,12 @@ module _ (over : ℕ → Bool) where
       then_keeps (skips_keep tsn es a)
       (then_keeps (passed_keeps b tsn) (then_keeps (settled_keeps c) (asks_behind_keeps (settled c) trigger)))
 
+  -- the streams on which it skips are found or made before
+  all_found_keep : (tsn : ℕ) (es : List SkippedStream) (a : Shown) → KeepsPast over a (found_for tsn es a)
+  all_found_keep tsn es a =
+      keeps_same a (found_for tsn es a) (ap (λ (z : Shown). z.resets) (found_for_is tsn es a))
+      (ap (λ (z : Shown). z.control) (found_for_is tsn es a))
+
   on_forward_keeps : (a : Shown) (tsn : ℕ) (es : List SkippedStream) (trigger : AckTrigger) (now : ℕ)
       → KeepsPast over a (on_forward a tsn es trigger now).0
   on_forward_keeps a tsn es trigger now =
@@ -442,6 +453,7 @@ module _ (over : ℕ → Bool) where
       (λ b e. keeps_queued b _ tt)
       (λ b e f. keeps_same b (acknowledged_at_once b now) refl refl)
       (λ b e f. ahead_keeps b tsn es trigger)
+      (λ b x k. then_keeps (all_found_keep tsn es b) k)
       a
 
   -- RE-CONFIG

@@ -53,7 +53,7 @@ use Rattle.sctp_assoc.specs.Chunks.{after_sack}
 use Rattle.sctp_assoc.specs.Chunks.{after_chunks, after_packet_of, asks_or_faults, checked_first, dispatched, goes_on}
 use Rattle.sctp_assoc.specs.Chunks.{goes_unread, left_or_handed_over}
 use Rattle.sctp_assoc.specs.Chunks.{on_chunk, on_counted_data, on_counted_sack, on_data, on_new_data}
-use Rattle.sctp_assoc.specs.Chunks.{on_sack, stream_found, taken_in, taken_unless, told, with_acknowledged}
+use Rattle.sctp_assoc.specs.Chunks.{on_sack, taken_in, taken_unless, told, with_acknowledged}
 use Rattle.sctp_assoc.specs.Chunks.{asks, deferred_unless, deferred_where_admitted, taken_where_admitted, then_skips}
 use Rattle.sctp_assoc.specs.Chunks.{with_message}
 use Rattle.sctp_assoc.specs.Resets.{after_param, asking_if, behind_first, behind_params, handled_with, on_reconfig}
@@ -76,8 +76,11 @@ use Rattle.sctp_sides.specs.Laws.{FaultsAloneClose, IsClosedIf, faults_or, is_fa
 use Rattle.sctp_sides.specs.Laws.{losses}
 use Rattle.sctp_assoc.specs.Shown.{Shown, all_waiting}
 use Rattle.sctp_assoc.specs.Control.{queued as with_queued}
+use Rattle.sctp_assoc.specs.Finding.{found_for, stream_found}
 use Rattle.sctp_assoc.specs.Skipping.{acknowledged_at_once, asks_behind, on_forward, readable_told, skips_of}
 use Rattle.sctp_assoc.specs.Skipping.{unrecognized_chunk, with_passed, with_skip, with_skips}
+use Rattle.sctp_assoc.proofs.Probes.{probes_keep}
+use Rattle.sctp_assoc.proofs.StreamsFound.{found_for_keeps}
 use Rattle.sctp_sides.proofs.ForwardKinds.{forward_is_one_of}
 use Rattle.sctp_assoc.specs.Calls.{after_read, credit_in, drained_behind, eased, holds_of, stopped_open, tells_window}
 use Rattle.sctp_assoc.specs.Calls.{told_if, without_read_half_of}
@@ -385,10 +388,12 @@ outcome_goes_on outcomes.NotInFlight b cumulative_tsn_ack blocks window trigger 
 outcome_goes_on outcomes.NamesTheUnsent b cumulative_tsn_ack blocks window trigger now = stays b b refl refl refl
 outcome_goes_on outcomes.Taken b cumulative_tsn_ack blocks window trigger now =
     let c : Shown = after_sack b cumulative_tsn_ack blocks window now in
-    goes_on_there b c (shutdown_continued c)
+    probes_keep (StaysOpen b) (λ d m. goes_on_there b d _ m (stays d _ refl refl refl))
+    (λ d m. goes_on_there b d _ m (stays d _ refl refl refl)) b.sender.advertised_window window (shutdown_continued c)
+    (goes_on_there b c (shutdown_continued c)
     (remains_open b c (acknowledged_goes_on b (progress_of b.sender cumulative_tsn_ack blocks) now
     (sack_taken cumulative_tsn_ack blocks window now b.sender b.estimate b.streams)))
-    (continued_goes_on c)
+    (continued_goes_on c))
 
 pub sack_goes_on : (c : Bool) (a : Shown) (cumulative_tsn_ack : ℕ) (blocks : List GapAckBlock) (window : ℕ)
     (trigger : AckTrigger)
@@ -436,6 +441,13 @@ passed_goes_on a tsn es trigger =
     (remains_on a c d (remains_on a b c (skips_go_on tsn es a) (remains b c refl refl refl refl)) (settling_goes_on c))
     (asks_goes_on_if (is_exhausted d) d flows.Exhausted (flows.Next (asked d.receiver trigger false)))
 
+-- the streams on which it skips are found or made before
+all_found_go_on : (tsn : ℕ) (es : List SkippedStream) (a : Shown) → Remains a (found_for tsn es a)
+all_found_go_on tsn es a =
+    found_for_keeps (λ (b : Shown). Remains a b)
+    (λ b id m. remains_on a b (stream_found b id).0 m (found_goes_on _ _ b id refl refl)) tsn es a
+    (remains a a refl refl refl refl)
+
 pub forward_goes_on : (a : Shown) (tsn : ℕ) (es : List SkippedStream) (trigger : AckTrigger) (now : ℕ)
     → Remains a (on_forward a tsn es trigger now).0
 forward_goes_on a tsn es trigger now =
@@ -443,6 +455,7 @@ forward_goes_on a tsn es trigger now =
     (λ b e. remains b (with_queued b unrecognized_chunk) refl refl refl refl)
     (λ b e f. remains b (acknowledged_at_once b now) refl refl refl refl)
     (λ b e f. passed_goes_on b tsn es trigger)
+    (λ b x m. remains_on b (found_for tsn es b) x.0 (all_found_go_on tsn es b) m)
     a
 
 -- SHUTDOWN

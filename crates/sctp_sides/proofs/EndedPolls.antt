@@ -1,5 +1,6 @@
 -- What the end of a poll for packets leaves of its front. A chunk of a shutdown goes out last, where one is due:
--- SHUTDOWN and SHUTDOWN ACK change which of these chunks are due, and the timer of the answer; SHUTDOWN COMPLETE closes.
+-- SHUTDOWN and SHUTDOWN ACK change which of these chunks are due, and the timer of the answer; SHUTDOWN COMPLETE
+-- closes.
 use Rattle.std.proofs.Common.{◌≡◌, refl, sym, subst, ℕ, Bool, true, false, ◌&&◌, not, if◌then◌else◌, List, [], ◌++◌}
 use Rattle.std.proofs.lemmas.Bool.{cond-false, false≢true}
 use Rattle.sctp_wire_types.specs.declared.chunk.Chunk.TheVariants as chunks

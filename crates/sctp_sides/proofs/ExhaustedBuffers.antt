@@ -32,10 +32,11 @@ use Rattle.sctp_wire_types.specs.declared.chunk.Chunk.TheVariants as chunks
 use Rattle.sctp_inbound.specs.declared.receiver.AckTrigger.TheVariants as triggers
 use Rattle.sctp_inbound.specs.Receiver.{asked}
 use Rattle.sctp_assoc.specs.Chunks.{asks, asks_or_faults, counted_data, deferred, deferred_unless}
-use Rattle.sctp_assoc.specs.Chunks.{deferred_where_admitted, on_chunk, on_data, on_new_data, stream_found, taken_in}
+use Rattle.sctp_assoc.specs.Chunks.{deferred_where_admitted, on_chunk, on_data, on_new_data, taken_in}
 use Rattle.sctp_assoc.specs.Chunks.{goes_unread, left_or_handed_over, taken_unless, taken_where_admitted, then_skips}
 use Rattle.sctp_assoc.specs.Chunks.{told}
 use Rattle.sctp_assoc.specs.Closing.{is_exhausted}
+use Rattle.sctp_assoc.specs.Finding.{stream_found}
 use Rattle.sctp_assoc.specs.Resets.{settled}
 use Rattle.sctp_assoc.specs.Shown.{Shown, all_waiting}
 use Rattle.sctp_sides.specs.Causes.{IsFullForGood, IsUnreadable, LeavesNothingToRead, kept_apart, kept_behind}

@@ -14,6 +14,7 @@ use Rattle.sctp_directions.specs.Acts.{History, IsAhead, reach_in}
 use Rattle.sctp_assoc.specs.declared.inbound.Flow.{Flow}
 use Rattle.sctp_assoc.specs.declared.inbound.Flow.TheVariants as flows
 use Rattle.sctp_assoc.specs.Closing.{is_exhausted}
+use Rattle.sctp_assoc.specs.Finding.{found_for}
 use Rattle.sctp_assoc.specs.Happened.{acts_of_chunk}
 use Rattle.sctp_assoc.specs.Leads.{Binds, Leads, parts}
 use Rattle.sctp_assoc.specs.Shown.{Shown, uses_forward_tsn}
@@ -26,10 +27,11 @@ use Rattle.sctp_inbound.specs.declared.receiver.Receiver.{Receiver}
 use Rattle.sctp_inbound.specs.declared.receiver.AckTrigger.TheVariants as triggers
 use Rattle.sctp_assoc.proofs.ForwardCame.{lies_ahead}
 use Rattle.sctp_assoc.proofs.CallsLeadOn.{chunk_leads}
+use Rattle.sctp_assoc.proofs.StreamsFound.{found_for_is}
 use Rattle.sctp_sides.specs.Causes.{IsFullForGood, PassesToNothingToRead, kept_apart, kept_behind}
 use Rattle.sctp_sides.proofs.DataIntake.{exhausts_of, fault_of}
 use Rattle.sctp_sides.proofs.ExhaustedBuffers.{exhausted_is_full, full_is_exhausted, settled_receiver}
-use Rattle.sctp_sides.proofs.ForwardKinds.{forward_is_one_of}
+use Rattle.sctp_sides.proofs.ForwardKinds.{forward_is_one_of, with_use}
 
 -- It is no fault.
 
@@ -44,7 +46,7 @@ forward_flow a t es trigger now =
     forward_is_one_of t es (λ b x. fault_of x.1 ≡ None) trigger now (λ b e. refl) (λ b e f. refl)
     (λ b e f. let c : Shown = settled (with_passed (with_skips t es b) t) in
     asks_without_fault (is_exhausted c) c (asked c.receiver trigger false))
-    a
+    (λ b x p. p) a
 
 -- Where it leaves the receive buffer exhausted.
 
@@ -74,6 +76,7 @@ forward_exhausts a t es trigger now =
     both_and (uses_forward_tsn b) (is_ahead b t) (exhausts_of (asks_behind c trigger).1)
     (is_exhausted (asks_behind c trigger).0) e f
     (asks_exhausts (is_exhausted c) c (asked c.receiver trigger false) refl))
+    (λ b x p. p ∙ ap (λ (z : Shown). (uses_forward_tsn z && is_ahead z t) && is_exhausted x.0) (found_for_is t es b))
     a
 
 -- It leaves the size of the buffer.
@@ -105,7 +108,7 @@ forward_size a t es trigger now =
     asks_size (is_exhausted c) c (asked c.receiver trigger false)
     ∙ ap (λ (r : Receiver). r.buffer_size) (settled_receiver (with_passed (with_skips t es b) t))
     ∙ ap (λ (r : Receiver). r.buffer_size) (skips_receiver t es b))
-    a
+    (λ b x p. p ∙ ap (λ (z : Shown). z.receiver.buffer_size) (found_for_is t es b)) a
 
 -- What is kept apart behind it is the same whatever asked before, and whenever it comes.
 
@@ -114,36 +117,23 @@ asks_kept : (e : Bool) (b : Shown) (f : AckTrigger)
 asks_kept true b f = refl
 asks_kept false b f = refl
 
--- what is kept apart behind a FORWARD TSN: what settling left where that is in use and lies ahead, else what was
-abbrev kept_left : ℕ → List SkippedStream → Shown → ℕ
-kept_left t es b =
-    if uses_forward_tsn b && is_ahead b t then kept_apart (settled (with_passed (with_skips t es b) t)) else
-    kept_apart b
-
-kept_none : (c d : Bool) (x y : ℕ) → (c ≡ false) ⊎ (d ≡ false) → y ≡ (if c && d then x else y)
-kept_none c d x y (inl e) = rw e refl
-kept_none true d x y (inr e) = rw e refl
-kept_none false d x y (inr e) = refl
-
-kept_some : (c d : Bool) (x y z : ℕ) → c ≡ true → d ≡ true → z ≡ x → z ≡ (if c && d then x else y)
-kept_some c d x y z e f g = rw (e, f) g
-
-forward_keeps : (a : Shown) (t : ℕ) (es : List SkippedStream) (trigger : AckTrigger) (now : ℕ)
-    → kept_apart (on_forward a t es trigger now).0 ≡ kept_left t es a
-forward_keeps a t es trigger now =
-    forward_is_one_of t es (λ b x. kept_apart x.0 ≡ kept_left t es b) trigger now
-    (λ b e. kept_none (uses_forward_tsn b) (is_ahead b t)
-    (kept_apart (settled (with_passed (with_skips t es b) t))) (kept_apart b) (inl e))
-    (λ b e f. kept_none (uses_forward_tsn b) (is_ahead b t)
-    (kept_apart (settled (with_passed (with_skips t es b) t))) (kept_apart b) (inr f))
-    (λ b e f. let c : Shown = settled (with_passed (with_skips t es b) t) in
-    kept_some (uses_forward_tsn b) (is_ahead b t) (kept_apart c) (kept_apart b) (kept_apart (asks_behind c trigger).0)
-    e f (asks_kept (is_exhausted c) c (asked c.receiver trigger false)))
-    a
+-- by whether FORWARD TSN is in use, and it lies ahead
+forward_kept_by : (uses ahead : Bool) (a : Shown) (t : ℕ) (es : List SkippedStream) (trigger : AckTrigger) (now : ℕ)
+    → is_ahead a t ≡ ahead
+    → kept_apart (on_forward (with_use uses a) t es trigger now).0
+    ≡ kept_apart (on_forward (with_use uses a) t es triggers.None 0).0
+unfolding on_forward
+forward_kept_by false ahead a t es trigger now e = refl
+forward_kept_by true false a t es trigger now e = rw e refl
+forward_kept_by true true a t es trigger now e =
+    let b : Shown = with_use true a in
+    let c : Shown = settled (with_passed (with_skips t es (found_for t es b)) t) in
+    rw e (asks_kept (is_exhausted c) c (asked c.receiver trigger false)
+    ∙ sym (asks_kept (is_exhausted c) c (asked c.receiver triggers.None false)))
 
 forward_kept : (a : Shown) (t : ℕ) (es : List SkippedStream) (trigger : AckTrigger) (now : ℕ)
     → kept_apart (on_forward a t es trigger now).0 ≡ kept_apart (on_forward a t es triggers.None 0).0
-forward_kept a t es trigger now = forward_keeps a t es trigger now ∙ sym (forward_keeps a t es triggers.None 0)
+forward_kept a t es trigger now = forward_kept_by (uses_forward_tsn a) (is_ahead a t) a t es trigger now refl
 
 -- A TSN that lies ahead is not behind.
 

@@ -46,6 +46,7 @@ use Rattle.sctp_sides.specs.OneSide.{Call, carried_out, with_told}
 use Rattle.sctp_sides.specs.Meeting.{IsAsFarOn}
 use Rattle.sctp_sides.specs.SideLaws.{Closes, Exhausts, IsSameStatus, KeepsTheStage}
 use Rattle.sctp_assoc.specs.Skipping.{skips_of}
+use Rattle.sctp_assoc.proofs.Probes.{probes_keep}
 use Rattle.sctp_sides.proofs.ClosingPackets.{Remains, drained_goes_on, forward_goes_on, on_data_goes_on}
 use Rattle.sctp_sides.proofs.ClosingPackets.{reconfig_goes_on, stopped_goes_on}
 use Rattle.sctp_sides.proofs.PacketLaws.{exhaustion_closes, faults_close, lost_associations_take_nothing}
@@ -147,7 +148,9 @@ outcome_talks outcomes.NotInFlight used a cumulative_tsn_ack blocks window trigg
 outcome_talks outcomes.NamesTheUnsent used a cumulative_tsn_ack blocks window trigger now h = h
 outcome_talks outcomes.Taken used a cumulative_tsn_ack blocks window trigger now h =
     let b : Shown = after_sack a cumulative_tsn_ack blocks window now in
-    continued_talks used b (talks_by used a b refl refl h)
+    probes_keep (IsTalking used) (λ c k. record { state = k.state; uses = k.uses })
+    (λ c k. record { state = k.state; uses = k.uses }) a.sender.advertised_window window (shutdown_continued b)
+    (continued_talks used b (talks_by used a b refl refl h))
 
 sack_talks : (counts used : Bool) (a : Shown) (cumulative_tsn_ack : ℕ) (blocks : List GapAckBlock) (window : ℕ)
     (trigger : AckTrigger) (now : ℕ) → sends_data a.state ≡ counts → IsTalking used a

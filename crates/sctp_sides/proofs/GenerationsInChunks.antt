@@ -47,29 +47,32 @@ use Rattle.sctp_resets.specs.declared.answers.TimerChange.{TimerChange}
 use Rattle.sctp_resets.specs.declared.performing.Handled.{Handled}
 use Rattle.sctp_resets.specs.declared.performing.Settled.{Settled}
 use Rattle.sctp_resets.specs.Channels.{Channels, channels}
-use Rattle.sctp_resets.specs.Resets.{Beside, Resetting, handled, is_hidden, is_retiring, read_out, refusal_of}
-use Rattle.sctp_resets.specs.Resets.{responded, stopped_reading}
+use Rattle.sctp_resets.specs.Resets.{Beside, Resetting, handled, is_hidden, is_retiring, refusal_of, responded}
 use Rattle.sctp_resets.specs.Resets as resets
 use Rattle.sctp_assoc.specs.declared.inbound.Flow.{Flow}
 use Rattle.sctp_assoc.specs.declared.inbound.Flow.TheVariants as flows
 use Rattle.sctp_assoc.specs.Calls.{after_read, credit_in, drained_behind, eased, holds_of, is_beginning}
 use Rattle.sctp_assoc.specs.Calls.{is_cookie_echoed, is_cookie_wait, is_established, read_from_stream, sends_data}
 use Rattle.sctp_assoc.specs.Calls.{stopped, stopped_open, tells_window, told_if, unread_dropped, without_read_half_of}
-use Rattle.sctp_assoc.specs.Chunks.{after_chunks, after_packet, after_packet_of, asks, asks_or_faults, checked_first}
-use Rattle.sctp_assoc.specs.Chunks.{deferred_unless, deferred_where_admitted, dispatched, goes_on, goes_unread}
-use Rattle.sctp_assoc.specs.Chunks.{left_or_handed_over, on_chunk}
+use Rattle.sctp_assoc.specs.Chunks.{after_chunks, after_packet, after_packet_of, after_sack, asks, asks_or_faults}
+use Rattle.sctp_assoc.specs.Chunks.{checked_first, deferred_unless, deferred_where_admitted, dispatched, goes_on}
+use Rattle.sctp_assoc.specs.Chunks.{goes_unread, left_or_handed_over, on_chunk}
 use Rattle.sctp_assoc.specs.Chunks.{on_counted_data, on_counted_sack, on_data, on_new_data, on_sack, stream_found}
 use Rattle.sctp_assoc.specs.Chunks.{taken_in, taken_unless, taken_where_admitted, then_skips, told, with_acknowledged}
 use Rattle.sctp_assoc.specs.Chunks.{with_message}
 use Rattle.sctp_assoc.specs.Closing.{closed_by, exhausted, is_closed_state, is_exhausted, relieved}
+use Rattle.sctp_assoc.specs.Finding.{found_for}
 use Rattle.sctp_assoc.specs.Handshake.{connected, echoed, information_returned, on_cookie_ack}
 use Rattle.sctp_assoc.specs.Handshake.{on_cookie_echo, on_heartbeat, on_init, on_init_ack, sends_cookie}
 use Rattle.sctp_assoc.specs.Resets.{after_param, asking_if, behind_first, behind_params, handled_with, on_reconfig}
 use Rattle.sctp_assoc.specs.Resets.{on_request, on_response, responded_with, settled, settled_with, skips_applied}
 use Rattle.sctp_assoc.specs.Resets.{skips_applied_of, stopped_if, with_answer, with_resetting}
 use Rattle.sctp_assoc.specs.Shown.{Shown, all_waiting}
+use Rattle.sctp_assoc.specs.Shutdown.{shutdown_continued}
 use Rattle.sctp_assoc.specs.Skipping.{asks_behind, on_forward, readable_told, skips_of, with_passed, with_skip}
 use Rattle.sctp_assoc.specs.Skipping.{with_skips}
+use Rattle.sctp_assoc.proofs.Probes.{probes_keep}
+use Rattle.sctp_assoc.proofs.StreamsFound.{found_for_keeps}
 use Rattle.sctp_sides.specs.Generations.{finals}
 use Rattle.sctp_sides.proofs.ForwardKinds.{forward_is_one_of}
 use Rattle.sctp_sides.proofs.GenerationsInResets.{handled_keeps, none_live, read_out_keeps, responded_keeps}
@@ -283,9 +286,13 @@ module _ (g : ℕ) where
   outcome_keeps outcomes.NamesTheUnsent b cumulative_tsn_ack blocks window trigger now = refl
   outcome_keeps outcomes.Taken b cumulative_tsn_ack blocks window trigger now =
       let x = sack_taken cumulative_tsn_ack blocks window now b.sender b.estimate b.streams in
+      let c : Shown = after_sack b cumulative_tsn_ack blocks window now in
+      let same : tally_of c ≡ tally_of b =
       acknowledged_keeps b (progress_of b.sender cumulative_tsn_ack blocks) now x
       ∙ same_tally g b.streams x.2 b.events
-      (sack_same cumulative_tsn_ack blocks window now b.sender b.estimate b.streams)
+      (sack_same cumulative_tsn_ack blocks window now b.sender b.estimate b.streams) in
+      probes_keep (λ (d : Shown). tally_of d ≡ tally_of b) (λ d e. e) (λ d e. e) b.sender.advertised_window window
+      (shutdown_continued c) same
 
   sack_keeps : (c : Bool) (a : Shown) (cumulative_tsn_ack : ℕ) (blocks : List GapAckBlock) (window : ℕ)
       (trigger : AckTrigger) (now : ℕ) → sends_data a.state ≡ c
@@ -332,6 +339,13 @@ module _ (g : ℕ) where
       ∙ same_tally g b.streams (passed_in b.streams tsn) b.events (passed_same b.streams tsn)
       ∙ skips_keep tsn es a
 
+  -- the streams on which it skips are found or made before
+  all_found_keep : (tsn : ℕ) (es : List SkippedStream) (a : Shown) → tally_of (found_for tsn es a) ≡ tally_of a
+  all_found_keep tsn es a =
+      found_for_keeps (λ (b : Shown). tally_of b ≡ tally_of a)
+      (λ b id e. found_keeps (is_some (stream_at b.streams id)) (generation_left b.streams) b id refl refl ∙ e)
+      tsn es a refl
+
   forward_keeps : (a : Shown) (tsn : ℕ) (es : List SkippedStream) (trigger : AckTrigger) (now : ℕ)
       → tally_of (on_forward a tsn es trigger now).0 ≡ tally_of a
   forward_keeps a tsn es trigger now =
@@ -339,6 +353,7 @@ module _ (g : ℕ) where
       (λ b e. refl)
       (λ b e f. refl)
       (λ b e f. passed_keeps b tsn es trigger)
+      (λ b x k. k ∙ all_found_keep tsn es b)
       a
 
   -- The handshake

@@ -52,9 +52,11 @@ says_still own s t (chunks.Error x) g said = greetings_stay_true own s t (chunks
 says_still own s t chunks.ShutdownComplete g said = greetings_stay_true own s t chunks.ShutdownComplete g said
 says_still own s t (chunks.ForwardTsn x) g said = greetings_stay_true own s t (chunks.ForwardTsn x) g said
 says_still own s t (chunks.IForwardTsn x) g said = greetings_stay_true own s t (chunks.IForwardTsn x) g said
-says_still own s t (chunks.Other kind flags value) g said = greetings_stay_true own s t (chunks.Other kind flags value) g said
+says_still own s t (chunks.Other kind flags value) g said =
+    greetings_stay_true own s t (chunks.Other kind flags value) g said
 
-waits_still : (own : ℕ) (s t : Stage) (c : Control) → IsNoEarlier s t → WaitsTruthfully own s c → WaitsTruthfully own t c
+waits_still : (own : ℕ) (s t : Stage) (c : Control) → IsNoEarlier s t → WaitsTruthfully own s c
+    → WaitsTruthfully own t c
 waits_still own s t (controls.Packet c) g said = says_still own s t c.chunk g said
 waits_still own s t controls.OwnRequest g said = tt
 

@@ -25,20 +25,23 @@ use Rattle.sctp_directions.specs.Acts.{Act, History}
 use Rattle.sctp_model.proofs.Lists.{all_get, all_join, all_weaker}
 use Rattle.sctp_assoc.specs.Calls.{is_beginning, is_cookie_wait, sends_data}
 use Rattle.sctp_assoc.specs.Chunks.{goes_unread}
-use Rattle.sctp_assoc.specs.Happened.{acts_of_checked, acts_of_chunk, acts_of_data, acts_of_forward}
-use Rattle.sctp_assoc.specs.Happened.{acts_of_kind, acts_of_outcome}
+use Rattle.sctp_assoc.specs.Happened.{acts_of_checked, acts_of_chunk, acts_of_data, acts_of_finding, acts_of_forward}
+use Rattle.sctp_assoc.specs.Happened.{acts_of_kind, acts_of_outcome, marks_if}
 use Rattle.sctp_assoc.specs.Leads.{Binds}
+use Rattle.sctp_assoc.specs.Probes.{opens_window}
 use Rattle.sctp_assoc.specs.ResetActs.{acts_of_keeping, acts_of_param, acts_of_reconfig, acts_of_second}
 use Rattle.sctp_assoc.specs.ResetActs.{acts_of_settling}
 use Rattle.sctp_assoc.specs.Resets.{after_param}
-use Rattle.sctp_assoc.specs.Shown.{Shown, uses_forward_tsn}
-use Rattle.sctp_assoc.specs.Skipping.{is_ahead, skips_of, with_passed, with_skips}
+use Rattle.sctp_assoc.specs.Shown.{Shown}
+use Rattle.sctp_assoc.specs.Skipping.{skips_of, with_passed, with_skips}
+use Rattle.sctp_assoc.proofs.StreamsFound.{finding_opens}
 use Rattle.sctp_sides.specs.Intake.{IsEndOfSpans, NothingElseIsKeptApart, NothingElseIsTakenIn, WasToBeKeptApart}
 use Rattle.sctp_sides.specs.Intake.{WasToBeLeft, WasToBeTakenIn, is_for_later, later_refusal_of, refusal_of}
 use Rattle.sctp_wire_types.specs.declared.chunk.SkippedStream.{SkippedStream}
 use Rattle.sctp_sides.proofs.DataIntake.{PassesLater, PassesTests, data_acts, decided_acts, first_acts, has_room}
 use Rattle.sctp_sides.proofs.DataIntake.{is_found, is_new, kept_acts, passes_may, passes_may_later, settling_ends_spans}
 use Rattle.sctp_sides.proofs.DataIntake.{spans_end}
+use Rattle.sctp_sides.proofs.ForwardKinds.{acts_are_one_of}
 
 -- Nothing else is taken in
 
@@ -236,12 +239,17 @@ all_if : (c : Bool) (xs ys : List Act) → AllByRecursion IsNoIntake xs → AllB
 all_if true xs ys m n = m
 all_if false xs ys m n = n
 
-outcomes_take_nothing : (outcome : SackOutcome) (n : ℕ) (blocks : List GapAckBlock) (missing : ℕ)
-    → AllByRecursion IsNoIntake (acts_of_outcome outcome n blocks missing)
-outcomes_take_nothing outcomes.Older n blocks missing = tt
-outcomes_take_nothing outcomes.NotInFlight n blocks missing = tt
-outcomes_take_nothing outcomes.NamesTheUnsent n blocks missing = tt
-outcomes_take_nothing outcomes.Taken n blocks missing = (tt, tt)
+-- where a SACK marks what is outstanding, that act is of a kind to which marking belongs
+pub marks_are : (Is : Act → Type 0) → Is Act.Marked → (opens : Bool) → AllByRecursion Is (marks_if opens)
+marks_are Is marked true = (marked, tt)
+marks_are Is marked false = tt
+
+outcomes_take_nothing : (outcome : SackOutcome) (n : ℕ) (blocks : List GapAckBlock) (missing : ℕ) (opens : Bool)
+    → AllByRecursion IsNoIntake (acts_of_outcome outcome n blocks missing opens)
+outcomes_take_nothing outcomes.Older n blocks missing opens = tt
+outcomes_take_nothing outcomes.NotInFlight n blocks missing opens = tt
+outcomes_take_nothing outcomes.NamesTheUnsent n blocks missing opens = tt
+outcomes_take_nothing outcomes.Taken n blocks missing opens = (tt, marks_are IsNoIntake tt opens)
 
 -- what a FORWARD TSN does that is ahead
 ahead_takes_nothing : (a : Shown) (tsn : ℕ) (skips : List SkippedStream)
@@ -254,19 +262,14 @@ ahead_takes_nothing a tsn skips =
     (spans_end (has_retiring a.resets.generations) (retiring_ids a.resets.generations) b.streams))
     (ends_are_no_intake (acts_of_settling b) (settling_ends_spans b))
 
--- the association, with FORWARD TSN in use or not
-abbrev pub with_use : Bool → Shown → Shown
-with_use c a = record a { handshake = (let h = a.handshake in record h { use_forward_tsn = c }) }
-
-forward_takes_nothing : (uses ahead : Bool) (a : Shown) (tsn : ℕ) (skips : List SkippedStream)
-    → is_ahead a tsn ≡ ahead → AllByRecursion IsNoIntake (acts_of_forward (with_use uses a) tsn skips)
-forward_takes_nothing false ahead a tsn skips e = tt
-forward_takes_nothing true false a tsn skips e = rw e tt
-forward_takes_nothing true true a tsn skips e = rw e (tt, ahead_takes_nothing (with_use true a) tsn skips)
-
+-- the streams that it opens before take nothing in either
 forwards_take_nothing : (a : Shown) (tsn : ℕ) (skips : List SkippedStream)
     → AllByRecursion IsNoIntake (acts_of_forward a tsn skips)
-forwards_take_nothing a tsn skips = forward_takes_nothing (uses_forward_tsn a) (is_ahead a tsn) a tsn skips refl
+forwards_take_nothing a tsn skips =
+    acts_are_one_of tsn skips (λ b acts. AllByRecursion IsNoIntake acts) (λ b e. tt) (λ b e f. tt)
+    (λ b e f. (tt, ahead_takes_nothing b tsn skips))
+    (λ b acts all. all_join IsNoIntake (acts_of_finding tsn skips b) acts
+    (finding_opens IsNoIntake (λ id first. tt) tsn skips b) all) a
 
 pub params_end_spans : (a : Shown) (param : Param) → AllByRecursion IsEndOfSpans (acts_of_param a param)
 params_end_spans a (params.OutgoingResetRequest request) = (tt, tt)
@@ -294,7 +297,9 @@ kinds_take_nothing : (a : Shown) (header : CommonHeader) (chunk : Chunk) → IsN
     → AllByRecursion IsNoIntake (acts_of_kind a header chunk)
 kinds_take_nothing a header (chunks.Data piece) n = absurd n
 kinds_take_nothing a header (chunks.SelectiveAck sack) n =
-    all_if (sends_data a.state) _ [] (outcomes_take_nothing _ _ sack.gap_ack_blocks _) tt
+    all_if (sends_data a.state) _ []
+    (outcomes_take_nothing _ _ sack.gap_ack_blocks _
+    (opens_window a.profile a.sender.advertised_window sack.advertised_receiver_window_credit)) tt
 kinds_take_nothing a header (chunks.Init init) n = all_if (is_beginning a.state) _ [] (tt, tt) tt
 kinds_take_nothing a header (chunks.InitAck init) n =
     all_if (is_cookie_wait a.state) _ [] (all_if (comes_back a.handshake header) _ [] (tt, tt) tt) tt

@@ -54,6 +54,7 @@ use Rattle.sctp_assoc.specs.Chunks.{after_sack, goes_unread, left_or_handed_over
 use Rattle.sctp_assoc.specs.Chunks.{on_sack, stream_found, taken_in, taken_unless, taken_where_admitted, then_skips}
 use Rattle.sctp_assoc.specs.Chunks.{told, with_message}
 use Rattle.sctp_assoc.specs.Closing.{is_exhausted}
+use Rattle.sctp_assoc.specs.Finding.{found_for}
 use Rattle.sctp_assoc.specs.Handshake.{information_returned, on_cookie_ack, on_cookie_echo, on_heartbeat, on_init}
 use Rattle.sctp_assoc.specs.Handshake.{on_init_ack}
 use Rattle.sctp_assoc.specs.Resets.{after_param, asking_if, behind_first, behind_params, channels_of, handled_with}
@@ -64,6 +65,8 @@ use Rattle.sctp_assoc.specs.Shutdown.{all_acknowledged, shutdown_continued, shut
 use Rattle.sctp_sides.proofs.TimersRun.{begun_shakes_no_hands, continued_onward, taken_onward}
 use Rattle.sctp_assoc.specs.Skipping.{acknowledged_at_once, asks_behind, on_forward, skips_of, with_passed, with_skip}
 use Rattle.sctp_assoc.specs.Skipping.{with_skips}
+use Rattle.sctp_assoc.proofs.Probes.{probes_keep}
+use Rattle.sctp_assoc.proofs.StreamsFound.{found_for_is}
 use Rattle.sctp_sides.proofs.ForwardKinds.{forward_is_one_of}
 use Rattle.sctp_sides.proofs.RepeatsKnown.{confirmed_peer}
 
@@ -402,7 +405,9 @@ module _ (P : PeerView → Type 0) (kept : IsKept P) where
   outcome_goes outcomes.NamesTheUnsent a cumulative_tsn_ack blocks window trigger now = same a
   outcome_goes outcomes.Taken a cumulative_tsn_ack blocks window trigger now =
       let b : Shown = after_sack a cumulative_tsn_ack blocks window now in
-      by_stage a (shutdown_continued b) (continued_onward (all_acknowledged b) a.state).begins refl
+      probes_keep (GoesOn a) (λ c k. record { begins = k.begins; holds = k.holds })
+      (λ c k. record { begins = k.begins; holds = k.holds }) a.sender.advertised_window window (shutdown_continued b)
+      (by_stage a (shutdown_continued b) (continued_onward (all_acknowledged b) a.state).begins refl)
 
   sack_goes : (sends : Bool) (a : Shown) (cumulative_tsn_ack : ℕ) (blocks : List GapAckBlock) (window : ℕ)
       (trigger : AckTrigger) (now : ℕ) → sends_data a.state ≡ sends
@@ -440,6 +445,12 @@ module _ (P : PeerView → Type 0) (kept : IsKept P) where
       (then_on a b (settled c) (skips_goes tsn es a)
       (then_on b c (settled c) (by_parts b c refl refl) (settled_goes c)))
 
+  -- the streams on which it skips are found or made before
+  all_found_goes : (tsn : ℕ) (es : List SkippedStream) (a : Shown) → GoesOn a (found_for tsn es a)
+  all_found_goes tsn es a =
+      by_parts a (found_for tsn es a) (ap (λ (z : Shown). z.state) (found_for_is tsn es a))
+      (ap (λ (z : Shown). z.resets.peer) (found_for_is tsn es a))
+
   forward_goes : (a : Shown) (tsn : ℕ) (es : List SkippedStream) (trigger : AckTrigger) (now : ℕ)
       → GoesOn a (on_forward a tsn es trigger now).0
   forward_goes a tsn es trigger now =
@@ -447,6 +458,7 @@ module _ (P : PeerView → Type 0) (kept : IsKept P) where
       (λ b e. by_parts b _ refl refl)
       (λ b e f. by_parts b (acknowledged_at_once b now) refl refl)
       (λ b e f. ahead_goes b tsn es trigger)
+      (λ b x k. then_on b (found_for tsn es b) x.0 (all_found_goes tsn es b) k)
       a
 
   -- Chunks of a handshake that is over
@@ -492,7 +504,8 @@ module _ (P : PeerView → Type 0) (kept : IsKept P) where
       sack_goes (sends_data a.state) a k.cumulative_tsn_ack k.gap_ack_blocks k.advertised_receiver_window_credit
       trigger now refl
   kind_goes header (chunks.Init x) a trigger now e = init_goes a header x trigger e
-  kind_goes header (chunks.InitAck x) a trigger now e = init_ack_goes a header x trigger now (begun_shakes_no_hands a.state e).0
+  kind_goes header (chunks.InitAck x) a trigger now e =
+      init_ack_goes a header x trigger now (begun_shakes_no_hands a.state e).0
   kind_goes header (chunks.Heartbeat x) a trigger now e = heartbeat_goes a x trigger
   kind_goes header (chunks.HeartbeatAck x) a trigger now e = same a
   kind_goes header (chunks.Abort x) a trigger now e = same a

@@ -12,7 +12,8 @@ use Rattle.sctp_outbound_queue.specs.declared.message.Attributes.{Attributes}
 use Rattle.sctp_outbound_queue.specs.declared.message.InFlight.{InFlight}
 use Rattle.sctp_outbound_queue.specs.declared.message.Retransmission.{Retransmission}
 use Rattle.sctp_outbound_queue.specs.Cut.{cut_up, first_piece, other_pieces}
-use Rattle.sctp_outbound_queue.specs.Message.{accepted, counted_again, marker_of, moved_down, share_ssns, waiting_started}
+use Rattle.sctp_outbound_queue.specs.Message.{accepted, counted_again, marker_of, moved_down, share_ssns}
+use Rattle.sctp_outbound_queue.specs.Message.{waiting_started}
 use Rattle.sctp_outbound_queue.specs.Message.{without_piece}
 use Rattle.sctp_outbound_queue.specs.Outbound.{Outbound, changed_from, sent_from, tail_dropped_from}
 use Rattle.sctp_outbound_queue.specs.Waiting.{Waiting}

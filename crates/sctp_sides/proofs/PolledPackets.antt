@@ -157,7 +157,8 @@ requests_say Is header (request ∷ requests) (one, more) (is, rest) =
     (requests_given header requests) (one_says Is header chunk one is) (requests_say Is header requests more rest)
 
 -- what goes out before any DATA is of chunks that waited, and of requests of this side
-module _ (over : ℕ → Bool) (a : Shown) (Is : Chunk → Type 0) (waits : (chunk : Chunk) → IsWaitingToGo a chunk → Is chunk)
+module _ (over : ℕ → Bool) (a : Shown) (Is : Chunk → Type 0) (waits : (chunk : Chunk) → IsWaitingToGo a chunk
+    → Is chunk)
     (asks : (chunk : Chunk) → AsksPast over chunk → Is chunk) where
   of_control_says : OwnOver over a.resets.own → WaitPlainly a → AreControlReadAgain a.control → (bytes : List ℕ)
       → IsOfControl a bytes → OfEachChunk Is (taken_packet (packet_at bytes))
@@ -169,7 +170,8 @@ module _ (over : ℕ → Bool) (a : Shown) (Is : Chunk → Type 0) (waits : (chu
       let chunk : Chunk = reconfig_of (params.OutgoingResetRequest request) in
       let packet = single_chunk_packet (header_of a.handshake) chunk in
       subst (λ z. OfEachChunk Is (taken_packet z)) (sym read)
-      (taken_says (is_ok (checked packet)) Is (header_of a.handshake) chunk (asks chunk (request, refl, asked over past)))
+      (taken_says (is_ok (checked packet)) Is (header_of a.handshake) chunk
+      (asks chunk (request, refl, asked over past)))
 
   control_said_says : OwnOver over a.resets.own → WaitPlainly a → AreControlReadAgain a.control
       → (packets : List (List ℕ)) → AllByRecursion (IsOfControl a) packets → AreOf Is packets

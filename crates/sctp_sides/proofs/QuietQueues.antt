@@ -9,11 +9,13 @@ use Rattle.sctp_outbound_queue.specs.declared.message.Attributes.{Attributes}
 use Rattle.sctp_outbound_queue.specs.declared.message.InFlight.{InFlight}
 use Rattle.sctp_outbound_queue.specs.declared.message.Retransmission.{Retransmission}
 use Rattle.sctp_outbound_queue.specs.declared.message.Retransmission.TheVariants as causes
-use Rattle.sctp_outbound_queue.specs.Message.{accepted, acked, counted_again, flagged, is_of, is_of_stream, is_outstanding}
+use Rattle.sctp_outbound_queue.specs.Message.{accepted, acked, counted_again, flagged, is_of, is_of_stream}
+use Rattle.sctp_outbound_queue.specs.Message.{is_outstanding}
 use Rattle.sctp_outbound_queue.specs.Message.{is_waiting_of_stream, marked_again, marker_of, moved_down}
 use Rattle.sctp_outbound_queue.specs.Message.{reported_missing, sent_once, sent_started, share_ssns, waiting_started}
 use Rattle.sctp_outbound_queue.specs.Message.{without_piece}
-use Rattle.sctp_outbound_queue.specs.Outbound.{Outbound, changed_from, has_stream, sent_from, tail_dropped_from, with_message}
+use Rattle.sctp_outbound_queue.specs.Outbound.{Outbound, changed_from, has_stream, sent_from, tail_dropped_from}
+use Rattle.sctp_outbound_queue.specs.Outbound.{with_message}
 use Rattle.sctp_outbound_queue.specs.Waiting.{Waiting}
 use Rattle.sctp_outbound.specs.GapAcks.{acked_among}
 use Rattle.sctp_model.proofs.Lists.{all_get, all_push}

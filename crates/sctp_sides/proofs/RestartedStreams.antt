@@ -171,7 +171,8 @@ request_sender : (a : Shown) (request : ParamOutgoingResetRequest) → (on_reque
 unfolding on_request
 request_sender a request =
     handled_sender a request.reconfig_request_sequence_number
-    (handled request a.receiver.peer_last_tsn a.sender.queue.next_message_id a.receiver.max_receive_message_size a.resets
+    (handled request a.receiver.peer_last_tsn a.sender.queue.next_message_id a.receiver.max_receive_message_size
+    a.resets
     (channels_of a))
 
 param_sender : (param : Param) (a : Shown) → (after_param param a).0.sender ≡ a.sender

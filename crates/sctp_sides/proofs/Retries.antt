@@ -47,18 +47,21 @@ use Rattle.sctp_resets.specs.Resets.{is_hidden, is_retiring, refusal_of}
 use Rattle.sctp_assoc.specs.Calls.{drained_behind, is_beginning, is_cookie_wait}
 use Rattle.sctp_assoc.specs.Chunks.{counted_data, deferred_where_admitted, goes_unread, stream_found, taken_in}
 use Rattle.sctp_assoc.specs.Chunks.{taken_where_admitted}
-use Rattle.sctp_assoc.specs.Happened.{acts_if_left, acts_of_checked, acts_of_data, acts_of_deferring, acts_of_forward}
-use Rattle.sctp_assoc.specs.Happened.{acts_of_found, acts_of_hidden, acts_of_kind, acts_of_outcome}
+use Rattle.sctp_assoc.specs.Happened.{acts_if_left, acts_of_checked, acts_of_data, acts_of_deferring, acts_of_finding}
+use Rattle.sctp_assoc.specs.Happened.{acts_of_forward, acts_of_found, acts_of_hidden, acts_of_kind, acts_of_outcome}
 use Rattle.sctp_assoc.specs.Happened.{acts_of_skips_behind, acts_of_stream, acts_of_taking}
 use Rattle.sctp_assoc.specs.Happened.{acts_of_taking_where_admitted, acts_unless_faulty, acts_unless_refused}
+use Rattle.sctp_assoc.specs.Probes.{opens_window}
 use Rattle.sctp_assoc.specs.ResetActs.{acts_of_draining, acts_of_keeping, acts_of_param, acts_of_second}
 use Rattle.sctp_assoc.specs.ResetActs.{acts_of_settling, spans_end_if}
 use Rattle.sctp_assoc.specs.Resets.{after_param, settled, settling_takes_memory, skips_applied_of}
 use Rattle.sctp_assoc.specs.Shown.{all_waiting}
 use Rattle.sctp_assoc.specs.Skipping.{skips_of, with_passed, with_skips}
+use Rattle.sctp_assoc.proofs.StreamsFound.{finding_opens}
 use Rattle.sctp_sides.proofs.ActsOfChunks.{timeouts_mark_at_most}
 use Rattle.sctp_sides.proofs.ForwardKinds.{acts_are_one_of}
 use Rattle.sctp_sides.proofs.ForwardTsnSettled.{IsSettled, carried_settles}
+use Rattle.sctp_sides.proofs.NothingElseTaken.{marks_are}
 use Rattle.sctp_sides.proofs.TimersRun.{exchanging_begins_no_more}
 use Rattle.sctp_sides.proofs.RetriesInPolls.{polls_spare, spare_join}
 use Rattle.sctp_sides.proofs.SentCounts.{none_stand, stand_as}
@@ -172,12 +175,12 @@ data_acts a piece =
     (join_acts (acts_of_stream b id) (acts_of_found (stream_found b id) piece) (stream_acts b id)
     (found_acts (stream_found b id) piece)))
 
-outcome_acts : (o : SackOutcome) (n missing : ℕ) (blocks : List GapAckBlock)
-    → GiveNoneAgain (acts_of_outcome o n blocks missing)
-outcome_acts outcomes.Older n missing blocks = tt
-outcome_acts outcomes.NotInFlight n missing blocks = tt
-outcome_acts outcomes.NamesTheUnsent n missing blocks = tt
-outcome_acts outcomes.Taken n missing blocks = (tt, tt)
+outcome_acts : (o : SackOutcome) (n missing : ℕ) (blocks : List GapAckBlock) (opens : Bool)
+    → GiveNoneAgain (acts_of_outcome o n blocks missing opens)
+outcome_acts outcomes.Older n missing blocks opens = tt
+outcome_acts outcomes.NotInFlight n missing blocks opens = tt
+outcome_acts outcomes.NamesTheUnsent n missing blocks opens = tt
+outcome_acts outcomes.Taken n missing blocks opens = (tt, marks_are GivesNoneAgain tt opens)
 
 forward_acts : (a : Shown) (tsn : ℕ) (skips : List SkippedStream) → GiveNoneAgain (acts_of_forward a tsn skips)
 forward_acts a tsn skips =
@@ -189,6 +192,7 @@ forward_acts a tsn skips =
           (with_passed (with_skips tsn skips b) tsn).streams)
           (settling_acts (with_passed (with_skips tsn skips b) tsn)),
     ))
+    (λ b xs h. join_acts (acts_of_finding tsn skips b) xs (finding_opens GivesNoneAgain (λ id first. tt) tsn skips b) h)
     a
 
 param_acts : (a : Shown) (param : Param) → GiveNoneAgain (acts_of_param a param)
@@ -205,7 +209,8 @@ kind_acts : (a : Shown) (header : CommonHeader) (c : Chunk) → GiveNoneAgain (a
 kind_acts a header (chunks.Data piece) = data_acts a piece
 kind_acts a header (chunks.SelectiveAck sack) =
     some_if (sends_data a.state) _
-    (outcome_acts (sack_outcome a.sender sack.cumulative_tsn_ack sack.gap_ack_blocks) _ _ sack.gap_ack_blocks)
+    (outcome_acts (sack_outcome a.sender sack.cumulative_tsn_ack sack.gap_ack_blocks) _ _ sack.gap_ack_blocks
+    (opens_window a.profile a.sender.advertised_window sack.advertised_receiver_window_credit))
 kind_acts a header (chunks.Init init) =
     some_if (is_beginning a.state) (Act.PeerKnown init.initial_tsn ∷ []) (tt, tt)
 kind_acts a header (chunks.InitAck init) =

@@ -149,7 +149,7 @@ forward_ends_none a t es trigger now =
     forward_is_one_of t es (λ b x. ends_of x.1 ≡ false) trigger now (λ b e. refl) (λ b e f. refl)
     (λ b e f. let c : Shown = settled (with_passed (with_skips t es b) t) in
     asks_if_ends_none (is_exhausted c) c (asked c.receiver trigger false))
-    a
+    (λ b x e. e) a
 
 -- RE-CONFIG
 

@@ -1,7 +1,8 @@
 -- The chunks of a packet keep the order of a shutdown, or close.
-use Rattle.std.proofs.Common.{◌≡◌, refl, sym, ap, ◌∙◌, inl, inr, ℕ, Bool, true, false, not, if◌then◌else◌, List, []}
-use Rattle.std.proofs.Common.{◌∷◌, length, ltb, Option, Some, None, is_some, Result, Ok, Err}
+use Rattle.std.proofs.Common.{◌≡◌, refl, sym, ap, ◌∙◌, inl, inr, ℕ, Bool, true, false, ◌&&◌, ◌==◌, not}
+use Rattle.std.proofs.Common.{if◌then◌else◌, List, [], ◌∷◌, length, ltb, Option, Some, None, is_some, Result, Ok, Err}
 use Rattle.std.proofs.lemmas.Bool.{false≢true}
+use Rattle.std.proofs.lemmas.List.{length-map}
 use Rattle.sctp_wire_types.specs.declared.chunk.Chunk.{Chunk}
 use Rattle.sctp_wire_types.specs.declared.chunk.Chunk.TheVariants as chunks
 use Rattle.sctp_wire_types.specs.declared.chunk.ChunkHeartbeat.{ChunkHeartbeat}
@@ -27,6 +28,7 @@ use Rattle.sctp_inbound.specs.declared.receiver.AckTrigger.TheVariants as trigge
 use Rattle.sctp_inbound.specs.Greeting.{first_cookie, information_of}
 use Rattle.sctp_inbound.specs.Handshake.{comes_back, has_issued}
 use Rattle.sctp_inbound.specs.Receiver.{admits, asked, is_new_to, taken_to}
+use Rattle.sctp_outbound_queue.specs.Message.{marked_again}
 use Rattle.sctp_outbound.specs.declared.progress.Progress.{Progress}
 use Rattle.sctp_outbound.specs.declared.sender.SackOutcome.{SackOutcome}
 use Rattle.sctp_outbound.specs.declared.sender.SackOutcome.TheVariants as outcomes
@@ -45,16 +47,20 @@ use Rattle.sctp_assoc.specs.Chunks.{on_counted_sack, on_data, on_new_data, on_sa
 use Rattle.sctp_assoc.specs.Chunks.{taken_unless, taken_where_admitted, then_skips, told, with_acknowledged}
 use Rattle.sctp_assoc.specs.Closing.{closed_open, is_closed_state, is_exhausted, out_of_resource}
 use Rattle.sctp_assoc.specs.Control.{queued}
+use Rattle.sctp_assoc.specs.Finding.{found_for}
 use Rattle.sctp_assoc.specs.Handshake.{acknowledged_cookie, answered, connected, echoed, information_returned}
 use Rattle.sctp_assoc.specs.Handshake.{learned, on_cookie_ack, on_cookie_echo, on_heartbeat, on_init}
 use Rattle.sctp_assoc.specs.Handshake.{on_init_ack, sends_cookie}
+use Rattle.sctp_assoc.specs.Probes.{forgiven_if, marked_if}
 use Rattle.sctp_assoc.specs.Resets.{on_reconfig, settled, skips_applied_of}
 use Rattle.sctp_assoc.specs.Shown.{Shown, all_waiting, uses_forward_tsn}
-use Rattle.sctp_assoc.specs.Shutdown.{awaits_answer}
+use Rattle.sctp_assoc.specs.Shutdown.{awaits_answer, shutdown_continued}
 use Rattle.sctp_assoc.specs.Skipping.{acknowledged_at_once, asks_behind, on_forward, skips_of, unrecognized_chunk}
 use Rattle.sctp_assoc.specs.Skipping.{with_passed, with_skip, with_skips}
 use Rattle.sctp_assoc.specs.Skipping as skipping
-use Rattle.sctp_sides.proofs.NothingElseTaken.{with_use}
+use Rattle.sctp_assoc.proofs.Probes.{probes_keep}
+use Rattle.sctp_assoc.proofs.StreamsFound.{found_for_keeps}
+use Rattle.sctp_sides.proofs.ForwardKinds.{with_use}
 use Rattle.sctp_sides.proofs.ResetsBeside.{reconfig_changes, settling_changes, skips_of_change}
 use Rattle.sctp_sides.specs.Ending.{IsInOrder}
 use Rattle.sctp_sides.proofs.ShutdownOrder.{IsOrderedOrRests, answered_order, continued_order, in_use}
@@ -196,6 +202,16 @@ sending_awaits_nothing states.ShutdownPending e = refl
 sending_awaits_nothing states.ShutdownReceived e = refl
 sending_awaits_nothing states.ShutdownSent e = absurd (false≢true e)
 
+-- probes that are answered leave it, and as many pieces in flight
+forgiven_order : (a : Shown) → IsInOrder a → IsInOrder (forgiven_if true a)
+forgiven_order a h = order_by a (forgiven_if true a) refl refl refl refl h
+
+marked_order : (a : Shown) → IsInOrder a → IsInOrder (marked_if true a)
+marked_order a h =
+    order_by a (marked_if true a) refl refl refl
+    (ap (λ (n : ℕ). (length a.sender.queue.pending == 0) && (n == 0))
+    (length-map a.sender.queue.in_flight marked_again)) h
+
 outcome_order : (o : SackOutcome) (a : Shown) (cumulative_tsn_ack : ℕ) (blocks : List GapAckBlock) (window : ℕ)
     (trigger : AckTrigger) (now : ℕ) → sends_data a.state ≡ true → IsInOrder a
     → IsInOrder (on_counted_sack o a cumulative_tsn_ack blocks window trigger now).0
@@ -205,14 +221,15 @@ outcome_order outcomes.NamesTheUnsent a cumulative_tsn_ack blocks window trigger
 outcome_order outcomes.Taken a cumulative_tsn_ack blocks window trigger now s h =
     let b : Shown = after_sack a cumulative_tsn_ack blocks window now in
     let none = sending_awaits_nothing a.state s in
-    continued_order b
+    probes_keep IsInOrder forgiven_order marked_order a.sender.advertised_window window (shutdown_continued b)
+    (continued_order b
     (λ (e : awaits_answer a.state ≡ true). absurd (false≢true (sym none ∙ e)))
     h.order.asked h.order.agreed
     (λ (e : is_some b.timers.t2_shutdown.moment ≡ true).
     h.order.answered (sym (ap (λ (t : TimerState). is_some t.moment)
     (acknowledged_leaves a (progress_of a.sender cumulative_tsn_ack blocks) now
     (sack_taken cumulative_tsn_ack blocks window now a.sender a.estimate a.streams))) ∙ e))
-    (λ (e : awaits_answer a.state ≡ true). absurd (false≢true (sym none ∙ e)))
+    (λ (e : awaits_answer a.state ≡ true). absurd (false≢true (sym none ∙ e))))
 
 -- The handshake
 
@@ -296,6 +313,13 @@ ahead_order a tsn es trigger h =
     (order_by skipped (with_passed skipped tsn) refl refl refl refl (skips_order tsn es a h)) in
     order_if (is_exhausted b) (b, flows.Exhausted) (b, flows.Next (asked b.receiver trigger false)) k k
 
+-- the streams on which it skips are found or made before
+all_found_order : (tsn : ℕ) (es : List SkippedStream) (a : Shown) → IsInOrder a → IsInOrder (found_for tsn es a)
+all_found_order tsn es a h =
+    found_for_keeps IsInOrder
+    (λ b id k. found_order (is_some (stream_at b.streams id)) (generation_left b.streams) b id refl refl k)
+    tsn es a h
+
 forward_order_by : (uses ahead : Bool) (a : Shown) (tsn : ℕ) (es : List SkippedStream) (trigger : AckTrigger) (now : ℕ)
     → skipping.is_ahead a tsn ≡ ahead → IsInOrder (with_use uses a)
     → IsInOrder (on_forward (with_use uses a) tsn es trigger now).0
@@ -303,7 +327,9 @@ unfolding on_forward
 forward_order_by false ahead a tsn es trigger now e h =
     order_by (with_use false a) (queued (with_use false a) unrecognized_chunk) refl refl refl refl h
 forward_order_by true false a tsn es trigger now e h = rw e (at_once_order (with_use true a) now h)
-forward_order_by true true a tsn es trigger now e h = rw e (ahead_order (with_use true a) tsn es trigger h)
+forward_order_by true true a tsn es trigger now e h =
+    let b : Shown = with_use true a in
+    rw e (ahead_order (found_for tsn es b) tsn es trigger (all_found_order tsn es b h))
 
 -- Each chunk
 module _ (a : Shown) (trigger : AckTrigger) (h : IsInOrder a) where

@@ -40,10 +40,10 @@ use Rattle.sctp_assoc.specs.Calls.{credit_in, drained_behind, tells_window, told
 use Rattle.sctp_assoc.specs.Chunks.{asks, asks_or_faults, deferred_unless, deferred_where_admitted, taken_unless}
 use Rattle.sctp_assoc.specs.Chunks.{taken_where_admitted, then_skips, with_message}
 use Rattle.sctp_assoc.specs.Gather.{IsPlainControl}
-use Rattle.sctp_assoc.specs.Resets.{after_param, after_reconfig_timer, asking_if, asks_again, behind_first, behind_params}
-use Rattle.sctp_assoc.specs.Resets.{channels_of, gives_up, handled_with, on_reconfig, on_request, on_response}
-use Rattle.sctp_assoc.specs.Resets.{reconfig_expired, responded_with, responding, settled, settled_with, stopped_if}
-use Rattle.sctp_assoc.specs.Resets.{with_answer, with_beside, with_resetting}
+use Rattle.sctp_assoc.specs.Resets.{after_param, after_reconfig_timer, asking_if, asks_again, behind_first}
+use Rattle.sctp_assoc.specs.Resets.{behind_params, channels_of, gives_up, handled_with, on_reconfig, on_request}
+use Rattle.sctp_assoc.specs.Resets.{on_response, reconfig_expired, responded_with, responding, settled, settled_with}
+use Rattle.sctp_assoc.specs.Resets.{stopped_if, with_answer, with_beside, with_resetting}
 use Rattle.sctp_streams.specs.declared.event.Event.{Event}
 use Rattle.sctp_streams.specs.Stream.{StreamView}
 use Rattle.sctp_streams.specs.Streams.{StreamMap, generation_left, is_readable_in, pushed_in, refusal_in}
@@ -65,6 +65,7 @@ use Rattle.sctp_assoc.specs.Calls.{is_cookie_wait, is_established, retransmits, 
 use Rattle.sctp_assoc.specs.Chunks.{after_sack, checked_first, counted_data, dispatched, counted_sack}
 use Rattle.sctp_assoc.specs.Chunks.{on_chunk, on_counted_sack, on_data, on_new_data, on_sack, stream_found, taken_in}
 use Rattle.sctp_assoc.specs.Chunks.{goes_unread, left_or_handed_over, told}
+use Rattle.sctp_assoc.specs.Finding.{found_for}
 use Rattle.sctp_assoc.specs.Handshake.{after_t1_init, cookie_queued, echoed, information_returned, init_queued}
 use Rattle.sctp_assoc.specs.Handshake.{on_cookie_ack, on_cookie_echo, on_heartbeat, on_init, on_init_ack, sends_cookie}
 use Rattle.sctp_assoc.specs.Handshake.{sends_init, t1_cookie_expired, t1_init_expired}
@@ -72,6 +73,8 @@ use Rattle.sctp_assoc.specs.Gather.{single_chunk_packet}
 use Rattle.sctp_assoc.specs.Skipping.{acknowledged_at_once as forward_acknowledged}
 use Rattle.sctp_assoc.specs.Skipping.{asks_behind, on_forward, skips_of, unrecognized_chunk, with_passed, with_skip}
 use Rattle.sctp_assoc.specs.Skipping.{with_skips}
+use Rattle.sctp_assoc.proofs.Probes.{probes_keep}
+use Rattle.sctp_assoc.proofs.StreamsFound.{found_for_keeps}
 use Rattle.sctp_wire_types.specs.declared.chunk.SkippedStream.{SkippedStream}
 use Rattle.sctp_sides.proofs.ForwardKinds.{forward_is_one_of}
 use Rattle.sctp_sides.proofs.WithoutResets.{nothing_is_drained}
@@ -153,6 +156,18 @@ pub stage_on : (a b c : Shown) → IsSameStatus a b → KeepsTheStage b c → Ke
 stage_on a b c x y = record {
   failed = y.failed ∙ x.failed;
   state = subst (λ (s : AssociationState). IsAsFarOn s c.state) x.state y.state;
+  lost = y.lost ∙ x.lost;
+  size = y.size ∙ x.size;
+  side = y.side ∙ x.side;
+  handshake = y.handshake ∙ x.handshake;
+  truthful = λ own t. y.truthful own (x.truthful own t);
+}
+
+-- the stage stays, and then the status
+pub status_behind : (a b c : Shown) → KeepsTheStage a b → IsSameStatus b c → KeepsTheStage a c
+status_behind a b c x y = record {
+  failed = y.failed ∙ x.failed;
+  state = subst (λ (s : AssociationState). IsAsFarOn a.state s) (sym y.state) x.state;
   lost = y.lost ∙ x.lost;
   size = y.size ∙ x.size;
   side = y.side ∙ x.side;
@@ -411,7 +426,12 @@ outcome_stage : (o : SackOutcome) (a : Shown) (cumulative_tsn_ack : ℕ) (blocks
     → KeepsTheStage a (on_counted_sack o a cumulative_tsn_ack blocks window trigger now).0
 outcome_stage outcomes.Taken a cumulative_tsn_ack blocks window trigger now =
     let b : Shown = after_sack a cumulative_tsn_ack blocks window now in
-    stage_on a b (shutdown_continued b) (acknowledged_status a cumulative_tsn_ack blocks window now) (continued_stage b)
+    probes_keep (KeepsTheStage a)
+    (λ c k. status_behind a c _ k (status_by c _ refl refl refl refl refl refl refl))
+    (λ c k. status_behind a c _ k (status_by c _ refl refl refl refl refl refl refl))
+    a.sender.advertised_window window (shutdown_continued b)
+    (stage_on a b (shutdown_continued b) (acknowledged_status a cumulative_tsn_ack blocks window now)
+    (continued_stage b))
 outcome_stage other a cumulative_tsn_ack blocks window trigger now = stage_by_status a a (status_same a)
 
 sack_stage : (sends : Bool) (a : Shown) (cumulative_tsn_ack : ℕ) (blocks : List GapAckBlock) (window : ℕ)
@@ -458,6 +478,14 @@ ahead_status a tsn es trigger =
     subst (IsSameStatus a) (sym (flow_same (is_exhausted (settled b)) (settled b) _ _))
     (status_on a b (settled b) (passed_status a tsn es) (settled_status b))
 
+-- the streams on which it skips are found or made before
+all_found_status : (tsn : ℕ) (es : List SkippedStream) (a : Shown) → IsSameStatus a (found_for tsn es a)
+all_found_status tsn es a =
+    found_for_keeps (IsSameStatus a)
+    (λ b id h. status_on a b (stream_found b id).0 h
+    (found_status (is_some (stream_at b.streams id)) (generation_left b.streams) b id refl refl))
+    tsn es a (status_same a)
+
 forward_status : (a : Shown) (tsn : ℕ) (es : List SkippedStream) (trigger : AckTrigger) (now : ℕ)
     → IsSameStatus a (on_forward a tsn es trigger now).0
 forward_status a tsn es trigger now =
@@ -465,6 +493,7 @@ forward_status a tsn es trigger now =
     (λ b e. refused_status b)
     (λ b e f. status_by b (forward_acknowledged b now) refl refl refl refl refl refl refl)
     (λ b e f. ahead_status b tsn es trigger)
+    (λ b x h. status_on b (found_for tsn es b) x.0 (all_found_status tsn es b) h)
     a
 
 -- Any chunk: whether it failed, whether it was lost, and its payload size stay

@@ -5,7 +5,6 @@ use Rattle.std.proofs.Common.{List, [], ◌∷◌, fold, length, take, Option, S
 use Rattle.std.proofs.lemmas.Bool.{false≢true}
 use Rattle.std.specs.List.{AllByRecursion}
 use Rattle.sctp_wire_types.specs.declared.chunk.ChunkPayloadData.{ChunkPayloadData}
-use Rattle.sctp_parts.specs.declared.state.AssociationState.{AssociationState}
 use Rattle.sctp_parts.specs.declared.timer.Timer.TheVariants as names
 use Rattle.sctp_parts.specs.Timers.{started}
 use Rattle.sctp_wire_types.specs.declared.param.ParamOutgoingResetRequest.{ParamOutgoingResetRequest}
@@ -33,7 +32,6 @@ use Rattle.sctp_assoc.specs.Closing.{is_closed_state}
 use Rattle.sctp_assoc.specs.Shutdown.{completes_shutdown, shutdown_continued}
 use Rattle.sctp_outbound.specs.Abandonment.{abandoned_of, first_dropped, tail_given_up}
 use Rattle.sctp_sides.proofs.GivingUpKeeps.{KeptByPolls, data_poll_kept}
-use Rattle.sctp_sides.specs.Meeting.{IsAsFarOn}
 use Rattle.sctp_sides.specs.NoReset.{HasNoReset}
 use Rattle.sctp_sides.specs.SideLaws.{Closes, IsSameStatus, KeepsTheStage, PollsKeepTheStage}
 use Rattle.sctp_sides.specs.SideLaws.{TheSameStatusIsTheSameStage}
@@ -45,24 +43,12 @@ use Rattle.sctp_sides.proofs.EndedPolls.{with_answer_timed}
 use Rattle.sctp_sides.proofs.PacketLaws.{faults_close}
 use Rattle.sctp_sides.proofs.ResetsNoMore.{closes_end_resets}
 use Rattle.sctp_sides.proofs.Status.{asking_status, continued_stage, more_waits, stage_by_status, stage_on, status_by}
-use Rattle.sctp_sides.proofs.Status.{status_on, status_same}
+use Rattle.sctp_sides.proofs.Status.{status_behind, status_on, status_same}
 
 -- Stages
 
 pub the_same_status_is_the_same_stage : TheSameStatusIsTheSameStage
 the_same_status_is_the_same_stage = stage_by_status
-
--- the stage stays, and then the status
-status_behind : (a b c : Shown) → KeepsTheStage a b → IsSameStatus b c → KeepsTheStage a c
-status_behind a b c x y = record {
-  failed = y.failed ∙ x.failed;
-  state = subst (λ (s : AssociationState). IsAsFarOn a.state s) (sym y.state) x.state;
-  lost = y.lost ∙ x.lost;
-  size = y.size ∙ x.size;
-  side = y.side ∙ x.side;
-  handshake = y.handshake ∙ x.handshake;
-  truthful = λ own t. y.truthful own (x.truthful own t);
-}
 
 -- DATA
 

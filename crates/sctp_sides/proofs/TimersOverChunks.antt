@@ -1,8 +1,9 @@
 -- The chunks of a packet keep the timers where they should run, and a fault stops them all.
-use Rattle.std.proofs.Common.{◌≡◌, refl, sym, ap, ◌∙◌, ◌⊎◌, inl, inr, ℕ, ◌<◌, arith, Bool, true, false}
-use Rattle.std.proofs.Common.{ltb, if◌then◌else◌, List, [], ◌∷◌, length, Option, Some, None, is_some, Result, Ok}
-use Rattle.std.proofs.Common.{Err}
+use Rattle.std.proofs.Common.{◌≡◌, refl, sym, ap, ◌∙◌, subst, ◌⊎◌, inl, inr, ℕ, ◌<◌, arith, Bool, true, false}
+use Rattle.std.proofs.Common.{ltb, if◌then◌else◌, List, [], ◌∷◌, length, map, Option, Some, None, is_some, Result}
+use Rattle.std.proofs.Common.{Ok, Err}
 use Rattle.std.proofs.lemmas.Bool.{false≢true, ltb-false, ltb-true, true≢false}
+use Rattle.std.proofs.lemmas.List.{length-map}
 use Rattle.sctp_wire_types.specs.declared.chunk.Chunk.{Chunk}
 use Rattle.sctp_wire_types.specs.declared.chunk.Chunk.TheVariants as chunks
 use Rattle.sctp_wire_types.specs.declared.chunk.ChunkPayloadData.{ChunkPayloadData}
@@ -15,9 +16,10 @@ use Rattle.sctp_wire.specs.declared.packet.Packet.{Packet}
 use Rattle.sctp_parts.specs.declared.state.AssociationState.{AssociationState}
 use Rattle.sctp_parts.specs.declared.state.AssociationState.TheVariants as states
 use Rattle.sctp_parts.specs.declared.timer.Timer.TheVariants as names
-use Rattle.sctp_parts.specs.Timers.{Timers, restarted_if_stale, started, with_stopped}
+use Rattle.sctp_parts.specs.Timers.{Timers, restarted_if_stale, started, with_stopped, without_retries}
 use Rattle.sctp_parts.specs.Estimate.{Estimate}
 use Rattle.sctp_outbound_queue.specs.declared.message.InFlight.{InFlight}
+use Rattle.sctp_outbound_queue.specs.Message.{marked_again}
 use Rattle.sctp_streams.specs.declared.event.AssociationError.{AssociationError}
 use Rattle.sctp_streams.specs.declared.event.AssociationError.TheVariants as reasons
 use Rattle.sctp_streams.specs.Streams.{StreamMap, generation_left, is_readable_in, pushed_in, refusal_in}
@@ -39,7 +41,7 @@ use Rattle.sctp_assoc.specs.declared.inbound.Flow.TheVariants as flows
 use Rattle.sctp_assoc.specs.Calls.{is_beginning, is_cookie_echoed, is_cookie_wait}
 use Rattle.sctp_assoc.specs.Closing.{closed_open, is_closed_state, is_exhausted}
 use Rattle.sctp_assoc.specs.Calls.{is_established, sends_data}
-use Rattle.sctp_assoc.specs.Shutdown.{on_shutdown_complete}
+use Rattle.sctp_assoc.specs.Shutdown.{on_shutdown_complete, shutdown_continued}
 use Rattle.sctp_assoc.specs.Handshake.{acknowledged_cookie, answered, connected, echoed, information_returned, learned}
 use Rattle.sctp_assoc.specs.Handshake.{on_cookie_ack, on_cookie_echo, on_heartbeat, on_init, on_init_ack, sends_cookie}
 use Rattle.sctp_assoc.specs.Chunks.{after_chunks, after_packet, after_packet_of, after_sack, checked_first}
@@ -50,11 +52,14 @@ use Rattle.sctp_assoc.specs.Chunks.{asks, asks_or_faults, deferred, deferred_unl
 use Rattle.sctp_assoc.specs.Chunks.{taken_where_admitted, then_skips, with_acknowledged}
 use Rattle.sctp_sides.specs.OneSide.{is_delayed}
 use Rattle.sctp_assoc.specs.Shown.{Shown, all_waiting, uses_forward_tsn}
+use Rattle.sctp_sides.proofs.ForwardKinds.{with_use}
 use Rattle.sctp_sides.proofs.TimersRun.{AtRest, FitsTimers, IsSameTime, Ticks, ack_kept, continued_ticks}
-use Rattle.sctp_sides.proofs.TimersRun.{fits_restarted, none_armed, restarted, restarted_keeps_ack}
+use Rattle.sctp_sides.proofs.TimersRun.{fits_as_many, fits_restarted, none_armed, restarted, restarted_keeps_ack}
 use Rattle.sctp_sides.proofs.TimersRun.{same_time, ticks_by, time_by, time_on}
 use Rattle.sctp_assoc.specs.Closing.{out_of_resource}
 use Rattle.sctp_assoc.specs.Control.{queued}
+use Rattle.sctp_assoc.specs.Finding.{found_for}
+use Rattle.sctp_assoc.specs.Probes.{forgiven_if, marked_if}
 use Rattle.sctp_sides.proofs.TimersRun.{rest_by, sending_begins_no_more, shutdown_answered_ticks, shutdown_taken_ticks}
 use Rattle.std.proofs.Common.{not}
 use Rattle.sctp_wire_types.specs.declared.chunk.SkippedStream.{SkippedStream}
@@ -62,8 +67,9 @@ use Rattle.sctp_assoc.specs.Skipping.{acknowledged_at_once, on_forward, skips_of
 use Rattle.sctp_assoc.specs.Skipping.{with_passed, with_skips}
 use Rattle.sctp_assoc.specs.Skipping.{asks_behind, is_ahead, with_skip}
 use Rattle.sctp_assoc.specs.Resets.{on_reconfig, settled, skips_applied_of}
+use Rattle.sctp_assoc.proofs.Probes.{probes_keep}
+use Rattle.sctp_assoc.proofs.StreamsFound.{found_for_keeps}
 use Rattle.sctp_resets.specs.Resets.{is_hidden, is_retiring, refusal_of}
-use Rattle.sctp_sides.proofs.NothingElseTaken.{with_use}
 use Rattle.sctp_sides.proofs.ResetsBeside.{reconfig_changes, settling_changes, skips_of_change}
 use Rattle.sctp_sides.proofs.TimersRun.{ticks_beside}
 
@@ -243,6 +249,58 @@ taken_ticks a p now (s, e, m) b h = record {
       (sack_keeps_ack (ltb 0 (length s.queue.in_flight)) p a.timers now e.rto) h.acks;
 }
 
+-- Behind a SACK that was taken T3-rtx runs where DATA is left in flight, so nothing is lost with its retries.
+record IsTimed (a : Shown) : Type 0 where
+  ticks : Ticks a
+  timed : 0 < length a.sender.queue.in_flight → is_some a.timers.t3_rtx.moment ≡ true
+
+sack_runs : (left : Bool) (p : Progress) (n : ℕ) (t : Timers) (now rto : ℕ) → ltb 0 n ≡ left → 0 < n
+    → is_some (if left then restarted_if_stale names.T3RTX now rto (t3_cleared p t)
+    else with_stopped names.T3RTX t).t3_rtx.moment ≡ true
+sack_runs true p n t now rto e l = (restarted now rto (t3_cleared p t)).armed
+sack_runs false p n t now rto e l = absurd (omega (arith, l, ltb-false 0 n e))
+
+taken_runs : (a : Shown) (p : Progress) (now : ℕ) (x : Sender × Estimate × StreamMap)
+    → 0 < length (with_acknowledged a p now x).sender.queue.in_flight
+    → is_some (with_acknowledged a p now x).timers.t3_rtx.moment ≡ true
+taken_runs a p now (s, e, m) l =
+    sack_runs (ltb 0 (length s.queue.in_flight)) p (length s.queue.in_flight) a.timers now e.rto refl l
+
+-- a timer that runs needs none of its retries
+forgiven_fits : (s : AssociationState) (f : List InFlight) (t : Timers)
+    → (0 < length f → is_some t.t3_rtx.moment ≡ true) → FitsTimers s f t
+    → FitsTimers s f (without_retries names.T3RTX t)
+forgiven_fits s f t timed h = record {
+  flies = record { timed = λ _ l. inl (timed l); none = h.flies.none };
+  inits = h.inits;
+  cookies = h.cookies;
+  unsent = h.unsent;
+}
+
+forgiven_timed : (a : Shown) → IsTimed a → IsTimed (forgiven_if true a)
+forgiven_timed a h = record {
+  ticks = record {
+    working = h.ticks.working;
+    not_lost = h.ticks.not_lost;
+    fits = forgiven_fits a.state a.sender.queue.in_flight a.timers h.timed h.ticks.fits;
+    acks = h.ticks.acks;
+  };
+  timed = h.timed;
+}
+
+-- as many pieces are in flight once they are marked
+marked_timed : (a : Shown) → IsTimed a → IsTimed (marked_if true a)
+marked_timed a h = record {
+  ticks = record {
+    working = h.ticks.working;
+    not_lost = h.ticks.not_lost;
+    fits = fits_as_many a.state a.sender.queue.in_flight (map marked_again a.sender.queue.in_flight) a.timers
+        (length-map a.sender.queue.in_flight marked_again) h.ticks.fits;
+    acks = h.ticks.acks;
+  };
+  timed = λ l. h.timed (subst (λ (n : ℕ). 0 < n) (length-map a.sender.queue.in_flight marked_again) l);
+}
+
 outcome_ticks : (o : SackOutcome) (a : Shown) (cumulative_tsn_ack : ℕ) (blocks : List GapAckBlock) (window : ℕ)
     (trigger : AckTrigger) (now : ℕ)
     → is_beginning a.state ≡ false → Ticks a
@@ -251,9 +309,14 @@ outcome_ticks outcomes.Older a cumulative_tsn_ack blocks window trigger now b h 
 outcome_ticks outcomes.NotInFlight a cumulative_tsn_ack blocks window trigger now b h = h
 outcome_ticks outcomes.NamesTheUnsent a cumulative_tsn_ack blocks window trigger now b h = h
 outcome_ticks outcomes.Taken a cumulative_tsn_ack blocks window trigger now b h =
-    continued_ticks (after_sack a cumulative_tsn_ack blocks window now)
-    (taken_ticks a (progress_of a.sender cumulative_tsn_ack blocks) now
-    (sack_taken cumulative_tsn_ack blocks window now a.sender a.estimate a.streams) b h)
+    let p = progress_of a.sender cumulative_tsn_ack blocks in
+    let x = sack_taken cumulative_tsn_ack blocks window now a.sender a.estimate a.streams in
+    let c : Shown = after_sack a cumulative_tsn_ack blocks window now in
+    let behind : IsTimed (shutdown_continued c) =
+    record { ticks = continued_ticks c (taken_ticks a p now x b h); timed = taken_runs a p now x } in
+    let answered =
+    probes_keep IsTimed forgiven_timed marked_timed a.sender.advertised_window window (shutdown_continued c) behind in
+    answered.ticks
 
 -- The handshake
 
@@ -397,6 +460,14 @@ ahead_ticks a tsn es trigger h =
     let k : Ticks b = settled_ticks (with_passed (with_skips tsn es a) tsn) (passed_ticks a tsn es h) in
     ticks_if (is_exhausted b) (b, flows.Exhausted) (b, flows.Next (asked b.receiver trigger false)) k k
 
+-- the streams on which it skips are found or made before
+all_found_tick : (tsn : ℕ) (es : List SkippedStream) (a : Shown) → Ticks a → Ticks (found_for tsn es a)
+all_found_tick tsn es a h =
+    found_for_keeps Ticks
+    (λ b id k. ticks_by b (stream_found b id).0
+    (found_time (is_some (stream_at b.streams id)) (generation_left b.streams) b id refl refl) k)
+    tsn es a h
+
 forward_ticks_by : (uses ahead : Bool) (a : Shown) (tsn : ℕ) (es : List SkippedStream) (trigger : AckTrigger) (now : ℕ)
     → is_ahead a tsn ≡ ahead → Ticks (with_use uses a)
     → Ticks (on_forward (with_use uses a) tsn es trigger now).0
@@ -406,7 +477,9 @@ forward_ticks_by false ahead a tsn es trigger now e h =
     ticks_by b (queued b unrecognized_chunk)
     (time_by b (queued b unrecognized_chunk) refl refl refl refl refl refl) h
 forward_ticks_by true false a tsn es trigger now e h = rw e (at_once_ticks (with_use true a) now h)
-forward_ticks_by true true a tsn es trigger now e h = rw e (ahead_ticks (with_use true a) tsn es trigger h)
+forward_ticks_by true true a tsn es trigger now e h =
+    let b : Shown = with_use true a in
+    rw e (ahead_ticks (found_for tsn es b) tsn es trigger (all_found_tick tsn es b h))
 
 forward_ticks : (a : Shown) (tsn : ℕ) (es : List SkippedStream) (trigger : AckTrigger) (now : ℕ) → Ticks a
     → Ticks (on_forward a tsn es trigger now).0

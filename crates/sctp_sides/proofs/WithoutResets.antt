@@ -1,6 +1,7 @@
 -- Associations in which no reset of a stream is under way: what resets would do is nothing.
 use Rattle.std.proofs.Common.{◌≡◌, refl, sym, ap, ◌∙◌, ℕ, ◌+◌, ◌-◌, ◌<◌, ◌^◌, arith, Bool, true, false, ◌==◌, ◌||◌, not}
-use Rattle.std.proofs.Common.{if◌then◌else◌, List, [], ◌∷◌, ◌++◌, length, filter, fold, take, min, Option, Some, None, is_some}
+use Rattle.std.proofs.Common.{if◌then◌else◌, List, [], ◌∷◌, ◌++◌, length, filter, fold, take, min, Option, Some, None}
+use Rattle.std.proofs.Common.{is_some}
 use Rattle.std.specs.List.{AllByRecursion, list_any}
 use Rattle.sctp_wire_types.specs.declared.chunk.SkippedStream.{SkippedStream}
 use Rattle.sctp_wire_types.specs.declared.event.StreamEvent.{StreamEvent}
@@ -27,8 +28,10 @@ use Rattle.sctp_reset_requests.specs.Request.{PeerRequestView}
 use Rattle.sctp_resets.specs.Channels.{channels}
 use Rattle.sctp_resets.specs.Draining.{Reading, passed_times}
 use Rattle.sctp_resets.specs.Resets.{Beside, Resetting, ResetsView, given_up, given_up_where, is_blocked, is_hidden}
-use Rattle.sctp_resets.specs.Resets.{is_retiring, request_again, request_asked, request_sent, settled_where, timer_expired}
-use Rattle.sctp_resets.specs.Resets.{with_asked, with_generations, with_own, with_read, with_skips_done, without_unordered}
+use Rattle.sctp_resets.specs.Resets.{is_retiring, request_again, request_asked, request_sent, settled_where}
+use Rattle.sctp_resets.specs.Resets.{timer_expired}
+use Rattle.sctp_resets.specs.Resets.{with_asked, with_generations, with_own, with_read, with_skips_done}
+use Rattle.sctp_resets.specs.Resets.{without_unordered}
 use Rattle.sctp_resets.specs.Resets as resets
 use Rattle.sctp_resets.specs.Skips.{Skipping}
 use Rattle.sctp_resets.specs.Skips as skips
@@ -38,7 +41,8 @@ use Rattle.std.proofs.lemmas.List.{append-nil, append_assoc}
 use Rattle.sctp_assoc.specs.declared.control.Control.{Control}
 use Rattle.sctp_assoc.specs.declared.control.Control.TheVariants as controls
 use Rattle.sctp_assoc.specs.Calls.{drained_behind}
-use Rattle.sctp_assoc.specs.Gather.{after_both, control_polled, first_request_behind, first_request_polled, packet_bytes}
+use Rattle.sctp_assoc.specs.Gather.{after_both, control_polled, first_request_behind, first_request_polled}
+use Rattle.sctp_assoc.specs.Gather.{packet_bytes}
 use Rattle.sctp_assoc.specs.Gather.{requests_polled, with_control_given, with_request_again, with_request_asked}
 use Rattle.sctp_assoc.specs.Gather.{with_request_sent, without_control}
 use Rattle.sctp_assoc.specs.ResetActs.{acts_of_draining, acts_of_keeping, acts_of_kept_skips, acts_of_settling}
@@ -199,7 +203,8 @@ no_request_is_given_up r m told active =
 pub no_request_is_timed : (a : Shown) (now : ℕ) → a.resets.own.active ≡ None → with_reconfig_run a now ≡ a
 no_request_is_timed a now active = run_unless (is_some a.resets.own.active) a now (ap is_some active) refl
   where
-    run_unless : (c : Bool) (b : Shown) (n : ℕ) → c ≡ false → is_some b.resets.own.active ≡ c → with_reconfig_run b n ≡ b
+    run_unless : (c : Bool) (b : Shown) (n : ℕ) → c ≡ false → is_some b.resets.own.active ≡ c
+        → with_reconfig_run b n ≡ b
     run_unless true b n e f = absurd (cc)
     run_unless false b n e f = rw f refl
 

@@ -122,8 +122,8 @@ pub record NamesNoPiece (a : Shown) (h : History) (sack : ChunkSelectiveAck) : T
   pub unsent : (index : ℕ) → index < length a.sender.queue.in_flight → count + offset ≢ index + 1
 
 -- A SACK, where it counts, in Established and in a shutdown until SHUTDOWN or SHUTDOWN ACK is due, acknowledges what is
--- not in flight: its cumulative TSN ack is not behind the acknowledged one, and it lies beyond what was sent, or the gap
--- ack blocks name a TSN that no piece in flight has.
+-- not in flight: its cumulative TSN ack is not behind the acknowledged one, and it lies beyond what was sent, or the
+-- gap ack blocks name a TSN that no piece in flight has.
 pub record AcknowledgesTheUnsent (a : Shown) (h : History) (sack : ChunkSelectiveAck) : Type 0 where
   pub counts : sends_data a.state ≡ true
   pub not_behind : tsn_gt (tsn_before (tsn h.own h.base)) sack.cumulative_tsn_ack ≡ false

@@ -1,5 +1,5 @@
--- The pieces into which messages are cut that wait to be sent (RFC 4960 section 6.9), over every list of calls: one DATA
--- chunk has room for each.
+-- The pieces into which messages are cut that wait to be sent (RFC 4960 section 6.9), over every list of calls: one
+-- DATA chunk has room for each.
 use Rattle.std.specs.Prelude.{◌≡◌, ◌<◌, ◌≤◌, ◌∷◌, ℕ, true, false, List, length, slice_get, Option, Some, None}
 use Rattle.std.specs.List.{AllByRecursion}
 use Rattle.std.specs.declared.net.ip_addr.IpAddr.{IpAddr}

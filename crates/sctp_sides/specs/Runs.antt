@@ -59,8 +59,8 @@ abbrev pub told_in : Reply → List Event
 told_in (replies.Event event) = told_by event
 told_in reply = []
 
--- Without its questions, a run from a past on which the association stands is a list of calls of one side, from the same
--- association to the same, and tells the same events.
+-- Without its questions, a run from a past on which the association stands is a list of calls of one side, from the
+-- same association to the same, and tells the same events.
 abbrev pub RunsAreListsOfCalls : Type 0
 RunsAreListsOfCalls = (made : List Call) (answers : List Reply) (a b : Shown) (packets more : List (List ℕ))
     (h : History) → RunsOn made a packets answers b more → StandsOn a h
@@ -114,8 +114,8 @@ RunsDoTheirActs = (made : List Call) (answers : List Reply) (a b : Shown) (packe
     → RunsOn made a packets answers b more → StandsOn a h → b.failed ≡ false
     → RanByActs made answers a b packets more h
 
--- These acts, one after another, give out the DATA of one offset, whose message may be sent again n times, at most n + 1
--- times.
+-- These acts, one after another, give out the DATA of one offset, whose message may be sent again n times, at most n +
+-- 1 times.
 abbrev pub KeepRetries : List Act → Parts → Type 0
 KeepRetries acts p = (before after : List Act) (act : Act) (o n : ℕ) → n < 2 ^ 32 - 1 → acts ≡ before ++ act ∷ after
     → GivesUnder n o act (done_all before p) → times_given o acts p ≤ n + 1
@@ -139,8 +139,8 @@ pub record ComesToAPoll (before : List Call) (now : ℕ) (after : List Call) (s 
   pub front : IsRun before s packets first at given
   pub rest : IsRun (calls.PollTransmit now ∷ after) at given later t more
 
--- It gives out no DATA of a message at or past its deadline, where the association has not failed before and FORWARD TSN
--- is in use.
+-- It gives out no DATA of a message at or past its deadline, where the association has not failed before and FORWARD
+-- TSN is in use.
 abbrev pub PollsInTime : ℕ → AbstractAssociation → Type 0
 PollsInTime now s = s.shown.failed ≡ false → uses_forward_tsn s.shown ≡ true
     → GiveNothingLate now (acts_of_poll s.shown now) (parts s.shown s.past)

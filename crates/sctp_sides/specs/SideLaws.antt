@@ -40,13 +40,14 @@ use Rattle.sctp_assoc.specs.Calls.{write_refusal, written}
 use Rattle.sctp_assoc.specs.Chunks.{after_packet, ended, on_chunk}
 use Rattle.sctp_outbound.specs.Sacks.{reports_of}
 use Rattle.sctp_assoc.specs.Happened.{IsOfControl, IsOfShutdown, Polls, PollsOn, acts_of_chunk, acts_of_exchange}
-use Rattle.sctp_assoc.specs.Happened.{acts_of_poll, acts_of_timeouts, forwards_of_poll}
+use Rattle.sctp_assoc.specs.Happened.{acts_of_poll, acts_of_timeouts, forwards_of_poll, marks_if}
 use Rattle.sctp_assoc.specs.Inbound.{taken_packet}
 use Rattle.sctp_sides.specs.Meeting.{Greets, GreetsOn, HasCome, IsAsFarOn, IsEstablished, IsNoEarlier, IsTruthful}
 use Rattle.sctp_sides.specs.Meeting.{Stage, stage_of}
 use Rattle.sctp_assoc.specs.Gather.{AreControlReadAgain, WaitPlainly, control_polled, is_due, open_polled, polled}
 use Rattle.sctp_assoc.specs.Gather.{without_control}
 use Rattle.sctp_directions.specs.Reports.{SaysWhatWasTaken}
+use Rattle.sctp_assoc.specs.Probes.{opens_window}
 use Rattle.sctp_assoc.specs.ResetActs.{acts_of_draining}
 use Rattle.sctp_assoc.specs.Shown.{Shown, uses_forward_tsn}
 use Rattle.sctp_assoc.specs.Shutdown.{completes_shutdown, endpoint_event_polled, shutdown_begun, shutdown_refusal}
@@ -421,11 +422,13 @@ ReconfigsEndPast =
     → AllByRecursion (EndsPast over) (acts_of_chunk a header (chunks.Reconfig reconfig))
 
 -- The first pieces in flight are acknowledged, so many that the cumulative TSN ack is the TSN before that of the next
--- one, and of those behind them the ones that the gap ack blocks name; some may be reported missing.
+-- one, and of those behind them the ones that the gap ack blocks name; some may be reported missing. Behind that all
+-- that is outstanding may be marked to be sent again.
 pub record IsAcknowledging (a : Shown) (h : History) (sack : ChunkSelectiveAck) (acts : List Act) : Type 0 where
   pub count : ℕ
   pub missing : ℕ
-  pub are : acts ≡ Act.Acknowledged count sack.gap_ack_blocks missing ∷ []
+  pub marked : Bool
+  pub are : acts ≡ Act.Acknowledged count sack.gap_ack_blocks missing ∷ marks_if marked
   pub within : count ≤ length a.sender.queue.in_flight
   pub at : sack.cumulative_tsn_ack % 2 ^ 32 ≡ tsn_before (tsn h.own (h.base + count))
 
@@ -446,13 +449,15 @@ pub record NamesTheSent (a : Shown) (h : History) (sack : ChunkSelectiveAck) (co
       → (0 < count + offset) × (count + offset ≤ length a.sender.queue.in_flight)
 
 -- As long as DATA may be unacknowledged, in Established and in a shutdown until SHUTDOWN or SHUTDOWN ACK is due, such a
--- SACK acknowledges exactly these pieces, and those that its gap ack blocks name (RFC 4960 section 6.2.1).
+-- SACK acknowledges exactly these pieces, and those that its gap ack blocks name (RFC 4960 section 6.2.1). One that
+-- opens the peer's window marks all that is outstanding then.
 abbrev pub TakenSacksAcknowledge : Type 0
 TakenSacksAcknowledge = (a : Shown) (h : History) (header : CommonHeader) (sack : ChunkSelectiveAck) (count : ℕ)
     → sends_data a.state ≡ true → Binds a h → NamesTheSent a h sack count
     → acts_of_chunk a header (chunks.SelectiveAck sack)
     ≡ Act.Acknowledged count sack.gap_ack_blocks
-    (reports_of a.sender sack.cumulative_tsn_ack sack.gap_ack_blocks) ∷ []
+    (reports_of a.sender sack.cumulative_tsn_ack sack.gap_ack_blocks)
+    ∷ marks_if (opens_window a.profile a.sender.advertised_window sack.advertised_receiver_window_credit)
 
 -- In any other state a SACK acknowledges nothing, and neither does one whose cumulative TSN ack lies behind the
 -- acknowledged one.
@@ -471,13 +476,24 @@ GreetingsMakeThePeerKnown = (a : Shown) (header : CommonHeader) (init : ChunkIni
     → IsPeerKnown init (acts_of_chunk a header (chunks.Init init))
     × IsPeerKnown init (acts_of_chunk a header (chunks.InitAck init))
 
--- all up to a TSN was passed over, with these skips of ordered messages, or nothing was
+-- a stream is opened
+abbrev pub IsOpened : Act → Type 0
+IsOpened (Act.Opened id first kind) = ⊤
+IsOpened act = ⊥
+
+-- all up to a TSN was passed over, with these skips of ordered messages, and before that streams were opened
+pub record PassesOver (tsn : ℕ) (skipped : List SkippedStream) (acts : List Act) : Type 0 where
+  pub opened : List Act
+  pub opened_are : AllByRecursion IsOpened opened
+  pub are : acts ≡ opened ++ Act.PassedOver tsn skipped ∷ []
+
+-- so it was, or nothing was
 abbrev pub IsPassingOver : ℕ → List SkippedStream → List Act → Type 0
-IsPassingOver tsn skipped acts = (acts ≡ []) ⊎ (acts ≡ Act.PassedOver tsn skipped ∷ [])
+IsPassingOver tsn skipped acts = (acts ≡ []) ⊎ PassesOver tsn skipped acts
 
 -- A FORWARD TSN passes over what it says, or does nothing to the directions (RFC 3758 section 3.6); so does an
--- I-FORWARD-TSN, of which the entries of ordered messages count (RFC 8260 section 2.3.1). Behind that, streams past
--- their span may change.
+-- I-FORWARD-TSN, of which the entries of ordered messages count (RFC 8260 section 2.3.1). Before that it may open
+-- streams on which it skips, and behind it, streams past their span may change.
 abbrev pub ForwardsPassOver : Type 0
 ForwardsPassOver =
     (over : ℕ → Bool) (a : Shown) (header : CommonHeader) (forward : ChunkForwardTsn) → ResetsOver over a.resets
@@ -502,9 +518,9 @@ pub record CouldPassOver (a : Shown) (h : History) (tsn : ℕ) : Type 0 where
 
 abbrev pub OnlyForwardsAheadPassOver : Type 0
 OnlyForwardsAheadPassOver = (a : Shown) (h : History) (header : CommonHeader) (forward : ChunkForwardTsn)
-    (behind : List Act) → Binds a h
+    (opened behind : List Act) → Binds a h → AllByRecursion IsOpened opened
     → acts_of_chunk a header (chunks.ForwardTsn forward)
-    ≡ Act.PassedOver forward.new_cumulative_tsn forward.streams ∷ behind
+    ≡ opened ++ Act.PassedOver forward.new_cumulative_tsn forward.streams ∷ behind
     → CouldPassOver a h forward.new_cumulative_tsn
 
 -- none of DATA, SACK, FORWARD TSN and RE-CONFIG, nor one that tells an initial TSN

@@ -332,12 +332,12 @@ pub fn at_most_one_loss()
 {}
 
 /// Runs: from a past on which the association stands, the calls of a run, by the contract of `sctp_calls::run`, are a
-/// list of calls of one side, and the events that their replies tell are those that it tells. So a run of an association
-/// as a constructor leaves it tells of at most one loss, and where it was lost it is closed at the end and waits for no
-/// moment; and a run that begins with no stream tells last counters at most once. Where the association has not failed
-/// at the end, the calls of a run do their acts in order: so a run of an association as a constructor leaves it keeps
-/// retries where FORWARD TSN is in use (RFC 7496 section 3.1), and none of its polls gives out DATA of a message at or
-/// past its deadline then (RFC 3758 section 3.5).
+/// list of calls of one side, and the events that their replies tell are those that it tells. So a run of an
+/// association as a constructor leaves it tells of at most one loss, and where it was lost it is closed at the end and
+/// waits for no moment; and a run that begins with no stream tells last counters at most once. Where the association
+/// has not failed at the end, the calls of a run do their acts in order: so a run of an association as a constructor
+/// leaves it keeps retries where FORWARD TSN is in use (RFC 7496 section 3.1), and none of its polls gives out DATA of
+/// a message at or past its deadline then (RFC 3758 section 3.5).
 pub fn runs_are_lists_of_calls()
     ensures calls { RunsAreListsOfCalls }
     ensures losses { RunsTellOneLoss }
@@ -359,10 +359,10 @@ pub fn generations_end_once()
 {}
 
 /// Timing: over every list of calls each timer of DATA, of the handshake and of acknowledgements runs where it should,
-/// unless its retries passed their limit, and there alone (RFC 4960 sections 5.1, 6.2 and 6.3.2), and that of the answer
-/// to SHUTDOWN or SHUTDOWN ACK runs where one is awaited alone (section 9.2). A poll leaves the timer of a request to
-/// reset streams running that is not answered, and so does a timeout (RFC 6525 section 5.1.1). A side that failed or was
-/// lost waits for no moment.
+/// unless its retries passed their limit, and there alone (RFC 4960 sections 5.1, 6.2 and 6.3.2), and that of the
+/// answer to SHUTDOWN or SHUTDOWN ACK runs where one is awaited alone (section 9.2). A poll leaves the timer of a
+/// request to reset streams running that is not answered, and so does a timeout (RFC 6525 section 5.1.1). A side that
+/// failed or was lost waits for no moment.
 pub fn timers_run_where_they_should()
     ensures data { OutstandingDataIsTimed }
     ensures no_data { NothingInFlightIsNotTimed }
@@ -394,8 +394,8 @@ pub fn shutdowns_wait_for_data()
 
 /// Repeats: a request of the peer to reset streams whose number is at or below the last completed one, and is not in
 /// progress, is answered as performed and retires nothing; over every list of calls completed requests stay so. A
-/// request of this side waits until no other one is active and no DATA of its streams waits or is in flight. DATA behind
-/// a request of the peer in progress stays out of its stream, and so does new DATA of a stream of which an ended
+/// request of this side waits until no other one is active and no DATA of its streams waits or is in flight. DATA
+/// behind a request of the peer in progress stays out of its stream, and so does new DATA of a stream of which an ended
 /// generation is still read, and no other DATA (RFC 6525 sections 5.1.2, 5.2.1 and 5.2.2).
 pub fn repeats_retire_nothing()
     ensures repeats { CompletedNumbersAreRepeats }

@@ -1,6 +1,7 @@
 -- A datagram by which an association was lost spells a packet, and the walk over its chunks finds the end.
 use Rattle.std.proofs.Common.{◌≡◌, ◌≢◌, refl, sym, ap, ◌∙◌, subst, ℕ, Bool, true, false, cond, List, Option, Some, None}
-use Rattle.std.proofs.Common.{Result, Ok, Err, IfOk, IfSome, OnOk, is_ok, drop, length, ◌<◌, ◌==◌, not, ◌&&◌, ⊎_elim, inl, inr}
+use Rattle.std.proofs.Common.{Result, Ok, Err, IfOk, IfSome, OnOk, is_ok, drop, length, ◌<◌, ◌==◌, not, ◌&&◌, ⊎_elim}
+use Rattle.std.proofs.Common.{inl, inr}
 use Rattle.std.proofs.lemmas.Bool.{lt-ltb}
 use Rattle.std.specs.Prelude.{◌⊎◌, IsErrOf, IsSome, OnErr, nat_lt}
 use Rattle.sctp_crc.specs.Crc.{sum_of_packet}

@@ -161,8 +161,8 @@ fn chunks_in(datagram: &[u8]) -> &[u8]
     &datagram[COMMON_HEADER_SIZE.min(datagram.len())..]
 }
 
-/// The end that a datagram brings to the association that it closes: the first ABORT in it with its first cause, without
-/// one SHUTDOWN COMPLETE, else a fault. It takes no memory.
+/// The end that a datagram brings to the association that it closes: the first ABORT in it with its first cause,
+/// without one SHUTDOWN COMPLETE, else a fault. It takes no memory.
 pub fn end_by(datagram: &[u8]) -> End
     ensures { IfSome (packet_in datagram.now) (λ packet. result ≡ ended_by (Some packet)) }
 {

@@ -37,8 +37,8 @@ pub trait Observer {
         ensures { Notes direction now bytes.now self.old self.new };
 }
 
-/// As `Watch::handle_datagram`, with an observer, which is told of a datagram that the driver took, once it is taken. Of
-/// one that it left nothing is told.
+/// As `Watch::handle_datagram`, with an observer, which is told of a datagram that the driver took, once it is taken.
+/// Of one that it left nothing is told.
 pub fn handle_datagram_observed<O: Observer>(
     watch: &mut Watch,
     driver: &mut Driver,

@@ -187,6 +187,7 @@ impl TransportConfig {
     }
 
     /// Retransmission timeout before the first measurement, in ms; 3000 by default (RFC 4960 sections 6.3.1 and 15).
+    /// The constructors of a driver refuse 0, here and in the next two.
     pub fn rto_initial_ms(&self) -> u64
         ensures { result ≡ self.now.rto_initial_ms }
     {

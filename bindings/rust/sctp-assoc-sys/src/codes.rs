@@ -77,7 +77,7 @@ pub const SCTP_ASSOC_EVENT_LOST: u32 = 3;
 pub const SCTP_ASSOC_EVENT_DATAGRAM_RECEIVED: u32 = 4;
 /// `stream` ended; `counters` are its last ones.
 pub const SCTP_ASSOC_EVENT_STREAM_ENDED: u32 = 5;
-/// The peer opened `stream` by a message.
+/// The peer opened `stream`, by a message, or by the rules of the RFCs also by one that it gave up.
 pub const SCTP_ASSOC_EVENT_OPENED: u32 = 6;
 /// Messages of `stream` can be read.
 pub const SCTP_ASSOC_EVENT_READABLE: u32 = 7;

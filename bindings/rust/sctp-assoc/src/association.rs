@@ -257,7 +257,7 @@ impl Association {
         Duration::from_millis(self.slot.rto())
     }
 
-    /// The identifiers of the streams, ascending: those that this side opened, and those on which the peer sent.
+    /// The identifiers of the streams, ascending: those that this side opened, and those that the peer did.
     ///
     /// Errors: `Failed`, `NoMemory`.
     pub fn stream_ids(&self) -> Result<Vec<u16>, Error> {

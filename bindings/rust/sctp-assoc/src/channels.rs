@@ -129,8 +129,8 @@ impl Channels {
     }
 
     /// Copies the next message of a channel, whole, to the front of the buffer. None if none is ready, and as long as
-    /// the channel is not open. DCEP messages are dropped on the way; such a one may have changed the buffer, and be told
-    /// as `NoRoom`, too. A second OPEN of the peer ends the channel.
+    /// the channel is not open. DCEP messages are dropped on the way; such a one may have changed the buffer, and be
+    /// told as `NoRoom`, too. A second OPEN of the peer ends the channel.
     ///
     /// Errors: `NoRoom` if the buffer is shorter than the message, which stays; `NoChannel`; `Failed` of the
     /// association; `NoMemory`: the message stays, or the association failed; those of [`close`](Channels::close) if a

@@ -36,8 +36,9 @@ pub struct Config {
     pub rto_max: Duration,
     /// How often INIT and COOKIE ECHO go out again before the handshake fails; 8. None is no limit.
     pub max_init_retransmits: Option<usize>,
-    /// Timeouts in a row after which DATA is no longer sent again; nothing tells of that, so bound the wait for an
-    /// acknowledgement. None, the default, is no limit.
+    /// Timeouts in a row after which DATA is no longer sent again, by [`Profile::Rfc`] but for those whose DATA the
+    /// peer answered with a closed window; nothing tells of that, so bound the wait for an acknowledgement. None, the
+    /// default, is no limit.
     pub max_data_retransmits: Option<usize>,
 }
 

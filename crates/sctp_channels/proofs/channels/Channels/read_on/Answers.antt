@@ -14,5 +14,13 @@ pub returns-in_ok-reset-in-SecondOpen : goal.returns-in_ok-reset-in-SecondOpen
 returns-in_ok-reset-in-SecondOpen c =
     let second =
     subst (λ (z : Next). ReadsNext c.args.id c.args.driver.now c.args.buffer.now z c.read_next.new.driver
-    c.read_next.new.buffer) c.in-SecondOpen.is c.in_ok-received.ensures.ok in
-    (0, c.args.driver.now, c.args.buffer.now, (refl, refl), inl (inr (refl, (c.read_next.new.driver, second, c.in_ok-reset-in-SecondOpen.ensures))))
+    c.read_next.new.buffer) c.in-SecondOpen.is c.in_ok-received.ensures.ok in (
+      0,
+      c.args.driver.now,
+      c.args.buffer.now,
+      (refl, refl),
+      inl (inr (
+        refl,
+        (c.read_next.new.driver, second, c.in_ok-reset-in-SecondOpen.ensures),
+      )),
+    )
