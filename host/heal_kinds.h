@@ -86,7 +86,6 @@ static const struct {
      "peer performs none of the later ones."},
     {"unused", OF(RESET_UNUSED) | OF(RESET),
      "A request for a stream of which no DATA came is performed, and the other half is not reset in answer."},
-    {"unused_abandoned", 0, "The same, where all DATA of the stream was abandoned."},
     {"channels_negotiated", 0, "The same, for a negotiated data channel that the peer did not open."},
     {"shut_early", OF(HANDSHAKE_SHUT_DOWN),
      "A COOKIE ECHO that comes again after a shutdown was begun is not answered, and DATA in the state COOKIE-ECHOED "

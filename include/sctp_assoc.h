@@ -124,10 +124,10 @@ typedef uint32_t sctp_assoc_code;
 /* Stands for no limit in max_init_retransmits and max_data_retransmits. */
 #define SCTP_ASSOC_NO_LIMIT SIZE_MAX
 
-/* The rules that an association keeps where the RFCs and the Rust crate sctp-proto 0.10.8 part. Each side has its own,
- * of which the peer is told nothing. */
-#define SCTP_ASSOC_PROFILE_RFC 0  /* those of RFC 4960, RFC 3758, RFC 6525 and RFC 8831 */
-#define SCTP_ASSOC_PROFILE_PORT 1 /* those of the crate, which this library is a port of */
+/* Which rules an association keeps where docs/CONFORMANCE.md has two. Each side has its own, of which the peer is told
+ * nothing. */
+#define SCTP_ASSOC_PROFILE_RFC 0  /* rules that the RFCs ask for or leave open; the default */
+#define SCTP_ASSOC_PROFILE_PORT 1 /* those of the Rust crate sctp-proto 0.10.8, which this library is a port of */
 
 typedef struct sctp_assoc_config {
     uint32_t max_receive_buffer_size;  /* bytes; the window that is offered. A peer refuses one below 1500 */
@@ -142,10 +142,10 @@ typedef struct sctp_assoc_config {
     uint64_t rto_min_ms;
     uint64_t rto_max_ms;
     size_t max_init_retransmits;       /* how often INIT and COOKIE ECHO go out again; SCTP_ASSOC_NO_LIMIT */
-    size_t max_data_retransmits;       /* timeouts in a row after which DATA is no longer sent again, by
-                                        * SCTP_ASSOC_PROFILE_RFC but for those whose DATA the peer answered with a
-                                        * closed window; nothing tells of that, so bound the wait for an
-                                        * acknowledgement; SCTP_ASSOC_NO_LIMIT */
+    size_t max_data_retransmits;       /* timeouts in a row after which DATA is no longer sent again; by
+                                        * SCTP_ASSOC_PROFILE_RFC a SACK with a window of 0 ends the row, too.
+                                        * Nothing tells of that, so bound the wait for an acknowledgement;
+                                        * SCTP_ASSOC_NO_LIMIT */
 } sctp_assoc_config;
 
 /* Writes the defaults: buffer 1,048,576, messages 65,536, streams 65,535, ports 5000, the profile of the RFCs, timeouts
@@ -296,7 +296,7 @@ sctp_assoc_code sctp_assoc_handle_timeout(sctp_assoc *slot, uint64_t now);
 #define SCTP_ASSOC_EVENT_DATAGRAM_RECEIVED 4    /* a DATA chunk was taken in; once for each */
 #define SCTP_ASSOC_EVENT_STREAM_ENDED 5         /* `stream` ended; `counters` are its last ones */
 #define SCTP_ASSOC_EVENT_OPENED 6               /* the peer opened `stream`, by a message, or by
-                                                 * SCTP_ASSOC_PROFILE_RFC also by one that it gave up */
+                                                 * SCTP_ASSOC_PROFILE_RFC also by an ordered one that it gave up */
 #define SCTP_ASSOC_EVENT_READABLE 7             /* messages of `stream` can be read: read until there is none */
 #define SCTP_ASSOC_EVENT_BUFFERED_LOW 8         /* the buffered amount of `stream` fell to its low mark or below, by a
                                                  * datagram or by what sctp_assoc_poll_transmit gave up */
@@ -408,8 +408,8 @@ sctp_assoc_code sctp_assoc_path(sctp_assoc *slot, sctp_assoc_path_values *path);
 #define SCTP_ASSOC_PPID_OF_STREAM UINT32_MAX
 
 /* Makes a stream on this side, whose messages have this payload protocol identifier unless a write names one. Nothing
- * is sent: the peer sees the stream by its first message. Codes: DONE, EMPTY_SLOT, FAILED, STREAM_EXISTS,
- * RESET_PENDING, NO_STREAM_LEFT, NO_MEMORY (nothing changed). */
+ * is sent: the peer sees the stream by its first message, as SCTP_ASSOC_EVENT_OPENED says. Codes: DONE, EMPTY_SLOT,
+ * FAILED, STREAM_EXISTS, RESET_PENDING, NO_STREAM_LEFT, NO_MEMORY (nothing changed). */
 sctp_assoc_code sctp_assoc_open_stream(sctp_assoc *slot, uint16_t stream, uint32_t payload_type);
 
 /* Takes out the identifier of the oldest stream that the peer opened and that wasn't accepted yet. It needs no
@@ -431,8 +431,8 @@ sctp_assoc_code sctp_assoc_write(sctp_assoc *slot, uint16_t stream, uint32_t pay
  * NO_ROOM, FAILED, NO_STREAM, STREAM_CLOSED, NO_MEMORY (the message stays, or the association has failed).
  *
  * By SCTP_ASSOC_PROFILE_RFC a read that opens the receive window, also one that answers NO_ROOM, makes an
- * acknowledgement due at once, for which the peer may wait: so poll for datagrams after reads. The window is open where
- * two packets may come, of 2 * (max_payload_size + 28) bytes, or half of max_receive_buffer_size if that is less. By
+ * acknowledgement due at once, for which the peer may wait: so poll for datagrams after reads. The window is open if
+ * 2 * (max_payload_size + 28) bytes may come, two packets, or half of max_receive_buffer_size if that is less. By
  * SCTP_ASSOC_PROFILE_PORT no read makes one due. */
 sctp_assoc_code sctp_assoc_read(sctp_assoc *slot, uint16_t stream, uint8_t *buffer, size_t room, size_t *length,
                                 uint32_t *payload_type);
@@ -444,9 +444,9 @@ sctp_assoc_code sctp_assoc_finish(sctp_assoc *slot, uint16_t stream);
 /* Closes the read half of a stream and asks for a reset of it (RFC 6525, RFC 8831 section 6.7). What was accepted goes
  * out first; then the peer is asked to reset its half, too. Nothing of the stream can be read or written any more, and
  * a message that didn't fit a buffer is dropped. Its end is told by SCTP_ASSOC_EVENT_STREAM_ENDED, _FINISHED and after
- * that _RESET_COMPLETE, at the peer, too. What the peer sent before a reset of its own is dropped, too, which may open
- * the receive window as a read does. If the read half is closed already, nothing changes. Codes: DONE, EMPTY_SLOT,
- * FAILED, NO_STREAM, CANNOT_RESET, NO_MEMORY (the association has failed).
+ * that _RESET_COMPLETE, at the peer, too. If the peer reset the stream and it isn't read to its end, what came of it is
+ * dropped, also of its next use, which may open the receive window as a read does. If the read half is closed already,
+ * nothing changes. Codes: DONE, EMPTY_SLOT, FAILED, NO_STREAM, CANNOT_RESET, NO_MEMORY (the association has failed).
  *
  * By SCTP_ASSOC_PROFILE_RFC all that is unread of the stream is so dropped, and what still comes of it until it ends is
  * acknowledged and dropped, too: so none of it takes room in the receive buffer, however much is under way. By

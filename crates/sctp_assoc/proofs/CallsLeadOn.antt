@@ -54,7 +54,7 @@ use Rattle.sctp_reset_requests.specs.Own as own_requests
 use Rattle.sctp_reset_requests.specs.Own.{OwnView}
 use Rattle.sctp_resets.specs.Answers.{Answering, answering, failed_each, with_told}
 use Rattle.sctp_resets.specs.Resets.{Beside, ResetsView, event_told, given_up, given_up_where}
-use Rattle.sctp_assoc.specs.Probes.{opens_window, probes_answered}
+use Rattle.sctp_assoc.specs.Probes.{is_probing, opens_window, probes_answered}
 use Rattle.sctp_assoc.specs.Resets.{after_reconfig_timer, asks_again, gives_up, reconfig_expired, with_beside}
 use Rattle.sctp_assoc.specs.Calls.{accepted_from, accepted_stream, adjusted, after_ack_delay, after_t3, event_from}
 use Rattle.sctp_assoc.specs.Calls.{event_polled, opened}
@@ -175,16 +175,16 @@ module _ (a : Shown) (cumulative_tsn_ack : ℕ) (blocks : List GapAckBlock) (win
     probed_leads : tsns_up_to a.sender cumulative_tsn_ack ≤ length a.sender.queue.in_flight
         → Leads (Act.Acknowledged (tsns_up_to a.sender cumulative_tsn_ack) blocks
         (reports_of a.sender cumulative_tsn_ack blocks)
-        ∷ marks_if (opens_window a.profile a.sender.advertised_window window)) a h
-        (probes_answered a.sender.advertised_window window
+        ∷ marks_if (opens_window (is_probing a.profile a.sender) window)) a h
+        (probes_answered (is_probing a.profile a.sender) window
         (shutdown_continued (after_sack (counted_sack a) cumulative_tsn_ack blocks window now)))
         (record h { base = h.base + tsns_up_to a.sender cumulative_tsn_ack })
     probed_leads within =
         let n = tsns_up_to a.sender cumulative_tsn_ack in
         let taken = sack_taken_leads within in
         leads_on (Act.Acknowledged n blocks (reports_of a.sender cumulative_tsn_ack blocks) ∷ [])
-        (marks_if (opens_window a.profile a.sender.advertised_window window)) taken
-        (probes_lead a.sender.advertised_window window
+        (marks_if (opens_window (is_probing a.profile a.sender) window)) taken
+        (probes_lead (is_probing a.profile a.sender) window
         (shutdown_continued (after_sack (counted_sack a) cumulative_tsn_ack blocks window now))
         (record h { base = h.base + n }) taken.binds)
 
@@ -192,7 +192,7 @@ module _ (a : Shown) (cumulative_tsn_ack : ℕ) (blocks : List GapAckBlock) (win
         → (k : History)
         × Leads (acts_of_outcome o (tsns_up_to a.sender cumulative_tsn_ack) blocks
         (reports_of a.sender cumulative_tsn_ack blocks)
-        (opens_window a.profile a.sender.advertised_window window)) a h
+        (opens_window (is_probing a.profile a.sender) window)) a h
         (on_counted_sack o (counted_sack a) cumulative_tsn_ack blocks window trigger now).0 k
     outcome_leads outcomes.Older e = (h, leads_nowhere a (counted_sack a) h binds refl refl)
     outcome_leads outcomes.NotInFlight e = (h, leads_nowhere a (counted_sack a) h binds refl refl)

@@ -24,10 +24,10 @@ module _ (P : Shown → Type 0)
     marked_keeps true a p = marked a p
     marked_keeps false a p = p
 
-    pub probes_keep : (before window : ℕ) (a : Shown) → P a → P (probes_answered before window a)
+    pub probes_keep : (probing : Bool) (window : ℕ) (a : Shown) → P a → P (probes_answered probing window a)
     unfolding probes_answered
-    probes_keep before window a p =
-        marked_keeps (opens_window a.profile before window) (forgiven_if (answers_probes a.profile window) a)
+    probes_keep probing window a p =
+        marked_keeps (opens_window probing window) (forgiven_if (answers_probes a.profile window) a)
         (forgiven_keeps (answers_probes a.profile window) a p)
 
 forgiven_leads : (c : Bool) (a : Shown) (h : History) → Binds a h → Leads [] a h (forgiven_if c a) h
@@ -41,10 +41,10 @@ marked_leads true a h binds =
 marked_leads false a h binds = leads_nowhere a a h binds refl refl
 
 -- they mark what is in flight where the window opens
-pub probes_lead : (before window : ℕ) (a : Shown) (h : History) → Binds a h
-    → Leads (marks_if (opens_window a.profile before window)) a h (probes_answered before window a) h
+pub probes_lead : (probing : Bool) (window : ℕ) (a : Shown) (h : History) → Binds a h
+    → Leads (marks_if (opens_window probing window)) a h (probes_answered probing window a) h
 unfolding probes_answered
-probes_lead before window a h binds =
+probes_lead probing window a h binds =
     let one = forgiven_leads (answers_probes a.profile window) a h binds in
-    leads_on [] (marks_if (opens_window a.profile before window)) one
-    (marked_leads (opens_window a.profile before window) (forgiven_if (answers_probes a.profile window) a) h one.binds)
+    leads_on [] (marks_if (opens_window probing window)) one
+    (marked_leads (opens_window probing window) (forgiven_if (answers_probes a.profile window) a) h one.binds)

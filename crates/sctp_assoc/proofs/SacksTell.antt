@@ -19,7 +19,7 @@ use Rattle.sctp_assoc.specs.declared.inbound.Flow.TheVariants as flows
 use Rattle.sctp_assoc.specs.Calls.{sends_data}
 use Rattle.sctp_assoc.specs.Chunks.{after_sack, counted_sack, on_sack, with_acknowledged}
 use Rattle.sctp_assoc.specs.Memory.{sack_takes_memory}
-use Rattle.sctp_assoc.specs.Probes.{probes_answered}
+use Rattle.sctp_assoc.specs.Probes.{is_probing, probes_answered}
 use Rattle.sctp_assoc.specs.Shown.{Shown, uses_forward_tsn}
 use Rattle.sctp_assoc.specs.Shutdown.{shutdown_continued}
 
@@ -56,7 +56,7 @@ module _ (a : Shown) (cumulative_tsn_ack : ℕ) (blocks : List GapAckBlock) (win
         → queued ≡ a.events ++ map low_event ids → ids ≡ fallen a.streams m
         → on_sack a cumulative_tsn_ack blocks window trigger now
         ≡ (
-          probes_answered a.sender.advertised_window window
+          probes_answered (is_probing a.profile a.sender) window
               (shutdown_continued (record (counted_sack a) {
                 sender = asked;
                 estimate = e;
@@ -70,7 +70,7 @@ module _ (a : Shown) (cumulative_tsn_ack : ℕ) (blocks : List GapAckBlock) (win
     taken_leaves trigger asked timers queued ids due timed told those =
         rw (sends, taken, due, timed, told, those)
         (ap (λ x. (
-          probes_answered a.sender.advertised_window window
+          probes_answered (is_probing a.profile a.sender) window
               (shutdown_continued (with_acknowledged (counted_sack a)
               (progress_of a.sender cumulative_tsn_ack blocks) now x)),
           flows.Next trigger,

@@ -191,7 +191,8 @@ abbrev pub twice_open : Shown → ℕ
 twice_open a = min (4 * a.sender.mtu) a.receiver.buffer_size
 
 -- By the rules of the RFCs a window that opens is told at once, since the peer may wait for that alone (RFC 4960
--- section 6.2 lets a receiver do so): twice the credit was less than `twice_open` says before, and no longer is.
+-- section 6.2 lets a receiver do so): twice the credit was less than `twice_open` says before, and no longer is, and
+-- DATA may still come.
 unfoldable pub tells_window : ℕ → Shown → Bool
 tells_window before a =
     is_rfc a.profile && nat_lt (2 * before) (twice_open a) && nat_le (twice_open a) (2 * credit_in a)

@@ -43,7 +43,7 @@ use Rattle.sctp_assoc.specs.Closing.{closed_by, exhausted, is_exhausted}
 unfoldable pub use Rattle.sctp_assoc.specs.Finding.{stream_found}
 pub use Rattle.sctp_assoc.specs.Finding.{with_new_stream}
 use Rattle.sctp_assoc.specs.Handshake.{on_cookie_ack, on_cookie_echo, on_heartbeat, on_init, on_init_ack}
-use Rattle.sctp_assoc.specs.Probes.{probes_answered}
+use Rattle.sctp_assoc.specs.Probes.{is_probing, probes_answered}
 use Rattle.sctp_assoc.specs.Resets.{on_reconfig, settled, skips_applied_of}
 use Rattle.sctp_assoc.specs.Shown.{Shown, all_waiting, uses_forward_tsn}
 use Rattle.sctp_assoc.specs.Shutdown.{on_shutdown, on_shutdown_ack, on_shutdown_complete, shutdown_continued}
@@ -206,7 +206,7 @@ on_counted_sack outcomes.NotInFlight a cumulative_tsn_ack blocks window trigger 
 on_counted_sack outcomes.NamesTheUnsent a cumulative_tsn_ack blocks window trigger now =
     (a, flows.Fault errors.ErrTsnRequestNotExist)
 on_counted_sack outcomes.Taken a cumulative_tsn_ack blocks window trigger now = (
-  probes_answered a.sender.advertised_window window
+  probes_answered (is_probing a.profile a.sender) window
       (shutdown_continued (after_sack a cumulative_tsn_ack blocks window now)),
   flows.Next trigger,
 )

@@ -27,8 +27,8 @@ abbrev pub makes_stream : Shown → ℕ → Bool
 makes_stream a id = not (is_some (stream_at a.streams id)) && generation_left a.streams
 
 -- By the rules of the RFCs a FORWARD TSN with this new cumulative TSN makes a stream on which it skips, as DATA under
--- that TSN would: what is given up on a stream before anything of it came is never waited for (RFC 3758 section 3.6).
--- The port passes over a stream that is not live.
+-- that TSN would, unless such DATA would be of a later generation of the stream: what is given up on a stream before
+-- anything of it came is never waited for (RFC 3758 section 3.6). The port passes over a stream that is not live.
 unfoldable pub makes_for : ℕ → ℕ → Shown → Bool
 makes_for tsn id a = is_rfc a.profile && not (is_hidden a.resets id tsn)
 

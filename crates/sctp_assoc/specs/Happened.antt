@@ -53,7 +53,7 @@ use Rattle.sctp_assoc.specs.Closing.{is_closed_state, is_exhausted}
 use Rattle.sctp_assoc.specs.Chunks.{counted_data, deferred_where_admitted, goes_unread, on_chunk, stream_found}
 use Rattle.sctp_assoc.specs.Chunks.{taken_in, taken_where_admitted}
 use Rattle.sctp_assoc.specs.Finding.{found_at, found_for, makes_for}
-use Rattle.sctp_assoc.specs.Probes.{opens_window}
+use Rattle.sctp_assoc.specs.Probes.{is_probing, opens_window}
 use Rattle.sctp_assoc.specs.ResetActs.{acts_of_draining, acts_of_keeping, acts_of_kept_skips, acts_of_reconfig}
 use Rattle.sctp_assoc.specs.ResetActs.{acts_of_settling}
 use Rattle.std.specs.List.{AllByRecursion, filter, flat_map, position_or_len}
@@ -153,7 +153,7 @@ abbrev pub acts_of_sack : Shown → ℕ → List GapAckBlock → ℕ → List Ac
 acts_of_sack a cumulative_tsn_ack blocks window =
     if sends_data a.state then
     acts_of_outcome (sack_outcome a.sender cumulative_tsn_ack blocks) (tsns_up_to a.sender cumulative_tsn_ack) blocks
-    (reports_of a.sender cumulative_tsn_ack blocks) (opens_window a.profile a.sender.advertised_window window)
+    (reports_of a.sender cumulative_tsn_ack blocks) (opens_window (is_probing a.profile a.sender) window)
     else []
 
 -- an INIT that is answered tells the peer's initial TSN

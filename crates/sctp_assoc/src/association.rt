@@ -10,7 +10,7 @@ ghost use Rattle.sctp_assoc.specs.Calls.{Refuses, RefusesOrLacksMemory, accepted
 ghost use Rattle.sctp_assoc.specs.Calls.{failed_refusal, open_refusal, opened, stream_refusal, usable};
 ghost use Rattle.sctp_assoc.specs.Calls.{with_max_send_message_size};
 ghost use Rattle.sctp_streams.specs.Streams.{live_ids};
-ghost use Rattle.sctp_assoc.specs.Probes.{is_probing, timed_out_by};
+ghost use Rattle.sctp_assoc.specs.Probes.{timed_out_by};
 ghost use Rattle.sctp_assoc.specs.Calls.{after_t3, after_ack_delay, event_from, event_polled, fault_polled};
 ghost use Rattle.sctp_assoc.specs.Calls.{is_first_at_once};
 ghost use Rattle.sctp_assoc.specs.Closing.{closed_by, is_closed_state};
@@ -577,14 +577,6 @@ impl Association {
         }
     }
 
-    // Whether what is in flight probes a window that the peer closed.
-    #[tactic(auto, unfolding(crate::specs::Probes::is_probing))]
-    fn is_probing(&self) -> bool
-        ensures { result ≡ is_probing self.now.profile self.now.sender }
-    {
-        self.is_by_rfcs() && self.sender.advertised_window == 0
-    }
-
     fn on_ack(&mut self, now: Instant)
         ensures { self.new ≡ after_ack_delay self.old now }
     {
@@ -597,7 +589,7 @@ impl Association {
     }
 
     /// Makes a stream on this side, in a new generation, and lends it for its calls. What is written on it carries
-    /// `default_payload_type`. Nothing is sent for it: the peer sees the stream with its first DATA. Any state and
+    /// `default_payload_type`. Nothing is sent for it: the peer sees the stream by its first DATA. Any state and
     /// any identifier will do; the numbers of streams that the handshake agreed on are not enforced.
     ///
     /// Refused, in this order with nothing changed: `ErrAssociationFailed`; `ErrStreamAlreadyExist`, also where the
@@ -630,8 +622,8 @@ impl Association {
         Ok(Stream::new(self, id))
     }
 
-    /// Lends the live stream of this identifier for its calls: one that `open_stream` made, or DATA that came. A loss
-    /// ends all streams. Refused, in this order with nothing changed: `ErrAssociationFailed`, `ErrStreamNotExisted`.
+    /// Lends the live stream of this identifier for its calls: one that `open_stream` or the peer made. A loss ends all
+    /// streams. Refused, in this order with nothing changed: `ErrAssociationFailed`, `ErrStreamNotExisted`.
     pub fn stream(&mut self, id: StreamId) -> Result<Stream<'_>, Error>
         ensures* lends { sem 𝓛 (rests_if_refused self.entry result) }
         ensures refused { Refuses result (stream_refusal self.old id) }

@@ -2,7 +2,7 @@
 ghost use Rattle.std.specs.Prelude.{◌≡◌, true, OnErr, IfOk, Ok};
 ghost use Rattle.sctp_assoc.specs.Memory.{sack_takes_memory};
 ghost use Rattle.sctp_assoc.specs.Chunks.{on_sack};
-ghost use Rattle.sctp_assoc.specs.Probes.{answers_probes, opens_window, probes_answered};
+ghost use Rattle.sctp_assoc.specs.Probes.{answers_probes, is_probing, opens_window, probes_answered};
 
 use crate::Association;
 use crate::inbound::Flow;
@@ -33,7 +33,7 @@ impl Association {
             return Ok(Flow::Next(trigger));
         }
         self.stats.inc_sacks();
-        let before = self.sender.advertised_window;
+        let probing = self.is_probing();
         let forward = self.handshake.use_forward_tsn;
         let mut fallen = self.streams.watch(self.alloc);
         let outcome = self.sender.on_sack(
@@ -57,22 +57,21 @@ impl Association {
                 fallen.tell_ascending(self.alloc, &mut self.events)?;
                 self.waiting_in_front = waiting;
                 self.continue_shutdown();
-                self.answer_probes(before, window);
+                self.answer_probes(probing, window);
                 Ok(Flow::Next(trigger))
             }
         }
     }
 
-    // A SACK with this window answers probes of a window that is closed, or opens that window, which was another
-    // before.
+    // What a SACK with this window does about probes, where what was in flight before it was one or not.
     #[tactic(auto, unfolding(crate::specs::Probes::probes_answered))]
-    fn answer_probes(&mut self, before: u32, window: u32)
-        ensures { self.new ≡ probes_answered before window self.old }
+    fn answer_probes(&mut self, probing: bool, window: u32)
+        ensures { self.new ≡ probes_answered probing window self.old }
     {
         if self.answers_probes(window) {
             self.timers.reset_retrans(Timer::T3RTX);
         }
-        if self.opens_window(before, window) {
+        if opens_window(probing, window) {
             self.sender.queue.mark_all_to_retransmit();
         }
     }
@@ -84,10 +83,21 @@ impl Association {
         self.is_by_rfcs() && window == 0
     }
 
-    #[tactic(auto, unfolding(crate::specs::Probes::opens_window))]
-    fn opens_window(&self, before: u32, window: u32) -> bool
-        ensures { result ≡ opens_window self.now.profile before window }
+    // Whether what is in flight probes a window that the peer closed.
+    #[tactic(auto, unfolding(crate::specs::Probes::is_probing))]
+    pub(crate) fn is_probing(&self) -> bool
+        ensures { result ≡ is_probing self.now.profile self.now.sender }
     {
-        self.is_by_rfcs() && before == 0 && window != 0
+        self.is_by_rfcs()
+            && self.sender.advertised_window == 0
+            && self.sender.queue.inflight_len() == 1
     }
+}
+
+// Whether a SACK with this window opens the one that was probed.
+#[tactic(auto, unfolding(crate::specs::Probes::opens_window))]
+fn opens_window(probing: bool, window: u32) -> bool
+    ensures { result ≡ opens_window probing window }
+{
+    probing && window != 0
 }

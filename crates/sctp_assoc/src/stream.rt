@@ -39,8 +39,8 @@ impl<'a> Stream<'a> {
 
     /// Takes out the next message, whole; None where none is ready. After `StreamEvent::Readable` read until it
     /// answers None; a later Readable may then find nothing. What was read no longer takes room in the receive
-    /// buffer, which the next SACK says to the peer. By `Profile::Rfc` that SACK is due at once where the read opens a
-    /// window that was all but closed, so call `poll_transmit` after reads.
+    /// buffer, which the next SACK says to the peer. By `Profile::Rfc` that SACK is due at once where the read opens
+    /// the window, so call `poll_transmit` after reads.
     ///
     /// A read that gives a message closes the association where nothing that still waits in a full receive buffer can
     /// ever be read; the peer is told by an ABORT then.
@@ -214,7 +214,7 @@ impl<'a> Stream<'a> {
     ///
     /// By the rules of the RFCs (`Profile::Rfc`) what waits to be read is dropped, and so is what comes until the
     /// stream ends: it is acknowledged, and none of it counts as waiting. By those of the port it goes on waiting,
-    /// although it can never be read.
+    /// although it can never be read. Where the peer ended the stream already, both drop it, and no reset is asked for.
     ///
     /// Refused, in this order with nothing changed: `ErrAssociationFailed`; `ErrStreamClosed` where the stream is gone;
     /// `ErrResetPacketInStateNotExist` outside Established, where no generation of the stream is retiring;

@@ -178,7 +178,7 @@ AwaitsAnswer id t d (Ok looked) u e = ReadsThenAnswered id t d (Ok looked) u e
 AwaitsAnswer id t d (Err error) u e =
     ((u ≡ t) × ReadFails d id error e) ⊎ ReadsThenAnswered id t d (Err error) u e
 
--- no ACK was written, and that for no reason by which the channel goes on
+-- the stream was refused for the ACK or for its settings, and that for no reason by which the channel goes on
 abbrev pub IsUnanswered : ℕ → Driving → Driving → Type 0
 IsUnanswered id d e = (error : Error) × Unacknowledged d id error e × (goes_despite error ≡ Ok false)
 

@@ -53,7 +53,8 @@ abbrev pub IsMessage : ChannelEvent → Event → Type 0
 IsMessage (told.Message id) event = event ≡ events.Stream (stream_events.Readable id)
 IsMessage _ event = ⊥
 
--- An event is met: what it says of the channels is told; of a stream on which something came that, or nothing yet.
+-- An event is met: what it says of the channels is told, if anything; of a stream on which something came it may be
+-- told that a message of its channel is there.
 unfoldable pub MeetsEvent : Event → List (ℕ × ChannelView) → Turn → List (ℕ × ChannelView) → Type 0
 MeetsEvent event t turns.Silent u = event_met t event ≡ (u, None)
 MeetsEvent event t turns.Idle u = ⊥

@@ -100,8 +100,8 @@ impl Channels {
         Ok(())
     }
 
-    /// Ends a channel: its stream is reset (RFC 8831 section 6.7), after what was accepted went out. Messages that came
-    /// are not received any more. `Closed` tells the end. One that was not begun is gone at once, and nothing is told;
+    /// Ends a channel: its stream is reset (RFC 8831 section 6.7), after what was accepted went out. What is unread
+    /// is not received any more. `Closed` tells the end. One that was not begun is gone at once, and nothing is told;
     /// one that is ending stays so.
     ///
     /// Refused: `NoChannel`, with nothing changed; and as `close_stream` of the driver is, and then the channel stays

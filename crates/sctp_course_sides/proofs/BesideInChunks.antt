@@ -65,6 +65,7 @@ use Rattle.sctp_assoc.specs.Chunks.{after_chunks, after_packet, after_packet_of,
 use Rattle.sctp_assoc.specs.Closing.{closed_by, closed_open, exhausted, is_closed_state, out_of_resource}
 use Rattle.sctp_assoc.specs.Control.{queued, queued_under}
 use Rattle.sctp_assoc.specs.Handshake.{connected, echoed, learned, on_init, on_init_ack, sends_cookie}
+use Rattle.sctp_assoc.specs.Probes.{is_probing}
 use Rattle.sctp_assoc.specs.Resets.{responding}
 use Rattle.sctp_assoc.specs.Skipping.{unrecognized_chunk}
 use Rattle.sctp_course_sides.specs.Spelled.{ControlIsBeside, IsBesideStreams, WaitsBeside}
@@ -246,7 +247,7 @@ outcome_keeps outcomes.Older a cumulative_tsn_ack blocks window trigger now = λ
 outcome_keeps outcomes.NotInFlight a cumulative_tsn_ack blocks window trigger now = λ x. x
 outcome_keeps outcomes.NamesTheUnsent a cumulative_tsn_ack blocks window trigger now = λ x. x
 outcome_keeps outcomes.Taken a cumulative_tsn_ack blocks window trigger now =
-    probes_keep (λ (b : Shown). Keeps a b) (λ b f. f) (λ b f. f) a.sender.advertised_window window
+    probes_keep (λ (b : Shown). Keeps a b) (λ b f. f) (λ b f. f) (is_probing a.profile a.sender) window
     (shutdown_continued (after_sack a cumulative_tsn_ack blocks window now)) (λ x. x)
 
 sack_keeps : (sends : Bool) (a : Shown) (cumulative_tsn_ack : ℕ) (blocks : List GapAckBlock) (window : ℕ)

@@ -27,7 +27,7 @@ use Rattle.sctp_assoc.specs.Happened.{acts_if_left, acts_of_checked, acts_of_chu
 use Rattle.sctp_assoc.specs.Happened.{acts_of_finding, acts_of_forward, acts_of_found, acts_of_hidden, acts_of_kind}
 use Rattle.sctp_assoc.specs.Happened.{acts_of_outcome, acts_of_skips_behind, acts_of_stream, acts_of_taking}
 use Rattle.sctp_assoc.specs.Happened.{acts_of_taking_where_admitted, acts_unless_faulty, acts_unless_refused}
-use Rattle.sctp_assoc.specs.Probes.{opens_window}
+use Rattle.sctp_assoc.specs.Probes.{is_probing, opens_window}
 use Rattle.sctp_assoc.specs.ResetActs.{acts_of_keeping, acts_of_kept_skips, acts_of_reconfig, acts_of_settling}
 use Rattle.sctp_assoc.specs.Resets.{skips_applied_of}
 use Rattle.sctp_assoc.specs.Shown.{Shown, all_waiting}
@@ -150,7 +150,7 @@ kind_is_heard a header (chunks.Data piece) = data_is_heard a piece
 kind_is_heard a header (chunks.SelectiveAck sack) =
     give_if IsHeard (sends_data a.state) _ []
     (outcome_is_heard _ _ sack.gap_ack_blocks _
-    (opens_window a.profile a.sender.advertised_window sack.advertised_receiver_window_credit)) tt
+    (opens_window (is_probing a.profile a.sender) sack.advertised_receiver_window_credit)) tt
 kind_is_heard a header (chunks.Init init) = give_if IsHeard (is_beginning a.state) _ [] (tt, tt) tt
 kind_is_heard a header (chunks.InitAck init) =
     give_if IsHeard (is_cookie_wait a.state) _ []

@@ -33,7 +33,7 @@ use Rattle.sctp_assoc.specs.Chunks.{after_sack, checked_first, counted_sack, on_
 use Rattle.sctp_assoc.specs.Chunks.{with_acknowledged}
 use Rattle.sctp_assoc.specs.Happened.{acts_of_chunk, marks_if}
 use Rattle.sctp_assoc.specs.Leads.{IsSamePast, parts}
-use Rattle.sctp_assoc.specs.Probes.{forgiven_if, marked_if, probes_answered}
+use Rattle.sctp_assoc.specs.Probes.{forgiven_if, is_probing, marked_if, probes_answered}
 use Rattle.sctp_assoc.specs.Shown.{Shown}
 use Rattle.sctp_assoc.specs.Shutdown.{shutdown_continued}
 use Rattle.sctp_assoc.proofs.CallsLeadOn.{chunk_leads}
@@ -111,13 +111,13 @@ module _ (P : ChunkPayloadData → Type 0) (initial id : ℕ) where
   acknowledged_leaves a progress now (s, e, m) keeps = leaves a _ refl keeps
 
   -- probes of a closed window that are answered leave both
-  probes_leave : (a b : Shown) (before window : ℕ) → LeavesCourse P initial id a b
-      → LeavesCourse P initial id a (probes_answered before window b)
-  probes_leave a b before window l =
+  probes_leave : (a b : Shown) (probing : Bool) (window : ℕ) → LeavesCourse P initial id a b
+      → LeavesCourse P initial id a (probes_answered probing window b)
+  probes_leave a b probing window l =
       probes_keep (λ (z : Shown). LeavesCourse P initial id a z)
       (λ (z : Shown) (k : LeavesCourse P initial id a z). leaves a (forgiven_if true z) k.resets k.streams)
       (λ (z : Shown) (k : LeavesCourse P initial id a z). leaves a (marked_if true z) k.resets k.streams)
-      before window b l
+      probing window b l
 
   outcome_leaves : (o : SackOutcome) (b : Shown) (cumulative_tsn_ack : ℕ) (blocks : List GapAckBlock) (window : ℕ)
       (trigger : AckTrigger) (now : ℕ)
@@ -131,7 +131,7 @@ module _ (P : ChunkPayloadData → Type 0) (initial id : ℕ) where
       let l =
       acknowledged_leaves b (progress_of b.sender cumulative_tsn_ack blocks) now x
       (sack_keeps P initial id b.resets cumulative_tsn_ack blocks window now b.sender b.estimate b.streams) in
-      probes_leave b d b.sender.advertised_window window (leaves b d l.resets l.streams)
+      probes_leave b d (is_probing b.profile b.sender) window (leaves b d l.resets l.streams)
 
   sack_leaves_if : (c : Bool) (a : Shown) (cumulative_tsn_ack : ℕ) (blocks : List GapAckBlock) (window : ℕ)
       (trigger : AckTrigger) (now : ℕ)

@@ -51,6 +51,7 @@ use Rattle.sctp_assoc.specs.Handshake.{cookie_queued, echoed, information_return
 use Rattle.sctp_assoc.specs.Handshake.{on_cookie_echo, on_heartbeat, on_init, on_init_ack, sends_cookie}
 use Rattle.sctp_assoc.specs.Happened.{acts_of_chunk}
 use Rattle.sctp_assoc.specs.Leads.{Leads, parts}
+use Rattle.sctp_assoc.specs.Probes.{is_probing}
 use Rattle.sctp_assoc.specs.Resets.{after_param, asking_if, behind_first, behind_params, channels_of, handled_with}
 use Rattle.sctp_assoc.specs.Resets.{on_reconfig, on_request, on_response, responded_with, settled, settled_with}
 use Rattle.sctp_assoc.specs.Resets.{skips_applied_of, stopped_if, with_answer, with_beside, with_resetting}
@@ -254,7 +255,7 @@ module _ (initial id : ℕ) (c : Course) where
   outcome_keeps outcomes.NotInFlight a cumulative_tsn_ack blocks window trigger now = λ x. x
   outcome_keeps outcomes.NamesTheUnsent a cumulative_tsn_ack blocks window trigger now = λ x. x
   outcome_keeps outcomes.Taken a cumulative_tsn_ack blocks window trigger now =
-      probes_keep (λ (b : Shown). Keeps a b) (λ b f. f) (λ b f. f) a.sender.advertised_window window
+      probes_keep (λ (b : Shown). Keeps a b) (λ b f. f) (λ b f. f) (is_probing a.profile a.sender) window
       (shutdown_continued (after_sack a cumulative_tsn_ack blocks window now)) (λ x. x)
 
   sack_keeps : (sends : Bool) (a : Shown) (cumulative_tsn_ack : ℕ) (blocks : List GapAckBlock) (window : ℕ)

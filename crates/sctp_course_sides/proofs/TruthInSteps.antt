@@ -37,7 +37,7 @@ use Rattle.sctp_assoc.specs.Closing.{is_exhausted}
 use Rattle.sctp_assoc.specs.Control.{queued}
 use Rattle.sctp_assoc.specs.Finding.{found_for}
 use Rattle.sctp_assoc.specs.Handshake.{connected, information_returned, on_cookie_ack, on_cookie_echo, on_heartbeat}
-use Rattle.sctp_assoc.specs.Probes.{forgiven_if, marked_if, probes_answered}
+use Rattle.sctp_assoc.specs.Probes.{forgiven_if, is_probing, marked_if, probes_answered}
 use Rattle.sctp_assoc.specs.Resets.{asking_if, channels_of, settled, settled_with, skips_applied_of, with_beside}
 use Rattle.sctp_assoc.specs.Resets.{with_resetting}
 use Rattle.sctp_assoc.specs.Shown.{Shown, all_waiting}
@@ -333,13 +333,13 @@ module _ (initial : ℕ) (d : Course) where
   -- SACK
 
   -- probes of a closed window are answered
-  pub probes_stay : (before window : ℕ) (a : Shown) → Stays a (probes_answered before window a)
-  probes_stay before window a =
+  pub probes_stay : (probing : Bool) (window : ℕ) (a : Shown) → Stays a (probes_answered probing window a)
+  probes_stay probing window a =
       probes_keep (λ (b : Shown). Stays a b)
       (λ (b : Shown) (s : Stays a b).
       then_stays a b (forgiven_if true b) s (stays_by b (forgiven_if true b) refl refl refl))
       (λ (b : Shown) (s : Stays a b).
-      then_stays a b (marked_if true b) s (stays_by b (marked_if true b) refl refl refl)) before window a (same a)
+      then_stays a b (marked_if true b) s (stays_by b (marked_if true b) refl refl refl)) probing window a (same a)
 
   pub outcome_stays : (o : SackOutcome) (a : Shown) (cumulative_tsn_ack : ℕ) (blocks : List GapAckBlock) (window : ℕ)
       (trigger : AckTrigger) (now : ℕ)
@@ -349,8 +349,8 @@ module _ (initial : ℕ) (d : Course) where
   outcome_stays outcomes.NamesTheUnsent a cumulative_tsn_ack blocks window trigger now = same a
   outcome_stays outcomes.Taken a cumulative_tsn_ack blocks window trigger now =
       let b : Shown = shutdown_continued (after_sack a cumulative_tsn_ack blocks window now) in
-      then_stays a b (probes_answered a.sender.advertised_window window b) (stays_by a b refl refl refl)
-      (probes_stay a.sender.advertised_window window b)
+      then_stays a b (probes_answered (is_probing a.profile a.sender) window b) (stays_by a b refl refl refl)
+      (probes_stay (is_probing a.profile a.sender) window b)
 
   pub sack_stays : (sends : Bool) (a : Shown) (cumulative_tsn_ack : ℕ) (blocks : List GapAckBlock) (window : ℕ)
       (trigger : AckTrigger) (now : ℕ) → sends_data a.state ≡ sends

@@ -1,6 +1,7 @@
 -- What each event of a direction between associations leaves, and what it keeps.
 use Rattle.std.proofs.Common.{◌≡◌, ◌⊎◌, refl, sym, ap, ◌∙◌, subst, ⊎_elim, inl, inr, ℕ, zero, suc, ◌≤◌}
-use Rattle.std.proofs.Common.{arith, Bool, true, false, eqb, if◌then◌else◌, length, List, [], ◌∷◌, ◌++◌, Option, Some, None}
+use Rattle.std.proofs.Common.{arith, Bool, true, false, eqb, if◌then◌else◌, length, List, [], ◌∷◌, ◌++◌, Option, Some}
+use Rattle.std.proofs.Common.{None}
 use Rattle.std.specs.Prelude.{◌==◌, slice_get}
 use Rattle.std.proofs.lemmas.Bool.{cases_eq, cond-false, cond-true, eq-eqb, ne_eqb, true≢false}
 use Rattle.std.proofs.lemmas.List.{append-nil, length-append}

@@ -208,7 +208,7 @@ abbrev pub OnlySettingsLoosen : Type 0
 OnlySettingsLoosen = (act : Act) (p : Parts) (s : ℕ) → (SetsReliability act s → ⊥) → IsKeptInOrder p.streams s
     → IsKeptInOrder (done act p).streams s
 
--- Only the end of its span has a stream that can be read be read no more.
+-- A stream that can be read stays so until its span ends.
 abbrev pub OnlyEndsCloseReads : Type 0
 OnlyEndsCloseReads = (act : Act) (p : Parts) (s : ℕ) → Can act p → (EndsSpanOf act s → ⊥) → HasReadOpen p.streams s
     → HasReadOpen (done act p).streams s

@@ -28,8 +28,8 @@ pub record Driving : Type 0 where
 abbrev pub by_rfcs : Settings → Settings
 by_rfcs config = record config { profile = Some (unwrap_or config.profile profiles.Rfc) }
 
--- a retransmission timeout of 0 is refused, as a timer that runs for no time is due again as soon as it expired; the
--- least one counts from a round trip of 0 ms on
+-- a retransmission timeout of 0 is refused, as a timer that runs for no time is due again as soon as it expired; with a
+-- least one of 0 it would be 0 once a round trip of 0 ms was measured
 abbrev pub timeout_refusal : Settings → Option Error
 timeout_refusal config =
     if (config.rto_initial_ms == 0) || (config.rto_min_ms == 0) || (config.rto_max_ms == 0) then

@@ -16,7 +16,7 @@ use sctp_assoc::{DataChannelStats, Error, PayloadProtocolIdentifier, Reliability
 
 impl Driver {
     /// Makes a stream on this side. What is written on it carries `payload_type` where a write names none. Nothing is
-    /// sent for it: the peer sees the stream with its first DATA.
+    /// sent for it: the peer sees the stream by its first DATA.
     ///
     /// Refused, in this order with nothing changed: `ErrAssociationFailed`; `ErrStreamAlreadyExist`, also where the
     /// peer opened it; `ErrStreamResetPending` where a reset of it is open or failed; `ErrStreamCreateFailed` where no
@@ -70,7 +70,7 @@ impl Driver {
     /// stays, and `NoRoom` says how long it is; a later read with a longer buffer gives it, also after a loss of the
     /// association. After `StreamEvent::Readable` read until it answers `Nothing`, or until the stream is gone: where
     /// the peer ended it, it may end with its last message. A message that waits for a longer buffer counts as read.
-    /// Poll for datagrams after reads: where a read opens a receive window that was all but closed, the peer is told.
+    /// Poll for datagrams after reads: where a read opens the receive window, the peer is told.
     ///
     /// Refused, in this order: `ErrAssociationFailed`, `ErrStreamNotExisted` and `ErrStreamClosed` (its read half is
     /// closed), with nothing changed, and only where no message of the stream waits in the driver; `ErrNoMemory`, which
@@ -118,7 +118,8 @@ impl Driver {
 
     /// Closes the read half of a stream and asks for a reset of it (RFC 6525 section 5.1, RFC 8831 section 6.7): from
     /// then on a read is refused as `ErrStreamClosed` and a write as `ErrStreamResetPending`, and a message that waits
-    /// for a longer buffer is dropped. What was accepted goes out, and then the request. Once the peer has reset its
+    /// for a longer buffer is dropped. By `Profile::Rfc` all that is unread is, and so is what still comes of the
+    /// stream until it ends. What was accepted goes out, and then the request. Once the peer has reset its
     /// half, too, `StreamEvent::Finished` and `StreamEvent::ResetComplete` tell the end, and the stream can be opened
     /// anew. Where the read half is closed already, nothing is asked for.
     ///

@@ -46,7 +46,7 @@ use Rattle.sctp_assoc.specs.Closing.{is_exhausted}
 use Rattle.sctp_assoc.specs.Finding.{found_for}
 use Rattle.sctp_assoc.specs.Handshake.{connected, cookie_queued, echoed, information_returned, learned, learned_back}
 use Rattle.sctp_assoc.specs.Handshake.{on_cookie_ack, on_cookie_echo, on_heartbeat, on_init, on_init_ack, sends_cookie}
-use Rattle.sctp_assoc.specs.Probes.{probes_answered}
+use Rattle.sctp_assoc.specs.Probes.{is_probing, probes_answered}
 use Rattle.sctp_assoc.specs.Resets.{after_param, asking_if, behind_first, behind_params, channels_of, handled_with}
 use Rattle.sctp_assoc.specs.Resets.{on_reconfig, on_request, on_response, responded_with, settled, stopped_if}
 use Rattle.sctp_assoc.specs.Resets.{with_beside, with_resetting}
@@ -78,12 +78,12 @@ module _ {Open : GenerationsView → PeerView → Type 0} {T : GenerationsView �
       streams_carry a _ still refl refl
 
   -- probes that it answers change timers and what is to be sent again alone
-  probed_carries : (before window : ℕ) (a : Shown) → Carries T a (probes_answered before window a)
-  probed_carries before window a =
+  probed_carries : (probing : Bool) (window : ℕ) (a : Shown) → Carries T a (probes_answered probing window a)
+  probed_carries probing window a =
       probes_keep (Carries T a)
       (λ b k. then_carries k (same_carries b _ refl refl refl))
       (λ b k. then_carries k (same_carries b _ refl refl refl))
-      before window a (nothing_carries a)
+      probing window a (nothing_carries a)
 
   outcome_carries : (o : SackOutcome) (a : Shown) (cumulative_tsn_ack : ℕ) (blocks : List GapAckBlock) (window : ℕ)
       (trigger : AckTrigger) (now : ℕ)
@@ -101,7 +101,7 @@ module _ {Open : GenerationsView → PeerView → Type 0} {T : GenerationsView �
       (λ h. sack_taken_carries (T a.resets.generations a.resets.peer)
       (rules.streams.changes a.resets.generations a.resets.peer)
       cumulative_tsn_ack blocks window now a.sender a.estimate a.streams h))
-      (then_carries (same_carries b c refl refl refl) (probed_carries a.sender.advertised_window window c))
+      (then_carries (same_carries b c refl refl refl) (probed_carries (is_probing a.profile a.sender) window c))
 
   sack_carries : (sends : Bool) (a : Shown) (cumulative_tsn_ack : ℕ) (blocks : List GapAckBlock) (window : ℕ)
       (trigger : AckTrigger) (now : ℕ) → sends_data a.state ≡ sends

@@ -62,6 +62,7 @@ use Rattle.sctp_assoc.specs.Closing.{is_exhausted}
 use Rattle.sctp_assoc.specs.Finding.{found_for}
 use Rattle.sctp_assoc.specs.Handshake.{cookie_queued, echoed, information_returned, learned_back, on_cookie_ack}
 use Rattle.sctp_assoc.specs.Handshake.{on_cookie_echo, on_heartbeat, on_init, on_init_ack, sends_cookie}
+use Rattle.sctp_assoc.specs.Probes.{is_probing}
 use Rattle.sctp_assoc.specs.Resets.{after_param, asking_if, behind_first, behind_params, channels_of, handled_with}
 use Rattle.sctp_assoc.specs.Resets.{on_reconfig, on_request, on_response, responded_with, settled, settled_with}
 use Rattle.sctp_assoc.specs.Resets.{skips_applied_of, stopped_if, with_answer, with_beside, with_resetting}
@@ -442,7 +443,7 @@ outcome_leaves outcomes.NamesTheUnsent a cumulative_tsn_ack blocks window trigge
 outcome_leaves outcomes.Taken a cumulative_tsn_ack blocks window trigger now =
     let b : Shown = shutdown_continued (after_sack a cumulative_tsn_ack blocks window now) in
     probes_keep (LeavesActive a) (λ c k. record { from = k.from }) (λ c k. record { from = k.from })
-    a.sender.advertised_window window b (by_active a b refl)
+    (is_probing a.profile a.sender) window b (by_active a b refl)
 
 sack_leaves : (sends : Bool) (a : Shown) (cumulative_tsn_ack : ℕ) (blocks : List GapAckBlock) (window : ℕ)
     (trigger : AckTrigger) (now : ℕ) → sends_data a.state ≡ sends

@@ -55,7 +55,7 @@ use Rattle.sctp_outbound_queue.specs.declared.message.Retransmission.{Retransmis
 use Rattle.sctp_outbound_queue.specs.declared.message.Retransmission.TheVariants as causes
 use Rattle.sctp_assoc.specs.Happened.{acts_of_marks, acts_of_new, acts_of_outcome, acts_of_resending, acts_of_sending}
 use Rattle.sctp_assoc.specs.Happened.{first_again, first_sent, marks_if}
-use Rattle.sctp_assoc.specs.Probes.{opens_window}
+use Rattle.sctp_assoc.specs.Probes.{is_probing, opens_window}
 use Rattle.sctp_assoc.specs.Timeouts.{after_shutdown_timer}
 use Rattle.sctp_sides.specs.SideLaws.{GivesNew, GivesUpOrAgain}
 use Rattle.sctp_sides.specs.SideLaws.{GreetingsMakeThePeerKnown, IsOpened, IsOther, IsPeerKnown}
@@ -88,13 +88,13 @@ pub checked_sack : (r : Result (Unit {0}) Error) (a : Shown) (header : CommonHea
     ⊎ (acts_of_checked r a header (chunks.SelectiveAck k)
     ≡ Act.Acknowledged (tsns_up_to a.sender k.cumulative_tsn_ack) k.gap_ack_blocks
     (reports_of a.sender k.cumulative_tsn_ack k.gap_ack_blocks)
-    ∷ marks_if (opens_window a.profile a.sender.advertised_window k.advertised_receiver_window_credit))
+    ∷ marks_if (opens_window (is_probing a.profile a.sender) k.advertised_receiver_window_credit))
 checked_sack (Err fault) a header k = inl refl
 checked_sack (Ok done) a header k =
     sack_if (sends_data a.state) (sack_outcome a.sender k.cumulative_tsn_ack k.gap_ack_blocks)
     (tsns_up_to a.sender k.cumulative_tsn_ack) k.gap_ack_blocks
     (reports_of a.sender k.cumulative_tsn_ack k.gap_ack_blocks)
-    (opens_window a.profile a.sender.advertised_window k.advertised_receiver_window_credit)
+    (opens_window (is_probing a.profile a.sender) k.advertised_receiver_window_credit)
 
 -- a cumulative TSN ack that is n past the TSN before the first one in flight
 pub acked_back : (own base t : ℕ)
@@ -111,13 +111,13 @@ sacks_acknowledge a h header sack binds =
     (λ (e : acts_of_chunk a header (chunks.SelectiveAck sack)
     ≡ Act.Acknowledged (tsns_up_to a.sender sack.cumulative_tsn_ack) sack.gap_ack_blocks
     (reports_of a.sender sack.cumulative_tsn_ack sack.gap_ack_blocks)
-    ∷ marks_if (opens_window a.profile a.sender.advertised_window sack.advertised_receiver_window_credit)).
+    ∷ marks_if (opens_window (is_probing a.profile a.sender) sack.advertised_receiver_window_credit)).
     let leads = chunk_leads header (chunks.SelectiveAck sack) a triggers.None 0 h binds in
     let can = subst (λ zs. CanAll zs (parts a h)) e leads.1.can in
     inr (record {
       count = tsns_up_to a.sender sack.cumulative_tsn_ack;
       missing = reports_of a.sender sack.cumulative_tsn_ack sack.gap_ack_blocks;
-      marked = opens_window a.profile a.sender.advertised_window sack.advertised_receiver_window_credit;
+      marked = opens_window (is_probing a.profile a.sender) sack.advertised_receiver_window_credit;
       are = e;
       within = can.0;
       at =
@@ -197,7 +197,7 @@ taken_sacks_acknowledge a h header sack count sends binds names =
     ∙ sym names.at in
     taken_acts (sends_data a.state) (sack_outcome a.sender t sack.gap_ack_blocks) (tsns_up_to a.sender t) count
     sack.gap_ack_blocks (reports_of a.sender t sack.gap_ack_blocks)
-    (opens_window a.profile a.sender.advertised_window sack.advertised_receiver_window_credit) sends
+    (opens_window (is_probing a.profile a.sender) sack.advertised_receiver_window_credit) sends
     (outcome_taken (tsn_gt acked t) (ltb (length a.sender.queue.in_flight) (tsns_up_to a.sender t))
     (names_unsent a.sender t sack.gap_ack_blocks)
     (not_behind acked t count past names.near first)
@@ -222,7 +222,7 @@ other_sacks_do_nothing a h header sack binds other =
     other_acts_of_sack (sends_data a.state) (tsn_gt acked t)
     (ltb (length a.sender.queue.in_flight) (tsns_up_to a.sender t)) (names_unsent a.sender t sack.gap_ack_blocks)
     (tsns_up_to a.sender t) sack.gap_ack_blocks (reports_of a.sender t sack.gap_ack_blocks)
-    (opens_window a.profile a.sender.advertised_window sack.advertised_receiver_window_credit)
+    (opens_window (is_probing a.profile a.sender) sack.advertised_receiver_window_credit)
     (⊎_elim
     (λ (e : sends_data a.state ≡ false). inl e)
     (λ (e : tsn_gt (tsn_before (tsn h.own h.base)) sack.cumulative_tsn_ack ≡ true).

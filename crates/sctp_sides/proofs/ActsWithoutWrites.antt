@@ -43,7 +43,7 @@ use Rattle.sctp_assoc.specs.Happened.{acts_of_forwarding, acts_of_found, acts_of
 use Rattle.sctp_assoc.specs.Happened.{acts_of_packet, acts_of_packet_of, acts_of_poll, acts_of_read}
 use Rattle.sctp_assoc.specs.Happened.{acts_of_skips_behind, acts_of_stop, acts_of_stream, acts_of_taking}
 use Rattle.sctp_assoc.specs.Happened.{acts_of_timeouts, acts_unless_faulty, acts_unless_refused, forwards_of_poll}
-use Rattle.sctp_assoc.specs.Probes.{opens_window}
+use Rattle.sctp_assoc.specs.Probes.{is_probing, opens_window}
 use Rattle.sctp_assoc.specs.ResetActs.{acts_of_draining, acts_of_keeping, acts_of_kept_skips, acts_of_reconfig}
 use Rattle.sctp_assoc.specs.ResetActs.{acts_of_settling}
 use Rattle.sctp_assoc.specs.Resets.{skips_applied_of}
@@ -169,7 +169,7 @@ kind_writes_nothing a header (chunks.Data piece) = data_writes_nothing (counted_
 kind_writes_nothing a header (chunks.SelectiveAck sack) =
     give_if IsNoWrite (sends_data a.state) _ []
     (outcomes_write_nothing _ _ sack.gap_ack_blocks _
-    (opens_window a.profile a.sender.advertised_window sack.advertised_receiver_window_credit)) tt
+    (opens_window (is_probing a.profile a.sender) sack.advertised_receiver_window_credit)) tt
 kind_writes_nothing a header (chunks.Init init) = give_if IsNoWrite (is_beginning a.state) _ [] (tt, tt) tt
 kind_writes_nothing a header (chunks.InitAck init) =
     give_if IsNoWrite (is_cookie_wait a.state) _ []

@@ -63,6 +63,7 @@ use Rattle.sctp_assoc.specs.Handshake.{after_t1_cookie, after_t1_init, connected
 use Rattle.sctp_assoc.specs.Handshake.{information_returned, init_queued, learned, on_cookie_ack, on_cookie_echo}
 use Rattle.sctp_assoc.specs.Handshake.{on_heartbeat, on_init, on_init_ack, sends_cookie, sends_init}
 use Rattle.sctp_assoc.specs.Handshake.{t1_cookie_expired, t1_init_expired}
+use Rattle.sctp_assoc.specs.Probes.{is_probing}
 use Rattle.sctp_assoc.specs.Resets.{asks_again, after_reconfig_timer, gives_up, reconfig_expired, settled}
 use Rattle.sctp_assoc.specs.Resets.{with_beside, with_reconfig_run}
 use Rattle.sctp_assoc.specs.Shown.{Shown, all_waiting}
@@ -521,7 +522,7 @@ outcome_none outcomes.NamesTheUnsent a cumulative_tsn_ack blocks window trigger 
 outcome_none outcomes.Taken a cumulative_tsn_ack blocks window trigger now = λ n.
     let b : Shown = after_sack a cumulative_tsn_ack blocks window now in
     probes_keep HasNoReset (λ c m. same_resets c _ refl refl m) (λ c m. same_resets c _ refl refl m)
-    a.sender.advertised_window window (shutdown_continued b)
+    (is_probing a.profile a.sender) window (shutdown_continued b)
     (same_resets b (shutdown_continued b) refl refl
     (acknowledged_none a (progress_of a.sender cumulative_tsn_ack blocks) now
     (sack_taken cumulative_tsn_ack blocks window now a.sender a.estimate a.streams) n))

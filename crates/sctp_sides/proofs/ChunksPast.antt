@@ -54,6 +54,7 @@ use Rattle.sctp_assoc.specs.Control.{asking, queued}
 use Rattle.sctp_assoc.specs.Finding.{found_for, stream_found}
 use Rattle.sctp_assoc.specs.Handshake.{connected, cookie_queued, echoed, information_returned, learned, learned_back}
 use Rattle.sctp_assoc.specs.Handshake.{on_cookie_ack, on_cookie_echo, on_heartbeat, on_init, on_init_ack, sends_cookie}
+use Rattle.sctp_assoc.specs.Probes.{is_probing}
 use Rattle.sctp_assoc.specs.Resets.{after_param, asking_if, behind_first, behind_params, channels_of, handled_with}
 use Rattle.sctp_assoc.specs.Resets.{on_reconfig, on_request, on_response, responded_with, responding, settled}
 use Rattle.sctp_assoc.specs.Resets.{settled_with, skips_applied, skips_applied_of, stopped_if, with_answer, with_beside}
@@ -317,7 +318,7 @@ module _ (over : ℕ → Bool) where
   outcome_keeps outcomes.Taken a cumulative_tsn_ack blocks window trigger now =
       let b : Shown = after_sack a cumulative_tsn_ack blocks window now in
       probes_keep (KeepsPast over a) (λ c k. then_keeps k (keeps_same c _ refl refl))
-      (λ c k. then_keeps k (keeps_same c _ refl refl)) a.sender.advertised_window window (shutdown_continued b)
+      (λ c k. then_keeps k (keeps_same c _ refl refl)) (is_probing a.profile a.sender) window (shutdown_continued b)
       (then_keeps
       (acknowledged_keeps a (progress_of a.sender cumulative_tsn_ack blocks) now
       (sack_taken cumulative_tsn_ack blocks window now a.sender a.estimate a.streams))

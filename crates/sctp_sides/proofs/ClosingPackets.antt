@@ -88,6 +88,7 @@ use Rattle.std.proofs.Common.{subst}
 use Rattle.sctp_parts.specs.declared.state.AssociationState.{AssociationState}
 use Rattle.sctp_streams.specs.Stream.{is_read_half_open}
 use Rattle.sctp_assoc.specs.Closing.{exhausted, is_exhausted, relieved}
+use Rattle.sctp_assoc.specs.Probes.{is_probing}
 use Rattle.sctp_receive_queues.specs.Messages.{ReceivedMessage}
 use Rattle.sctp_streams.specs.Streams.{read_in}
 use Rattle.sctp_sides.specs.Laws.{ExhaustingReadsAloneClose, ExhaustingStopsAloneClose}
@@ -389,7 +390,8 @@ outcome_goes_on outcomes.NamesTheUnsent b cumulative_tsn_ack blocks window trigg
 outcome_goes_on outcomes.Taken b cumulative_tsn_ack blocks window trigger now =
     let c : Shown = after_sack b cumulative_tsn_ack blocks window now in
     probes_keep (StaysOpen b) (λ d m. goes_on_there b d _ m (stays d _ refl refl refl))
-    (λ d m. goes_on_there b d _ m (stays d _ refl refl refl)) b.sender.advertised_window window (shutdown_continued c)
+    (λ d m. goes_on_there b d _ m (stays d _ refl refl refl)) (is_probing b.profile b.sender) window
+    (shutdown_continued c)
     (goes_on_there b c (shutdown_continued c)
     (remains_open b c (acknowledged_goes_on b (progress_of b.sender cumulative_tsn_ack blocks) now
     (sack_taken cumulative_tsn_ack blocks window now b.sender b.estimate b.streams)))

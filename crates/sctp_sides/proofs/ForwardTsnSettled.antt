@@ -39,6 +39,7 @@ use Rattle.sctp_assoc.specs.Closing.{closed_by, exhausted, is_closed_state, is_e
 use Rattle.sctp_assoc.specs.Handshake.{information_returned, on_cookie_ack, on_cookie_echo, on_heartbeat, on_init}
 use Rattle.sctp_assoc.specs.Handshake.{on_init_ack}
 use Rattle.sctp_assoc.specs.Gather.{open_polled, polled}
+use Rattle.sctp_assoc.specs.Probes.{is_probing}
 use Rattle.sctp_assoc.specs.Shown.{Shown, uses_forward_tsn}
 use Rattle.sctp_assoc.specs.Shutdown.{all_acknowledged, completes_shutdown, shutdown_continued}
 use Rattle.sctp_assoc.specs.Shutdown.{shutdown_taken, state_at_shutdown, state_behind_data}
@@ -149,7 +150,7 @@ outcome_talks outcomes.NamesTheUnsent used a cumulative_tsn_ack blocks window tr
 outcome_talks outcomes.Taken used a cumulative_tsn_ack blocks window trigger now h =
     let b : Shown = after_sack a cumulative_tsn_ack blocks window now in
     probes_keep (IsTalking used) (λ c k. record { state = k.state; uses = k.uses })
-    (λ c k. record { state = k.state; uses = k.uses }) a.sender.advertised_window window (shutdown_continued b)
+    (λ c k. record { state = k.state; uses = k.uses }) (is_probing a.profile a.sender) window (shutdown_continued b)
     (continued_talks used b (talks_by used a b refl refl h))
 
 sack_talks : (counts used : Bool) (a : Shown) (cumulative_tsn_ack : ℕ) (blocks : List GapAckBlock) (window : ℕ)

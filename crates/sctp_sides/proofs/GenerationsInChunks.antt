@@ -64,6 +64,7 @@ use Rattle.sctp_assoc.specs.Closing.{closed_by, exhausted, is_closed_state, is_e
 use Rattle.sctp_assoc.specs.Finding.{found_for}
 use Rattle.sctp_assoc.specs.Handshake.{connected, echoed, information_returned, on_cookie_ack}
 use Rattle.sctp_assoc.specs.Handshake.{on_cookie_echo, on_heartbeat, on_init, on_init_ack, sends_cookie}
+use Rattle.sctp_assoc.specs.Probes.{is_probing}
 use Rattle.sctp_assoc.specs.Resets.{after_param, asking_if, behind_first, behind_params, handled_with, on_reconfig}
 use Rattle.sctp_assoc.specs.Resets.{on_request, on_response, responded_with, settled, settled_with, skips_applied}
 use Rattle.sctp_assoc.specs.Resets.{skips_applied_of, stopped_if, with_answer, with_resetting}
@@ -291,7 +292,7 @@ module _ (g : ℕ) where
       acknowledged_keeps b (progress_of b.sender cumulative_tsn_ack blocks) now x
       ∙ same_tally g b.streams x.2 b.events
       (sack_same cumulative_tsn_ack blocks window now b.sender b.estimate b.streams) in
-      probes_keep (λ (d : Shown). tally_of d ≡ tally_of b) (λ d e. e) (λ d e. e) b.sender.advertised_window window
+      probes_keep (λ (d : Shown). tally_of d ≡ tally_of b) (λ d e. e) (λ d e. e) (is_probing b.profile b.sender) window
       (shutdown_continued c) same
 
   sack_keeps : (c : Bool) (a : Shown) (cumulative_tsn_ack : ℕ) (blocks : List GapAckBlock) (window : ℕ)

@@ -51,6 +51,7 @@ use Rattle.sctp_assoc.specs.Closing.{is_exhausted}
 use Rattle.sctp_assoc.specs.Finding.{found_for}
 use Rattle.sctp_assoc.specs.Handshake.{connected, cookie_queued, echoed, information_returned, learned, learned_back}
 use Rattle.sctp_assoc.specs.Handshake.{on_cookie_ack, on_cookie_echo, on_heartbeat, on_init, on_init_ack, sends_cookie}
+use Rattle.sctp_assoc.specs.Probes.{is_probing}
 use Rattle.sctp_assoc.specs.Resets.{after_param, asking_if, behind_first, behind_params, channels_of, handled_with}
 use Rattle.sctp_assoc.specs.Resets.{on_reconfig, on_request, on_response, responded_with, settled, settled_with}
 use Rattle.sctp_assoc.specs.Resets.{skips_applied, skips_applied_of, stopped_if, with_answer, with_beside}
@@ -256,7 +257,7 @@ module _ (P : ChunkPayloadData → Type 0) where
   outcome_keeps outcomes.Taken a cumulative_tsn_ack blocks window trigger now =
       let b : Shown = after_sack a cumulative_tsn_ack blocks window now in
       probes_keep (KeepsHeld P a) (λ c k. record { holds = k.holds }) (λ c k. record { holds = k.holds })
-      a.sender.advertised_window window (shutdown_continued b)
+      (is_probing a.profile a.sender) window (shutdown_continued b)
       (then_held P
       (acknowledged_keeps a (progress_of a.sender cumulative_tsn_ack blocks) now
       (sack_taken cumulative_tsn_ack blocks window now a.sender a.estimate a.streams)

@@ -57,6 +57,7 @@ use Rattle.sctp_assoc.specs.Closing.{is_exhausted}
 use Rattle.sctp_assoc.specs.Finding.{found_for}
 use Rattle.sctp_assoc.specs.Handshake.{information_returned, on_cookie_ack, on_cookie_echo, on_heartbeat, on_init}
 use Rattle.sctp_assoc.specs.Handshake.{on_init_ack}
+use Rattle.sctp_assoc.specs.Probes.{is_probing}
 use Rattle.sctp_assoc.specs.Resets.{after_param, asking_if, behind_first, behind_params, channels_of, handled_with}
 use Rattle.sctp_assoc.specs.Resets.{on_reconfig, on_request, on_response, responded_with, settled, settled_with}
 use Rattle.sctp_assoc.specs.Resets.{skips_applied_of, stopped_if, with_answer, with_beside, with_resetting}
@@ -406,7 +407,8 @@ module _ (P : PeerView → Type 0) (kept : IsKept P) where
   outcome_goes outcomes.Taken a cumulative_tsn_ack blocks window trigger now =
       let b : Shown = after_sack a cumulative_tsn_ack blocks window now in
       probes_keep (GoesOn a) (λ c k. record { begins = k.begins; holds = k.holds })
-      (λ c k. record { begins = k.begins; holds = k.holds }) a.sender.advertised_window window (shutdown_continued b)
+      (λ c k. record { begins = k.begins; holds = k.holds }) (is_probing a.profile a.sender) window
+      (shutdown_continued b)
       (by_stage a (shutdown_continued b) (continued_onward (all_acknowledged b) a.state).begins refl)
 
   sack_goes : (sends : Bool) (a : Shown) (cumulative_tsn_ack : ℕ) (blocks : List GapAckBlock) (window : ℕ)

@@ -51,7 +51,7 @@ use Rattle.sctp_assoc.specs.Happened.{acts_if_left, acts_of_checked, acts_of_dat
 use Rattle.sctp_assoc.specs.Happened.{acts_of_forward, acts_of_found, acts_of_hidden, acts_of_kind, acts_of_outcome}
 use Rattle.sctp_assoc.specs.Happened.{acts_of_skips_behind, acts_of_stream, acts_of_taking}
 use Rattle.sctp_assoc.specs.Happened.{acts_of_taking_where_admitted, acts_unless_faulty, acts_unless_refused}
-use Rattle.sctp_assoc.specs.Probes.{opens_window}
+use Rattle.sctp_assoc.specs.Probes.{is_probing, opens_window}
 use Rattle.sctp_assoc.specs.ResetActs.{acts_of_draining, acts_of_keeping, acts_of_param, acts_of_second}
 use Rattle.sctp_assoc.specs.ResetActs.{acts_of_settling, spans_end_if}
 use Rattle.sctp_assoc.specs.Resets.{after_param, settled, settling_takes_memory, skips_applied_of}
@@ -210,7 +210,7 @@ kind_acts a header (chunks.Data piece) = data_acts a piece
 kind_acts a header (chunks.SelectiveAck sack) =
     some_if (sends_data a.state) _
     (outcome_acts (sack_outcome a.sender sack.cumulative_tsn_ack sack.gap_ack_blocks) _ _ sack.gap_ack_blocks
-    (opens_window a.profile a.sender.advertised_window sack.advertised_receiver_window_credit))
+    (opens_window (is_probing a.profile a.sender) sack.advertised_receiver_window_credit))
 kind_acts a header (chunks.Init init) =
     some_if (is_beginning a.state) (Act.PeerKnown init.initial_tsn ∷ []) (tt, tt)
 kind_acts a header (chunks.InitAck init) =

@@ -51,7 +51,7 @@ use Rattle.sctp_assoc.specs.Finding.{found_for}
 use Rattle.sctp_assoc.specs.Handshake.{acknowledged_cookie, answered, connected, echoed, information_returned}
 use Rattle.sctp_assoc.specs.Handshake.{learned, on_cookie_ack, on_cookie_echo, on_heartbeat, on_init}
 use Rattle.sctp_assoc.specs.Handshake.{on_init_ack, sends_cookie}
-use Rattle.sctp_assoc.specs.Probes.{forgiven_if, marked_if}
+use Rattle.sctp_assoc.specs.Probes.{forgiven_if, is_probing, marked_if}
 use Rattle.sctp_assoc.specs.Resets.{on_reconfig, settled, skips_applied_of}
 use Rattle.sctp_assoc.specs.Shown.{Shown, all_waiting, uses_forward_tsn}
 use Rattle.sctp_assoc.specs.Shutdown.{awaits_answer, shutdown_continued}
@@ -221,7 +221,7 @@ outcome_order outcomes.NamesTheUnsent a cumulative_tsn_ack blocks window trigger
 outcome_order outcomes.Taken a cumulative_tsn_ack blocks window trigger now s h =
     let b : Shown = after_sack a cumulative_tsn_ack blocks window now in
     let none = sending_awaits_nothing a.state s in
-    probes_keep IsInOrder forgiven_order marked_order a.sender.advertised_window window (shutdown_continued b)
+    probes_keep IsInOrder forgiven_order marked_order (is_probing a.profile a.sender) window (shutdown_continued b)
     (continued_order b
     (λ (e : awaits_answer a.state ≡ true). absurd (false≢true (sym none ∙ e)))
     h.order.asked h.order.agreed

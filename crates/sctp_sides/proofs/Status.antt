@@ -97,6 +97,7 @@ use Rattle.sctp_sides.proofs.WindowsTold.{eased_exhausted, eased_plainly}
 use Rattle.sctp_assoc.proofs.StreamReads.{message_given}
 use Rattle.sctp_assoc.specs.Calls.{after_read}
 use Rattle.sctp_assoc.specs.Closing.{exhausted, is_exhausted}
+use Rattle.sctp_assoc.specs.Probes.{is_probing}
 use Rattle.sctp_receive_queues.specs.Messages.{ReceivedMessage}
 use Rattle.sctp_streams.specs.Streams.{read_in}
 use Rattle.std.proofs.Common.{inl, inr, subst}
@@ -429,7 +430,7 @@ outcome_stage outcomes.Taken a cumulative_tsn_ack blocks window trigger now =
     probes_keep (KeepsTheStage a)
     (λ c k. status_behind a c _ k (status_by c _ refl refl refl refl refl refl refl))
     (λ c k. status_behind a c _ k (status_by c _ refl refl refl refl refl refl refl))
-    a.sender.advertised_window window (shutdown_continued b)
+    (is_probing a.profile a.sender) window (shutdown_continued b)
     (stage_on a b (shutdown_continued b) (acknowledged_status a cumulative_tsn_ack blocks window now)
     (continued_stage b))
 outcome_stage other a cumulative_tsn_ack blocks window trigger now = stage_by_status a a (status_same a)

@@ -59,7 +59,7 @@ use Rattle.sctp_sides.proofs.TimersRun.{same_time, ticks_by, time_by, time_on}
 use Rattle.sctp_assoc.specs.Closing.{out_of_resource}
 use Rattle.sctp_assoc.specs.Control.{queued}
 use Rattle.sctp_assoc.specs.Finding.{found_for}
-use Rattle.sctp_assoc.specs.Probes.{forgiven_if, marked_if}
+use Rattle.sctp_assoc.specs.Probes.{forgiven_if, is_probing, marked_if}
 use Rattle.sctp_sides.proofs.TimersRun.{rest_by, sending_begins_no_more, shutdown_answered_ticks, shutdown_taken_ticks}
 use Rattle.std.proofs.Common.{not}
 use Rattle.sctp_wire_types.specs.declared.chunk.SkippedStream.{SkippedStream}
@@ -315,7 +315,8 @@ outcome_ticks outcomes.Taken a cumulative_tsn_ack blocks window trigger now b h 
     let behind : IsTimed (shutdown_continued c) =
     record { ticks = continued_ticks c (taken_ticks a p now x b h); timed = taken_runs a p now x } in
     let answered =
-    probes_keep IsTimed forgiven_timed marked_timed a.sender.advertised_window window (shutdown_continued c) behind in
+    probes_keep IsTimed forgiven_timed marked_timed (is_probing a.profile a.sender) window (shutdown_continued c)
+    behind in
     answered.ticks
 
 -- The handshake

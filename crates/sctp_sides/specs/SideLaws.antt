@@ -47,7 +47,7 @@ use Rattle.sctp_sides.specs.Meeting.{Stage, stage_of}
 use Rattle.sctp_assoc.specs.Gather.{AreControlReadAgain, WaitPlainly, control_polled, is_due, open_polled, polled}
 use Rattle.sctp_assoc.specs.Gather.{without_control}
 use Rattle.sctp_directions.specs.Reports.{SaysWhatWasTaken}
-use Rattle.sctp_assoc.specs.Probes.{opens_window}
+use Rattle.sctp_assoc.specs.Probes.{is_probing, opens_window}
 use Rattle.sctp_assoc.specs.ResetActs.{acts_of_draining}
 use Rattle.sctp_assoc.specs.Shown.{Shown, uses_forward_tsn}
 use Rattle.sctp_assoc.specs.Shutdown.{completes_shutdown, endpoint_event_polled, shutdown_begun, shutdown_refusal}
@@ -457,7 +457,7 @@ TakenSacksAcknowledge = (a : Shown) (h : History) (header : CommonHeader) (sack 
     → acts_of_chunk a header (chunks.SelectiveAck sack)
     ≡ Act.Acknowledged count sack.gap_ack_blocks
     (reports_of a.sender sack.cumulative_tsn_ack sack.gap_ack_blocks)
-    ∷ marks_if (opens_window a.profile a.sender.advertised_window sack.advertised_receiver_window_credit)
+    ∷ marks_if (opens_window (is_probing a.profile a.sender) sack.advertised_receiver_window_credit)
 
 -- In any other state a SACK acknowledges nothing, and neither does one whose cumulative TSN ack lies behind the
 -- acknowledged one.
@@ -492,8 +492,8 @@ abbrev pub IsPassingOver : ℕ → List SkippedStream → List Act → Type 0
 IsPassingOver tsn skipped acts = (acts ≡ []) ⊎ PassesOver tsn skipped acts
 
 -- A FORWARD TSN passes over what it says, or does nothing to the directions (RFC 3758 section 3.6); so does an
--- I-FORWARD-TSN, of which the entries of ordered messages count (RFC 8260 section 2.3.1). Before that it may open
--- streams on which it skips, and behind it, streams past their span may change.
+-- I-FORWARD-TSN, of which the entries of ordered messages count (RFC 8260 section 2.3.1). Before that streams may be
+-- opened, and behind it, streams past their span may change.
 abbrev pub ForwardsPassOver : Type 0
 ForwardsPassOver =
     (over : ℕ → Bool) (a : Shown) (header : CommonHeader) (forward : ChunkForwardTsn) → ResetsOver over a.resets

@@ -49,7 +49,7 @@ pub const SCTP_ASSOC_BAD_PROFILE: sctp_assoc_code = 63;
 
 /// No limit, in `max_init_retransmits` and `max_data_retransmits`.
 pub const SCTP_ASSOC_NO_LIMIT: usize = usize::MAX;
-/// The rules of RFC 4960, RFC 3758, RFC 6525 and RFC 8831.
+/// The rules that the RFCs ask for or leave open, where docs/CONFORMANCE.md has two.
 pub const SCTP_ASSOC_PROFILE_RFC: u32 = 0;
 /// The rules of the crate `sctp-proto` 0.10.8.
 pub const SCTP_ASSOC_PROFILE_PORT: u32 = 1;
@@ -77,7 +77,7 @@ pub const SCTP_ASSOC_EVENT_LOST: u32 = 3;
 pub const SCTP_ASSOC_EVENT_DATAGRAM_RECEIVED: u32 = 4;
 /// `stream` ended; `counters` are its last ones.
 pub const SCTP_ASSOC_EVENT_STREAM_ENDED: u32 = 5;
-/// The peer opened `stream`, by a message, or by the rules of the RFCs also by one that it gave up.
+/// The peer opened `stream`, by a message, or by the rules of the RFCs also by an ordered one that it gave up.
 pub const SCTP_ASSOC_EVENT_OPENED: u32 = 6;
 /// Messages of `stream` can be read.
 pub const SCTP_ASSOC_EVENT_READABLE: u32 = 7;

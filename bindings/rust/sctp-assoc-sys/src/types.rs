@@ -37,7 +37,7 @@ pub struct sctp_assoc_config {
     pub local_port: u16,
     /// The peer's SCTP port, not 0.
     pub remote_port: u16,
-    /// The rules that are kept where the RFCs and `sctp-proto` part:
+    /// The rules that are kept where docs/CONFORMANCE.md has two:
     /// [`SCTP_ASSOC_PROFILE_RFC`](crate::SCTP_ASSOC_PROFILE_RFC) or
     /// [`SCTP_ASSOC_PROFILE_PORT`](crate::SCTP_ASSOC_PROFILE_PORT).
     pub profile: u32,
@@ -49,7 +49,8 @@ pub struct sctp_assoc_config {
     pub rto_max_ms: u64,
     /// How often INIT and COOKIE ECHO go out again; [`SCTP_ASSOC_NO_LIMIT`](crate::SCTP_ASSOC_NO_LIMIT).
     pub max_init_retransmits: usize,
-    /// Timeouts in a row after which DATA is no longer sent again;
+    /// Timeouts in a row after which DATA is no longer sent again; by
+    /// [`SCTP_ASSOC_PROFILE_RFC`](crate::SCTP_ASSOC_PROFILE_RFC) a SACK with a window of 0 ends the row, too.
     /// [`SCTP_ASSOC_NO_LIMIT`](crate::SCTP_ASSOC_NO_LIMIT).
     pub max_data_retransmits: usize,
 }

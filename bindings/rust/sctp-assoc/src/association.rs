@@ -279,7 +279,7 @@ impl Association {
     }
 
     /// Makes a stream on this side. What is written on it carries this payload type unless a write names one. Nothing
-    /// is sent for it: the peer sees the stream by its first message.
+    /// is sent for it: the peer sees the stream by its first message, as [`Event::Opened`] says.
     ///
     /// Errors: `Failed`, `StreamExists` (also if the peer opened it), `ResetPending`, `NoStreamLeft`, `NoMemory`.
     pub fn open_stream(&mut self, id: u16, payload_type: PayloadType) -> Result<Stream<'_>, Error> {

@@ -25,7 +25,7 @@ pub struct Config {
     pub local_port: u16,
     /// The peer's SCTP port, not 0; 5000.
     pub remote_port: u16,
-    /// The rules that are kept where the RFCs and the crate `sctp-proto` part; [`Profile::Rfc`].
+    /// The rules that are kept where docs/CONFORMANCE.md of the checkout has two; [`Profile::Rfc`].
     pub profile: Profile,
     /// Retransmission timeout before the first measurement (RFC 4960 section 6.3.1); 3 s. Whole milliseconds count, and
     /// one at least is needed.
@@ -36,17 +36,16 @@ pub struct Config {
     pub rto_max: Duration,
     /// How often INIT and COOKIE ECHO go out again before the handshake fails; 8. None is no limit.
     pub max_init_retransmits: Option<usize>,
-    /// Timeouts in a row after which DATA is no longer sent again, by [`Profile::Rfc`] but for those whose DATA the
-    /// peer answered with a closed window; nothing tells of that, so bound the wait for an acknowledgement. None, the
-    /// default, is no limit.
+    /// Timeouts in a row after which DATA is no longer sent again; by [`Profile::Rfc`] a SACK with a window of 0 ends
+    /// the row, too. Nothing tells of that, so bound the wait for an acknowledgement. None, the default, is no limit.
     pub max_data_retransmits: Option<usize>,
 }
 
-/// The rules that an association keeps where the RFCs and the crate `sctp-proto` part. Each side has its own, of which
+/// Which rules an association keeps where docs/CONFORMANCE.md of the checkout has two. Each side has its own, of which
 /// the peer is told nothing.
 #[derive(Clone, Copy, Debug, PartialEq, Eq)]
 pub enum Profile {
-    /// Those of RFC 4960, RFC 3758, RFC 6525 and RFC 8831. A read that opens the receive window leaves an
+    /// Rules that the RFCs ask for or leave open; the default. A read that opens the receive window leaves an
     /// acknowledgement to send, for which the peer may wait.
     Rfc,
     /// Those of the crate `sctp-proto` 0.10.8, which the library is a port of.

@@ -36,7 +36,8 @@ pub enum Event {
         /// Its last counters.
         counters: Counters,
     },
-    /// The peer opened a stream, by a message, or by [`Profile::Rfc`](crate::Profile::Rfc) also by one that it gave up.
+    /// The peer opened a stream, by a message, or by [`Profile::Rfc`](crate::Profile::Rfc) also by an ordered one that
+    /// it gave up.
     Opened {
         /// Its identifier.
         stream: u16,

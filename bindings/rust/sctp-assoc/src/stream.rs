@@ -43,8 +43,8 @@ impl Stream<'_> {
     ///
     /// By [`Profile::Rfc`](crate::Profile::Rfc) a read that opens the receive window, also one that answers `NoRoom`,
     /// makes an acknowledgement due at once, for which the peer may wait: so call
-    /// [`poll_transmit`](Association::poll_transmit) after reads. The window is open where two packets may come, of
-    /// twice `max_payload_size` and 28 bytes, or half of `max_receive_buffer_size` if that is less.
+    /// [`poll_transmit`](Association::poll_transmit) after reads. The window is open if 2 * (`max_payload_size` + 28)
+    /// bytes may come, two packets, or half of `max_receive_buffer_size` if that is less.
     ///
     /// Errors: `NoRoom` if the buffer is shorter than the message, which stays; `Failed`, `NoStream`,
     /// `StreamClosed`; `NoMemory`: the message stays, or the association failed.
@@ -78,8 +78,9 @@ impl Stream<'_> {
     /// out first; then the peer is asked to reset its half, too. Nothing can be read or written any more, and a message
     /// that did not fit a buffer is dropped. [`Event::StreamEnded`](crate::Event::StreamEnded),
     /// [`Event::Finished`](crate::Event::Finished) and [`Event::ResetComplete`](crate::Event::ResetComplete) tell the
-    /// end, at the peer, too. What the peer sent before a reset of its own is dropped, too, which may open the receive
-    /// window as a [`read`](Stream::read) does. If the read half is closed already, nothing changes.
+    /// end, at the peer, too. If the peer reset the stream and it is not read to its end, what came of it is dropped,
+    /// also of its next use, which may open the receive window as a [`read`](Stream::read) does. If the read half is
+    /// closed already, nothing changes.
     ///
     /// By [`Profile::Rfc`](crate::Profile::Rfc) all that is unread of the stream is so dropped, and what still comes of
     /// it until it ends is acknowledged and dropped, too: so none of it takes room in the receive buffer, however much

@@ -9,7 +9,7 @@ use Rattle.sctp_resets.proofs.FrontWaits.{waits_before_told}
 use Rattle.sctp_assoc.specs.declared.inbound.Flow.TheVariants as flows
 use Rattle.sctp_assoc.specs.Calls.{sends_data}
 use Rattle.sctp_assoc.specs.Chunks.{counted_sack}
-use Rattle.sctp_assoc.specs.Probes.{probes_answered}
+use Rattle.sctp_assoc.specs.Probes.{is_probing, probes_answered}
 use Rattle.sctp_assoc.specs.Shutdown.{shutdown_continued}
 use Rattle.sctp_assoc.proofs.SacksTell.{some_fell, taken_leaves, taken_takes}
 use Rattle.sctp_assoc.proofs.association.Association.on_sack.Goals.{In-Taken}
@@ -50,7 +50,7 @@ pub returns-in_ok-tell_ascending-in-Taken-clause-exact : goal.returns-in_ok-tell
 returns-in_ok-tell_ascending-in-Taken-clause-exact c =
     let sacked = c.on_sack-outcome.new in
     let arm = (goal.at.returns-in_ok-tell_ascending-in-Taken-clause-exact c).In-Taken in
-    rw (c.answer_probes.ensures, c.continue_shutdown.ensures, c.inc_sacks.ensures)
+    rw (c.answer_probes.ensures, c.continue_shutdown.ensures, c.is_probing-probing.ensures, c.inc_sacks.ensures)
     (taken_leaves c.args.self.now c.args.cumulative_tsn_ack c.args.blocks.now c.args.window c.args.now sacked.self
     sacked.rto sacked.streams (was_sending arm) (was_taken arm) (took arm) c.args.trigger
     c.ask_for_forward_tsn.new.self sacked.timers c.tell_ascending.new.events (ascending sacked.fallen.ids)
@@ -59,7 +59,7 @@ returns-in_ok-tell_ascending-in-Taken-clause-exact c =
     (rw (← c.self.view_is) c.in_ok-tell_ascending-in-Taken.ensures.told)
     ((those_gathered arm).whole c.in_ok-tell_ascending-in-Taken.ensures.whole)
     ∙ ap (λ z. (
-      probes_answered z.sender.advertised_window c.args.window
+      probes_answered (is_probing z.profile z.sender) c.args.window
           (shutdown_continued (record (counted_sack z) {
             sender = c.ask_for_forward_tsn.new.self;
             estimate = sacked.rto;
