@@ -68,6 +68,8 @@ def archive():
 
 
 def run(command, **more):
+    if not shutil.which(command[0]):
+        stop(f"no {command[0]}: install it (CC may name another C compiler)")
     if subprocess.run(command, check=False, **more).returncode != 0:
         stop(f"this failed: {' '.join(command)}")
 

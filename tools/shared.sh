@@ -1,0 +1,27 @@
+# shellcheck shell=bash
+# What the scripts in bash share. Each sources this once it has set `root`, the folder of the checkout.
+
+# A script's head, the comment at its top, is what it prints for --help.
+[ "${1-}" != --help ] || exec sed -n '2,/^[^#]/s/^# \{0,1\}//p' "$0"
+
+# Ends the script with one line that says why.
+stop() {
+    local script="${0#./}"
+    echo "${script#"$root/"}: $1" >&2
+    exit 1
+}
+
+# Ends it where one of these tools is missing, with what to do.
+needs() {
+    local tool
+    for tool; do
+        command -v "$tool" > /dev/null && continue
+        case "$tool" in
+            rt) stop "no rt: install the Rattle kit that README.md names, and put its rt on the path" ;;
+            ar | nm | objcopy) stop "no $tool: install binutils" ;;
+            cargo) stop "no cargo: install Rust (https://rustup.rs)" ;;
+            "${CC:-cc}") stop "no C compiler: install one, or name it by CC" ;;
+            *) stop "no $tool: install it" ;;
+        esac
+    done
+}
