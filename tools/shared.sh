@@ -25,3 +25,27 @@ needs() {
         esac
     done
 }
+
+# The version that the headers tell.
+version() {
+    awk '/^#define SCTP_ASSOC_VERSION_(MAJOR|MINOR|PATCH) / { printf "%s%s", dot, $3; dot = "." }' \
+        "$root/include/sctp_assoc.h"
+}
+
+# What pkg-config reads of an archive: the name of that; how the folder above it and above the headers is called from
+# where this file lies, so that all of them can be moved together; and the archive's folder in that one.
+pc() {
+    local what="the association layer of SCTP, without input or output"
+    [ "$1" = sctp_assoc ] || what="data channels over $what"
+    cat << END
+prefix=\${pcfiledir}/$2
+libdir=\${prefix}/$3
+includedir=\${prefix}/include
+
+Name: $1
+Description: $what
+Version: $(version)
+Cflags: -I\${includedir}
+Libs: -L\${libdir} -l$1
+END
+}
