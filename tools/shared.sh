@@ -26,6 +26,19 @@ needs() {
     done
 }
 
+# Sees to it that the variables which name the archives do so, wherever a script goes. What none names ./library builds.
+take_archives() {
+    local archive
+    SCTP_CHANNELS_ARCHIVE="${SCTP_CHANNELS_ARCHIVE:-$("$root/library" channels)}"
+    SCTP_ASSOC_ARCHIVE="${SCTP_ASSOC_ARCHIVE:-$root/out/libsctp_assoc.a}"
+    for archive in "$SCTP_ASSOC_ARCHIVE" "$SCTP_CHANNELS_ARCHIVE"; do
+        [ -f "$archive" ] || stop "no archive at $archive"
+    done
+    SCTP_ASSOC_ARCHIVE="$(realpath "$SCTP_ASSOC_ARCHIVE")"
+    SCTP_CHANNELS_ARCHIVE="$(realpath "$SCTP_CHANNELS_ARCHIVE")"
+    export SCTP_ASSOC_ARCHIVE SCTP_CHANNELS_ARCHIVE
+}
+
 # The version that the headers tell.
 version() {
     awk '/^#define SCTP_ASSOC_VERSION_(MAJOR|MINOR|PATCH) / { printf "%s%s", dot, $3; dot = "." }' \
