@@ -1,11 +1,21 @@
 //! Finds the archive to link with: the file that `SCTP_ASSOC_ARCHIVE` names, else what `./library` built in the
-//! checkout in which this crate lies. With the feature `channels` it is the one of `SCTP_CHANNELS_ARCHIVE` and of
-//! `./library channels`. On docs.rs, where nothing is linked, there need be none.
+//! checkout in which this crate lies, or what lies in the same release. With the feature `channels` it is the one of
+//! `SCTP_CHANNELS_ARCHIVE` and of `./library channels`. On docs.rs, where nothing is linked, there need be none.
 use std::path::{Path, PathBuf};
 use std::{env, process};
 
+/// Where the archive is: in `out/` of a checkout, or in `lib/` of a release.
+fn lies_in(root: &Path, file: &str) -> PathBuf {
+    let (built, released) = (root.join("out").join(file), root.join("lib").join(file));
+    if released.exists() && !built.exists() {
+        released
+    } else {
+        built
+    }
+}
+
 fn main() {
-    let here = Path::new(env!("CARGO_MANIFEST_DIR"));
+    let root = Path::new(env!("CARGO_MANIFEST_DIR")).join("../../..");
     let (variable, file, command) = if env::var_os("CARGO_FEATURE_CHANNELS").is_some() {
         ("SCTP_CHANNELS_ARCHIVE", "libsctp_channels.a", "./library channels")
     } else {
@@ -18,7 +28,7 @@ fn main() {
     }
     let archive = match env::var_os(variable) {
         Some(named) => PathBuf::from(named),
-        None => here.join("../../../out").join(file),
+        None => lies_in(&root, file),
     };
     println!("cargo:rerun-if-changed={}", archive.display());
     let name = archive.file_stem().and_then(|stem| stem.to_str()).and_then(|stem| stem.strip_prefix("lib"));

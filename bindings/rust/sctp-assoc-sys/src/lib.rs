@@ -6,8 +6,9 @@
 //! writing; a slot begins as [`sctp_assoc::EMPTY`], is changed by these calls alone and is not copied while it holds an
 //! association; and a slot is used by one call at a time.
 //!
-//! To be linked with, it needs the archive that `./library` builds in a checkout of `sctp_assoc`. It takes the file
-//! that the environment variable `SCTP_ASSOC_ARCHIVE` names, or finds it in the checkout in which it lies.
+//! To be linked with, it needs the archive that `./library` builds in a checkout of `sctp_assoc`, and that a release
+//! has. It takes the file that the environment variable `SCTP_ASSOC_ARCHIVE` names, or finds it in the checkout or the
+//! release in which it lies.
 //!
 //! With the feature `channels` it has the calls of `include/sctp_channels.h` besides: data channels (RFC 8831, RFC
 //! 8832), of which the same holds. Then it takes the archive that `./library channels` builds, which has both, and that

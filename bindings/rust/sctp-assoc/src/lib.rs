@@ -1,6 +1,6 @@
 //! The association layer of SCTP (RFC 4960) without input or output: safe Rust over the library that `./library`
-//! builds, whose functions are proved. `sctp-assoc-sys` looks for it in its checkout, or where `SCTP_ASSOC_ARCHIVE`
-//! says.
+//! builds, whose functions are proved. `sctp-assoc-sys` looks for it in its checkout or its release, or where
+//! `SCTP_ASSOC_ARCHIVE` says.
 //!
 //! An [`Association`] reads no clock, no socket and no random source; [`Identity::random`] alone asks the system for
 //! random bytes. One turn of its loop, at the moment `now`:
