@@ -4,7 +4,8 @@
  * channel. The end of either side's input ends the chat at both, once all that was said was sent and acknowledged.
  * docs/GUIDE.md explains the calls.
  *
- *   cc -O2 -Iinclude -o chat examples/chat.c "$(./library channels)"
+ *   ./library channels            builds the archive, once; a release has it in lib/, not in out/
+ *   cc -O2 -Iinclude -o chat examples/chat.c out/libsctp_channels.a
  *   ./chat serve                  takes a free port, and prints which
  *   ./chat connect 9899
  */

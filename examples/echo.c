@@ -3,7 +3,8 @@
  * 8,192 bytes and looks at what comes back. Then the client closes the stream, which ends at both sides, and shuts the
  * association down, which ends at both sides, too. docs/GUIDE.md explains the calls.
  *
- *   cc -O2 -Iinclude -o echo examples/echo.c "$(./library)"
+ *   ./library                             builds the archive, once; a release has it in lib/, not in out/
+ *   cc -O2 -Iinclude -o echo examples/echo.c out/libsctp_assoc.a
  *   ./echo server 9899                    serves up to 16 clients; at port 0 it takes a free one, and prints which
  *   ./echo client 127.0.0.1 9899 100
  */

@@ -3,7 +3,8 @@
  * that goes there and back, and what passes below. HTTP carries the page, its offer and the answer. Above a UDP socket
  * stand ICE-lite (RFC 8445 section 2.5), DTLS 1.2 by OpenSSL, and one association. docs/GUIDE.md explains the calls.
  *
- *   cc -O2 -Iinclude -o webrtc examples/webrtc.c "$(./library channels)" -lssl -lcrypto
+ *   ./library channels            builds the archive, once; a release has it in lib/, not in out/
+ *   cc -O2 -Iinclude -o webrtc examples/webrtc.c out/libsctp_channels.a -lssl -lcrypto
  *   ./webrtc                      then open the page that it names; Ctrl-C ends it
  *
  *   --address A, --port N         where it is, by TCP and UDP; else 127.0.0.1, which Firefox leaves out, and 8080
