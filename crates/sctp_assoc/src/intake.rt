@@ -39,7 +39,9 @@ impl Found {
 }
 
 impl Association {
-    // How the stream stands, which is made where it is missing. It is absent then only where no generation is left.
+    // How the stream stands, which is made where it is missing. It is absent then only where no generation is left. Each
+    // new DATA comes here, so this function is put into its callers.
+    #[inline(always)]
     #[tactic(auto, unfolding(crate::specs::Finding::stream_found))]
     pub(crate) fn find_stream(&mut self, id: u16) -> Result<Found, AllocError>
         ensures exact { IfOk result (λ found. stream_found self.old id ≡ (self.new, is_there found)) }

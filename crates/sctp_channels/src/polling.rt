@@ -69,8 +69,6 @@ impl Channels {
         Err(ChannelError::Beneath(Error::ErrNoMemory))
     }
 
-    // Nearly all events come here, so this function is put into its caller, as those are that it calls for them.
-    #[inline(always)]
     #[tactic(auto, unfolding(crate::specs::Turning::TakesTurn))]
     fn turn(&mut self, driver: &mut Driver) -> Result<Turn, Error>
         ensures takes { TakesTurn self.old driver.old result self.new driver.new }
@@ -98,7 +96,6 @@ impl Channels {
         self.due.front().copied()
     }
 
-    #[inline(never)]
     #[tactic(auto, unfolding(crate::specs::Turning::LooksNext))]
     fn look_at(&mut self, driver: &mut Driver, id: StreamId) -> Result<Turn, Error>
         ensures looks { LooksNext id self.old driver.old result self.new driver.new }
@@ -159,7 +156,6 @@ impl Channels {
         Ok(Turn::Silent)
     }
 
-    #[inline(always)]
     #[tactic(auto, using(crate::proofs::Unannounced::acks_none), unfolding(crate::specs::Turning::TakesEvent))]
     fn take_event(&mut self, driver: &mut Driver) -> Result<Turn, Error>
         requires { self.old.due ≡ [] }
@@ -189,7 +185,6 @@ impl Channels {
 }
 
 // Makes room for a stream to look at where none is, so that any place that there is is free.
-#[inline(always)]
 fn make_room(due: &mut VecDeque<StreamId>) -> Result<(), AllocError>
     requires { due.old.items ≡ [] }
     ensures none { due.new.items ≡ [] }
@@ -202,7 +197,6 @@ fn make_room(due: &mut VecDeque<StreamId>) -> Result<(), AllocError>
 }
 
 // What an event asks for where no stream is to be looked at.
-#[inline(always)]
 #[tactic(auto, unfolding(crate::specs::Turning::MeetsEvent, crate::specs::Turning::accepted_where))]
 fn meet_event(
     alloc: Global,

@@ -28,7 +28,9 @@ pub(crate) fn may_pass(error: Error) -> bool
     matches!(error, Error::ErrNoMemory | Error::ErrAssociationFailed)
 }
 
-/// The next message of a stream; `Nothing` also where the stream is gone or its read half closed.
+/// The next message of a stream; `Nothing` also where the stream is gone or its read half closed. It is put into its
+/// callers, so that what was read is not handed on once more.
+#[inline(always)]
 pub(crate) fn read(
     driver: &mut Driver,
     id: StreamId,
