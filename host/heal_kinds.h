@@ -12,10 +12,11 @@ enum kind {
     READ_OUT_OF_ORDER,
     CLOSED,              /* an end closed by a fault that it saw, or by the peer's ABORT */
     EXHAUSTED_SKIPPED,   /* the receive buffer is full of what can never be read, where messages could be given up .. */
-    EXHAUSTED_STOPPED,   /* .. where a stream was stopped, and none was reset before .. */
-    EXHAUSTED,           /* .. or where neither is so */
+    EXHAUSTED_STOPPED,   /* .. where a stream was stopped .. */
+    EXHAUSTED,           /* .. where neither is so, or a stream was reset before */
     SELF_CLOSED,         /* a stream ended that nobody had closed since it was opened anew */
-    UNREAD_SKIPPED,      /* a reliable message is not read, where the first of its stream could be given up .. */
+    UNREAD_SKIPPED,      /* a reliable message is not read, where the first of its stream could be given up, and that
+                            was never reset .. */
     UNREAD,              /* .. or where it could not */
     BUFFERED,            /* what was accepted is neither acknowledged nor given up */
     RESET_AFTER_FAILED,  /* a reset does not end, where an earlier one was given up */

@@ -37,6 +37,11 @@ static enum kind what_waits_on(int end, int place) {
     return stream->is_finished ? RESET_UNANSWERED : WELL;
 }
 
+/* Whether either end was told of an end of a reset of the stream. */
+static bool was_reset(int place) {
+    return applications[A].streams[place].complete_at > 0 || applications[B].streams[place].complete_at > 0;
+}
+
 /* What one end wrote on a stream is owed as long as both go on, or its shutdown does. */
 static enum kind what_is_unread(int writer, int place) {
     const struct stream *stream = &applications[writer].streams[place];
@@ -44,7 +49,7 @@ static enum kind what_is_unread(int writer, int place) {
         return WELL;
     if (applications[writer].is_over && watches[writer].end != SCTP_ASSOC_END_SHUT_DOWN)
         return WELL;
-    return !set.is_first_reliable && stream->has_loose ? UNREAD_SKIPPED : UNREAD;
+    return stream->has_loose && !set.is_first_reliable && !was_reset(place) ? UNREAD_SKIPPED : UNREAD;
 }
 
 static bool has_ended(int end) {
@@ -92,11 +97,13 @@ static enum kind kind_of_exhaustion(int reader) {
         const struct stream *theirs = &applications[!reader].streams[place];
         has_stopped |= own->is_stopping;
         has_loose |= theirs->has_loose;
-        has_reset |= own->complete_at > 0 || theirs->complete_at > 0 || (theirs->is_finished && !own->is_stopping);
+        has_reset |= was_reset(place) || (theirs->is_finished && !own->is_stopping);
     }
+    if (has_reset)
+        return EXHAUSTED;
     if (has_loose && !set.is_first_reliable)
         return EXHAUSTED_SKIPPED;
-    return has_stopped && !has_reset ? EXHAUSTED_STOPPED : EXHAUSTED;
+    return has_stopped ? EXHAUSTED_STOPPED : EXHAUSTED;
 }
 
 static enum kind kind_of_end(int end) {
