@@ -1,6 +1,6 @@
 -- What each call does to the two directions is what its acts say.
 use Rattle.std.proofs.Common.{◌≡◌, refl, sym, ap, ◌∙◌, subst, ℕ, ◌<◌, ◌≤◌, ◌+◌, ◌-◌, ◌%◌, ◌^◌, arith}
-use Rattle.std.proofs.Common.{Bool, true, false, List, [], ◌∷◌, length, if◌then◌else◌, nat_lt}
+use Rattle.std.proofs.Common.{Bool, true, false, List, [], ◌∷◌, length, if◌then◌else◌, is_some, nat_lt}
 use Rattle.std.proofs.Common.{Option, Some, None, Result, Ok, Err}
 use Rattle.std.proofs.lemmas.Bool.{false≢true, ltb-false}
 use Rattle.std.proofs.lemmas.List.{append-nil}
@@ -13,6 +13,7 @@ use Rattle.sctp_wire_types.specs.declared.packet.CommonHeader.{CommonHeader}
 use Rattle.sctp_wire_types.specs.declared.error.Error.{Error}
 use Rattle.sctp_wire_types.specs.declared.error.Error.TheVariants as errors
 use Rattle.sctp_wire_types.specs.Checks.{checked_chunk}
+use Rattle.sctp_wire_types.specs.Config.{is_rfc}
 use Rattle.sctp_wire.specs.declared.packet.Packet.{Packet}
 use Rattle.sctp_parts.specs.declared.timer.Timer.TheVariants as names
 use Rattle.sctp_parts.specs.Estimate.{Estimate}
@@ -53,7 +54,8 @@ use Rattle.sctp_reset_requests.specs.Debts.{DebtsView}
 use Rattle.sctp_reset_requests.specs.Own as own_requests
 use Rattle.sctp_reset_requests.specs.Own.{OwnView}
 use Rattle.sctp_resets.specs.Answers.{Answering, answering, failed_each, with_told}
-use Rattle.sctp_resets.specs.Resets.{Beside, ResetsView, event_told, given_up, given_up_where}
+use Rattle.sctp_resets.specs.Resets.{Beside, ResetsView, event_told, given_up, given_up_for_now, given_up_where}
+use Rattle.sctp_resets.proofs.ListsOver.{of_chosen}
 use Rattle.sctp_assoc.specs.Probes.{is_probing, opens_window, probes_answered}
 use Rattle.sctp_assoc.specs.Resets.{after_reconfig_timer, asks_again, gives_up, reconfig_expired, with_beside}
 use Rattle.sctp_assoc.specs.Calls.{accepted_from, accepted_stream, adjusted, after_ack_delay, after_t3, event_from}
@@ -61,7 +63,7 @@ use Rattle.sctp_assoc.specs.Calls.{event_polled, opened}
 use Rattle.sctp_assoc.specs.Calls.{with_max_send_message_size}
 use Rattle.sctp_assoc.specs.Closing.{closed_by}
 use Rattle.sctp_assoc.specs.Calls.{retransmits, t3_expired, written, written_at, is_beginning}
-use Rattle.sctp_assoc.specs.Calls.{is_cookie_echoed, is_cookie_wait, is_established, sends_data}
+use Rattle.sctp_assoc.specs.Calls.{is_cookie_echoed, is_cookie_wait, sends_data}
 use Rattle.sctp_assoc.specs.Closing.{is_closed_state}
 use Rattle.sctp_assoc.specs.Chunks.{after_chunks, after_packet, after_packet_of, after_sack}
 use Rattle.sctp_assoc.specs.Chunks.{checked_first, counted_sack, dispatched, ended, goes_on}
@@ -71,13 +73,14 @@ use Rattle.sctp_assoc.specs.Happened.{acts_after, acts_of_checked, acts_of_chunk
 use Rattle.sctp_assoc.specs.Happened.{acts_of_kind, acts_of_packet, acts_of_packet_of}
 use Rattle.sctp_assoc.specs.Happened.{acts_of_outcome, acts_of_sack, acts_of_init, acts_of_init_ack}
 use Rattle.sctp_assoc.specs.Happened.{acts_of_t3, acts_of_timeouts, marks_if}
-use Rattle.sctp_assoc.specs.Handshake.{acknowledged_cookie, after_t1_init, answered, connected}
-use Rattle.sctp_assoc.specs.Handshake.{cookie_queued, echoed, information_returned, init_queued, learned, on_cookie_ack}
+use Rattle.sctp_assoc.specs.Handshake.{acknowledged_cookie, acknowledges_again, after_t1_init, connected, keeps_peer}
+use Rattle.sctp_assoc.specs.Handshake.{cookie_queued, echoed, information_returned, init_queued, on_cookie_ack}
 use Rattle.sctp_assoc.specs.Handshake.{on_cookie_echo, on_heartbeat, on_init, on_init_ack, sends_cookie, sends_init}
 use Rattle.sctp_assoc.specs.Handshake.{t1_cookie_expired, t1_init_expired, with_echo}
 use Rattle.sctp_assoc.specs.Timeouts.{after_handshake_timers, after_shutdown_timer, after_timeouts}
 use Rattle.sctp_assoc.specs.Shown.{Shown}
-use Rattle.sctp_assoc.specs.Shutdown.{after_t2_shutdown, shutdown_answered, shutdown_continued, shutdown_taken}
+use Rattle.sctp_assoc.specs.Shutdown.{after_t2_shutdown, shutdown_again, shutdown_answered, shutdown_continued}
+use Rattle.sctp_assoc.specs.Shutdown.{shutdown_taken}
 use Rattle.sctp_assoc.specs.Skipping.{skips_of}
 pub use Rattle.sctp_assoc.proofs.DataLeadsOn.{asks_keeps, asks_same, data_leads, next_leads}
 pub use Rattle.sctp_assoc.proofs.ClosesLeadOn.{close_leads, exhausted_leads}
@@ -244,12 +247,14 @@ returned_leads (Some information) a h binds =
 
 -- Where each chunk leads an association that stands on this history.
 module _ (a : Shown) (trigger : AckTrigger) (h : History) (binds : Binds a h) where
-  init_leads : (c : Bool) (header : CommonHeader) (init : ChunkInit) → is_beginning a.state ≡ c
+  init_leads : (c keeps : Bool) (header : CommonHeader) (init : ChunkInit) → is_beginning a.state ≡ c
+      → keeps_peer a init ≡ keeps
       → (k : History) × Leads (acts_of_init a init) a h (on_init a header init trigger).0 k
   unfolding on_init
-  init_leads true header init e =
-      rw e (peer_known_leads a (answered (learned a header init)) init.initial_tsn h binds refl refl refl refl)
-  init_leads false header init e = rw e (h, leads_nowhere a a h binds refl refl)
+  init_leads true true header init e f = rw (e, f) (h, leads_nowhere a _ h binds refl refl)
+  init_leads true false header init e f =
+      rw (e, f) (peer_known_leads a _ init.initial_tsn h binds refl refl refl refl)
+  init_leads false keeps header init e f = rw e (h, leads_nowhere a a h binds refl refl)
 
   echoed_leads : (o : Option (List ℕ)) (b : Shown) (t now : ℕ)
       → b.sender.queue ≡ a.sender.queue → b.streams ≡ a.streams
@@ -272,16 +277,16 @@ module _ (a : Shown) (trigger : AckTrigger) (h : History) (binds : Binds a h) wh
   init_ack_leads true false header init now e f = rw (e, f) (h, leads_nowhere a _ h binds refl refl)
   init_ack_leads false back header init now e f = rw e (h, leads_nowhere a a h binds refl refl)
 
-  cookie_echo_leads : (issued beginning established : Bool) (cookie : List ℕ)
+  cookie_echo_leads : (issued beginning again : Bool) (cookie : List ℕ)
       → has_issued a.handshake cookie ≡ issued
-      → is_beginning a.state ≡ beginning → is_established a.state ≡ established
+      → is_beginning a.state ≡ beginning → acknowledges_again a ≡ again
       → (k : History) × Leads [] a h (on_cookie_echo a cookie trigger).0 k
   unfolding on_cookie_echo
-  cookie_echo_leads false beginning established cookie e f g = rw e (h, leads_nowhere a a h binds refl refl)
-  cookie_echo_leads true true established cookie e f g =
+  cookie_echo_leads false beginning again cookie e f g = rw e (h, leads_nowhere a a h binds refl refl)
+  cookie_echo_leads true true again cookie e f g =
       rw (e, f) (h, leads_nowhere a (acknowledged_cookie (connected a)) h binds refl refl)
   cookie_echo_leads true false true cookie e f g =
-      rw (e, f, g) (h, leads_nowhere a (acknowledged_cookie a) h binds refl refl)
+      rw (e, f, g) (h, leads_nowhere a (acknowledged_cookie (shutdown_again a)) h binds refl refl)
   cookie_echo_leads true false false cookie e f g = rw (e, f, g) (h, leads_nowhere a a h binds refl refl)
 
   cookie_ack_leads : (c : Bool) → is_cookie_echoed a.state ≡ c
@@ -303,7 +308,8 @@ module _ (a : Shown) (trigger : AckTrigger) (h : History) (binds : Binds a h) wh
   kind_leads header (chunks.SelectiveAck sack) now =
       sack_leads a sack.cumulative_tsn_ack sack.gap_ack_blocks sack.advertised_receiver_window_credit trigger now h
       binds (sends_data a.state) refl
-  kind_leads header (chunks.Init init) now = init_leads (is_beginning a.state) header init refl
+  kind_leads header (chunks.Init init) now =
+      init_leads (is_beginning a.state) (keeps_peer a init) header init refl refl
   kind_leads header (chunks.InitAck init) now =
       init_ack_leads (is_cookie_wait a.state) (comes_back a.handshake header) header init now refl refl
   kind_leads header (chunks.Heartbeat x) now = heartbeat_leads x
@@ -313,7 +319,7 @@ module _ (a : Shown) (trigger : AckTrigger) (h : History) (binds : Binds a h) wh
   kind_leads header chunks.ShutdownAck now = (h, leads_nowhere a (shutdown_answered a) h binds refl refl)
   kind_leads header (chunks.Error x) now = (h, leads_nowhere a a h binds refl refl)
   kind_leads header (chunks.CookieEcho x) now =
-      cookie_echo_leads (has_issued a.handshake x) (is_beginning a.state) (is_established a.state) x refl refl refl
+      cookie_echo_leads (has_issued a.handshake x) (is_beginning a.state) (acknowledges_again a) x refl refl refl
   kind_leads header chunks.CookieAck now = cookie_ack_leads (is_cookie_echoed a.state) refl
   kind_leads header chunks.ShutdownComplete now = (h, leads_nowhere a a h binds refl refl)
   kind_leads header (chunks.Reconfig x) now = (h, chunk_reconfig_leads a x trigger h binds)
@@ -508,27 +514,44 @@ given_up_streams (own, None) r m told = refl
 given_up_streams (own, Some q) r m told =
     told_streams (answering r.debts m told) (failed_each failures.Failed q.ids (r.debts, told))
 
-abbrev stopped_beside : Shown → Beside → Shown
-stopped_beside a b = (let c = with_beside a b in record c { timers = with_stopped names.Reconfig c.timers })
+given_up_leaves : (r : ResetsView) (m : StreamMap) (told : List Event) → (given_up r m told).1 ≡ m
+given_up_leaves r m told =
+    of_chosen (λ (b : Beside). b.1 ≡ m) (is_rfc r.own.profile) (given_up_for_now r m told)
+    (given_up_where (own_requests.ended r.own) r m told) refl
+    (given_up_streams (own_requests.ended r.own) r m told)
 
-stopped_leads : (b : Beside) (a : Shown) (h : History) → b.1 ≡ a.streams → Binds a h
-    → Leads [] a h (stopped_beside a b) h
-stopped_leads (r, m, told) a h same binds =
-    leads_nowhere a (stopped_beside a (r, m, told)) h binds
+beside_leads : (b : Beside) (a : Shown) (h : History) → b.1 ≡ a.streams → Binds a h
+    → Leads [] a h (with_beside a b) h
+beside_leads (r, m, told) a h same binds =
+    leads_nowhere a (with_beside a (r, m, told)) h binds
     (ap (λ (z : StreamMap). (let p = parts a h in record p { streams = z })) same) refl
+
+-- whether the active request goes out again behind that or not
+repeating_leads : (on : Bool) (a : Shown) (now : ℕ) (h : History) → Binds a h
+    → Leads [] a h (if on then asks_again a now else record a { timers = with_stopped names.Reconfig a.timers }) h
+repeating_leads true a now h binds = leads_nowhere a (asks_again a now) h binds refl refl
+repeating_leads false a now h binds =
+    leads_nowhere a (record a { timers = with_stopped names.Reconfig a.timers }) h binds refl refl
+
+giving_up_leads : (a : Shown) (now : ℕ) (h : History) → Binds a h → Leads [] a h (gives_up a now) h
+giving_up_leads a now h binds =
+    let left : Beside = given_up a.resets a.streams a.events in
+    let b : Shown = with_beside a left in
+    let one : Leads [] a h b h =
+    beside_leads left a h (given_up_leaves a.resets a.streams a.events) binds in
+    leads_on [] [] one (repeating_leads (is_some b.resets.own.active) b now h one.binds)
 
 reconfig_leads : (expired failure : Bool) (a : Shown) (now : ℕ) (h : History) → Binds a h
     → Leads [] a h
-    (if expired then (if failure then gives_up (reconfig_expired a now) else asks_again (reconfig_expired a now) now)
+    (if expired then
+    (if failure then gives_up (reconfig_expired a now) now else asks_again (reconfig_expired a now) now)
     else a) h
 reconfig_leads false failure a now h binds = leads_nowhere a a h binds refl refl
 reconfig_leads true false a now h binds = leads_nowhere a (asks_again (reconfig_expired a now) now) h binds refl refl
 reconfig_leads true true a now h binds =
     let c : Shown = reconfig_expired a now in
-    leads_on [] [] (leads_nowhere a c h binds refl refl)
-    (stopped_leads (given_up c.resets c.streams c.events) c h
-    (given_up_streams (own_requests.ended c.resets.own) c.resets c.streams c.events)
-    (record { first = binds.first; peer_last_tsn = binds.peer_last_tsn; held = binds.held; marked = binds.marked }))
+    let one : Leads [] a h c h = leads_nowhere a c h binds refl refl in
+    leads_on [] [] one (giving_up_leads c now h one.binds)
 
 ack_delay_leads : (expired : Bool) (xs : List Act) (a b : Shown) (now : ℕ) (h : History)
     → (expiry_of names.Ack now b.timers).expired ≡ expired → Leads xs a h b h

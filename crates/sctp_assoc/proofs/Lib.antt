@@ -26,6 +26,7 @@ pub mod ForwardCame
 pub mod GivenApart
 pub mod Giving
 pub mod GivingUp
+pub mod HandshakeFacts
 pub mod Leading
 pub mod MarksOutstanding
 pub mod PacketEnds
@@ -39,6 +40,9 @@ pub mod QuietRequests
 pub mod ReadsLeadOn
 pub mod Replied
 pub mod RequestsGiven
+mod RequestsHandled
+mod RetiringStopped
+mod TimersTake
 pub mod ResetsLeadOn
 pub mod Stopping
 pub mod StopsLeadOn

@@ -446,9 +446,9 @@ without_read_half_of a id =
 abbrev pub unread_dropped : Bool → StreamMap → ℕ → StreamMap
 unread_dropped drops m id = if drops then changed_stream without_unread m id else m
 
--- The read half closes. A stream whose generation ended is read no more; another one is to be reset (RFC 6525 section
--- 5.1), and by the rules of the RFCs what waits of it is dropped, since it can never be delivered. The port keeps that
--- until the stream ends.
+-- The read half closes. A stream whose generation ended is read no more, and by the rules of the RFCs it is to be reset
+-- where something came behind that end. Another one is to be reset (RFC 6525 section 5.1), and by the rules of the RFCs
+-- what waits of it is dropped, since it can never be delivered. The port keeps that until the stream ends.
 abbrev pub stopped_open : Shown → ℕ → Shown
 stopped_open a id =
     (let b = without_read_half_of a id in

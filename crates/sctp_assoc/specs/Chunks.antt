@@ -1,6 +1,6 @@
 -- What the chunks of a packet do to an association (RFC 4960 sections 3.3 and 6.2).
 use Rattle.std.specs.Prelude.{ℕ, Bool, true, false, List, [], ◌∷◌, ◌++◌, ◌&&◌, if◌then◌else◌, not, is_some, length}
-use Rattle.std.specs.Prelude.{Option, Some, None, Result, Ok, Err}
+use Rattle.std.specs.Prelude.{nat_le, Option, Some, None, Result, Ok, Err}
 use Rattle.sctp_wire_types.specs.Config.{is_rfc}
 use Rattle.sctp_wire_types.specs.declared.config.Profile.{Profile}
 use Rattle.sctp_wire_types.specs.declared.error.Error.{Error}
@@ -223,6 +223,16 @@ on_sack a cumulative_tsn_ack blocks window trigger now =
 
 -- Any chunk
 
+-- the highest bit of a chunk type says that who does not know the chunk passes over it (RFC 4960 section 3.2)
+abbrev pub is_skippable : ℕ → Bool
+is_skippable kind = nat_le 128 kind
+
+-- by the rules of the RFCs what only tells something is passed over, and what its type lets be; by those of the port
+-- they are faults
+abbrev pub passed_over : Bool → Error → AckTrigger → Flow
+passed_over true fault trigger = flows.Next trigger
+passed_over false fault trigger = flows.Fault fault
+
 abbrev pub dispatched : Shown → CommonHeader → Chunk → AckTrigger → ℕ → Shown × Flow
 dispatched a header (chunks.Data piece) trigger now = on_data a piece trigger
 dispatched a header (chunks.SelectiveAck sack) trigger now =
@@ -241,15 +251,19 @@ dispatched a header (chunks.Shutdown cumulative_tsn_ack) trigger now = on_shutdo
 dispatched a header chunks.ShutdownAck trigger now = on_shutdown_ack a trigger
 dispatched a header chunks.ShutdownComplete trigger now = (a, on_shutdown_complete a.state trigger)
 dispatched a header (chunks.Abort abort) trigger now = (a, flows.Fault errors.ErrAbortChunk)
-dispatched a header (chunks.Error error) trigger now = (a, flows.Fault errors.ErrAbortChunk)
-dispatched a header chunk trigger now = (a, flows.Fault errors.ErrChunkTypeUnhandled)
+dispatched a header (chunks.Error error) trigger now =
+    (a, passed_over (is_rfc a.profile) errors.ErrAbortChunk trigger)
+dispatched a header (chunks.HeartbeatAck heartbeat) trigger now =
+    (a, passed_over (is_rfc a.profile) errors.ErrChunkTypeUnhandled trigger)
+dispatched a header (chunks.Other kind flags value) trigger now =
+    (a, passed_over (is_skippable kind && is_rfc a.profile) errors.ErrChunkTypeUnhandled trigger)
 
 abbrev pub checked_first : Result (Unit {0}) Error → Shown → CommonHeader → Chunk → AckTrigger → ℕ → Shown × Flow
 checked_first (Err fault) a header chunk trigger now = (a, flows.Fault fault)
 checked_first (Ok _) a header chunk trigger now = dispatched a header chunk trigger now
 
--- a chunk of a packet with this header; one that its own check refuses is a fault, and so are ABORT, ERROR and
--- any chunk that is not processed
+-- a chunk of a packet with this header; one that its own check refuses is a fault, and so are ABORT and those that are
+-- neither processed nor passed over
 unfoldable pub on_chunk : Shown → CommonHeader → Chunk → AckTrigger → ℕ → Shown × Flow
 on_chunk a header chunk trigger now = checked_first (checked_chunk chunk) a header chunk trigger now
 

@@ -67,7 +67,7 @@ fresh_association config size remote_addr local_ip side state handshake peer_las
   timers = stopped_timers config.max_init_retransmits config.max_data_retransmits config.rto_max_ms;
   estimate = initial_estimate config.rto_initial_ms config.rto_min_ms config.rto_max_ms;
   counts = no_counts;
-  resets = no_resets handshake.my_initial_tsn;
+  resets = no_resets (unwrap_or config.profile profiles.Port) handshake.my_initial_tsn;
 }
 
 abbrev pub joined_quietly : Settings → ℕ → SocketAddr → Option IpAddr → ChunkInit → ChunkInit → Shown

@@ -1,6 +1,8 @@
 -- The handshake, step by state and chunk, and the chunks beside it that are answered at once (RFC 4960 sections 5.1,
 -- 5.2 and 8.3).
-use Rattle.std.specs.Prelude.{ℕ, List, [], ◌∷◌, ◌++◌, if◌then◌else◌, Option, Some, None}
+use Rattle.std.specs.Prelude.{ℕ, Bool, true, false, ◌==◌, ◌&&◌, ◌||◌, List, [], ◌∷◌, ◌++◌, if◌then◌else◌, Option}
+use Rattle.std.specs.Prelude.{Some, None}
+use Rattle.sctp_wire_types.specs.Config.{is_rfc}
 use Rattle.sctp_wire_types.specs.declared.chunk.Chunk.TheVariants as chunks
 use Rattle.sctp_wire_types.specs.declared.chunk.ChunkHeartbeat.{ChunkHeartbeat}
 use Rattle.sctp_wire_types.specs.declared.chunk.ChunkInit.{ChunkInit}
@@ -8,8 +10,10 @@ use Rattle.sctp_wire_types.specs.declared.error.Error.TheVariants as errors
 use Rattle.sctp_wire_types.specs.declared.packet.CommonHeader.{CommonHeader}
 use Rattle.sctp_parts.specs.declared.state.AssociationState.TheVariants as states
 use Rattle.sctp_parts.specs.declared.timer.Timer.TheVariants as names
+use Rattle.sctp_parts.specs.State.{is_closing}
 use Rattle.sctp_parts.specs.Timers.{after_expiry, expiry_of, started, with_moment, with_stopped}
 use Rattle.sctp_streams.specs.declared.event.Event.TheVariants.{Connected}
+use Rattle.sctp_inbound.specs.declared.handshake.Handshake.{Handshake}
 use Rattle.sctp_inbound.specs.declared.handshake.Offer.{Offer}
 use Rattle.sctp_inbound.specs.declared.receiver.AckTrigger.{AckTrigger}
 use Rattle.sctp_inbound.specs.Handshake.{comes_back, established, has_issued, header_of, learned_by_init}
@@ -23,6 +27,7 @@ use Rattle.sctp_assoc.specs.declared.inbound.Flow.TheVariants as flows
 use Rattle.sctp_assoc.specs.Control.{queued, queued_under, untagged}
 use Rattle.sctp_assoc.specs.Calls.{is_beginning, is_cookie_echoed, is_cookie_wait, is_established}
 use Rattle.sctp_assoc.specs.Shown.{Shown}
+use Rattle.sctp_assoc.specs.Shutdown.{shutdown_again}
 
 -- the peer's initial TSN and its receive window are known
 abbrev pub learns_peer : Shown → ℕ → ℕ → Shown
@@ -34,10 +39,26 @@ learns_peer a initial_tsn window = record a {
 
 -- INIT
 
+abbrev pub is_tsn : Option ℕ → ℕ → Bool
+is_tsn None n = false
+is_tsn (Some m) n = m == n
+
+-- an INIT says the tag and the initial TSN that are known of the peer
+abbrev pub is_known_peer : Handshake → ChunkInit → Bool
+is_known_peer h init = h.peer_verification_tag == init.initiate_tag && is_tsn h.peer_initial_tsn init.initial_tsn
+
+-- by the rules of the RFCs such an INIT is a copy, or the peer's answer crossed it: what came of the peer, and its
+-- window, stay as they are (RFC 4960 sections 5.2.1 and 5.2.2)
+abbrev pub keeps_peer : Shown → ChunkInit → Bool
+keeps_peer a init = is_rfc a.profile && is_known_peer a.handshake init
+
+abbrev pub learned_unless : Bool → Shown → ChunkInit → Shown
+learned_unless true a init = a
+learned_unless false a init = learns_peer a init.initial_tsn init.advertised_receiver_window_credit
+
 abbrev pub learned : Shown → CommonHeader → ChunkInit → Shown
 learned a header init =
-    learns_peer (record a { handshake = learned_by_init a.handshake header init }) init.initial_tsn
-    init.advertised_receiver_window_credit
+    learned_unless (keeps_peer a init) (record a { handshake = learned_by_init a.handshake header init }) init
 
 -- INIT ACK goes out, with this side's cookie and its whole receive buffer
 abbrev pub answered : Shown → Shown
@@ -101,13 +122,20 @@ connected a = record a {
 abbrev pub acknowledged_cookie : Shown → Shown
 acknowledged_cookie a = queued a chunks.CookieAck
 
--- a COOKIE ECHO with the cookie that this side gave out establishes the association, and is acknowledged; where it is
--- established already it is acknowledged again
+-- a COOKIE ECHO that comes again is acknowledged again where the association is established, and by the rules of the
+-- RFCs also in a shutdown (RFC 4960 section 5.2.4, D)
+abbrev pub acknowledges_again : Shown → Bool
+acknowledges_again a = is_established a.state || (is_rfc a.profile && is_closing a.state)
+
+-- a COOKIE ECHO with the cookie that this side gave out establishes the association, and is acknowledged. Where it is
+-- acknowledged again, SHUTDOWN or SHUTDOWN ACK goes out again beside it if that waits for its answer: in CookieEchoed
+-- the peer took none
 unfoldable pub on_cookie_echo : Shown → List ℕ → AckTrigger → Shown × Flow
 on_cookie_echo a cookie trigger =
     if has_issued a.handshake cookie then
     (if is_beginning a.state then (acknowledged_cookie (connected a), flows.Next trigger) else
-    if is_established a.state then (acknowledged_cookie a, flows.Next trigger) else (a, flows.Next trigger))
+    if acknowledges_again a then (acknowledged_cookie (shutdown_again a), flows.Next trigger) else
+    (a, flows.Next trigger))
     else (a, flows.Next trigger)
 
 -- a COOKIE ACK counts in CookieEchoed alone

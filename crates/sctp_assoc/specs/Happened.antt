@@ -49,6 +49,7 @@ use Rattle.sctp_resets.specs.Within.{OwnOver, ParamOver}
 use Rattle.sctp_streams.specs.declared.setting.Setting.TheVariants as settings
 use Rattle.sctp_assoc.specs.Calls.{adjusted, exchanges_data, holds_of, is_beginning, is_cookie_wait}
 use Rattle.sctp_assoc.specs.Calls.{read_exhausts, sends_data, stopped_open}
+use Rattle.sctp_assoc.specs.Handshake.{keeps_peer}
 use Rattle.sctp_assoc.specs.Closing.{is_closed_state, is_exhausted}
 use Rattle.sctp_assoc.specs.Chunks.{counted_data, deferred_where_admitted, goes_unread, on_chunk, stream_found}
 use Rattle.sctp_assoc.specs.Chunks.{taken_in, taken_where_admitted}
@@ -156,9 +157,13 @@ acts_of_sack a cumulative_tsn_ack blocks window =
     (reports_of a.sender cumulative_tsn_ack blocks) (opens_window (is_probing a.profile a.sender) window)
     else []
 
--- an INIT that is answered tells the peer's initial TSN
+abbrev pub known_unless : Bool → ℕ → List Act
+known_unless true initial_tsn = []
+known_unless false initial_tsn = Act.PeerKnown initial_tsn ∷ []
+
+-- an INIT that is answered tells the peer's initial TSN, unless it is kept
 abbrev pub acts_of_init : Shown → ChunkInit → List Act
-acts_of_init a init = if is_beginning a.state then Act.PeerKnown init.initial_tsn ∷ [] else []
+acts_of_init a init = if is_beginning a.state then known_unless (keeps_peer a init) init.initial_tsn else []
 
 -- and so does an INIT ACK in CookieWait between the ports of this side's INIT
 abbrev pub acts_of_init_ack : Shown → CommonHeader → ChunkInit → List Act

@@ -23,8 +23,9 @@ use Rattle.sctp_outbound.specs.Sender.{sack_outcome}
 use Rattle.sctp_generations.specs.Generations.{has_retiring, has_skips}
 use Rattle.sctp_assoc.specs.declared.inbound.Flow.{Flow}
 use Rattle.sctp_assoc.specs.declared.inbound.Flow.TheVariants as flows
-use Rattle.sctp_assoc.specs.Calls.{is_beginning, is_cookie_echoed, is_cookie_wait, is_established, sends_data}
+use Rattle.sctp_assoc.specs.Calls.{is_beginning, is_cookie_echoed, is_cookie_wait, sends_data}
 use Rattle.sctp_assoc.specs.Closing.{is_closed_state}
+use Rattle.sctp_assoc.specs.Handshake.{acknowledges_again}
 use Rattle.sctp_assoc.specs.Chunks.{after_sack, intake_refusal, on_chunk}
 pub use Rattle.sctp_assoc.specs.Finding.{makes_stream}
 use Rattle.sctp_assoc.specs.Shown.{Shown, all_waiting}
@@ -85,9 +86,9 @@ abbrev pub init_ack_takes_memory : Shown → CommonHeader → ChunkInit → Bool
 init_ack_takes_memory a header init =
     is_cookie_wait a.state && (comes_back a.handshake header && is_some (first_cookie init.params))
 
--- a COOKIE ECHO is acknowledged only with the cookie that this side gave out, and not in a shutdown
+-- a COOKIE ECHO is acknowledged only with the cookie that this side gave out, and by the port's rules not in a shutdown
 abbrev pub cookie_echo_takes_memory : Shown → List ℕ → Bool
-cookie_echo_takes_memory a cookie = has_issued a.handshake cookie && (is_beginning a.state || is_established a.state)
+cookie_echo_takes_memory a cookie = has_issued a.handshake cookie && (is_beginning a.state || acknowledges_again a)
 
 -- a COOKIE ACK is told as an event in CookieEchoed alone
 abbrev pub cookie_ack_takes_memory : Shown → Bool
@@ -97,8 +98,8 @@ cookie_ack_takes_memory a = is_cookie_echoed a.state
 abbrev pub heartbeat_takes_memory : ChunkHeartbeat → Bool
 heartbeat_takes_memory heartbeat = is_some (information_of heartbeat.params)
 
--- whether a chunk that passes its check takes memory itself. ABORT, ERROR and chunks that are not processed take none,
--- but they are faults: the close of an open association takes memory for its events (`takes_memory_after`)
+-- whether a chunk that passes its check takes memory itself. ABORT, ERROR and chunks that are not processed take none;
+-- where they are faults, the close of an open association takes memory for its events (`takes_memory_after`)
 abbrev pub takes_memory : Shown → CommonHeader → Chunk → ℕ → Bool
 takes_memory a header (chunks.Data piece) now = data_takes_memory a piece
 takes_memory a header (chunks.SelectiveAck sack) now =

@@ -84,9 +84,12 @@ settling_takes_memory a =
 abbrev pub stopped_if : Bool → Shown → Shown
 stopped_if confirms a = if confirms then record a { timers = with_stopped names.Reconfig a.timers } else a
 
+-- what a request with this number led to is answered
+abbrev pub said_of : Handled → ℕ → Shown → Shown
+said_of h number a = responding (asking_if h.asks (stopped_if h.confirms a)) number h.answer
+
 abbrev pub handled_with : Shown → ℕ → Resetting × Handled → Shown
-handled_with a number (s, h) =
-    responding (asking_if h.asks (stopped_if h.confirms (with_resetting a s))) number h.answer
+handled_with a number (s, h) = said_of h number (with_resetting a s)
 
 -- a request of the peer, which is answered with the next poll (RFC 6525 section 5.2.2)
 unfoldable pub on_request : Shown → ParamOutgoingResetRequest → Shown
@@ -136,22 +139,28 @@ abbrev pub reconfig_expired : Shown → ℕ → Shown
 reconfig_expired a now =
     record a { timers = with_moment names.Reconfig None (after_expiry names.Reconfig now a.timers) }
 
-abbrev pub gives_up : Shown → Shown
-gives_up a =
-    (let b = with_beside a (given_up a.resets a.streams a.events) in
-    record b { timers = with_stopped names.Reconfig b.timers })
-
 abbrev pub asks_again : Shown → ℕ → Shown
 asks_again a now = record a {
   resets = timer_expired a.resets;
   timers = started names.Reconfig now a.estimate.rto a.timers;
 }
 
--- the active request was not answered in time: it goes out again, or past the limit it failed
+-- a request that is still active goes out again
+abbrev pub goes_on : Shown → ℕ → Shown
+goes_on a now =
+    if is_some a.resets.own.active then asks_again a now
+    else record a { timers = with_stopped names.Reconfig a.timers }
+
+-- the active request is given up; by the rules of the RFCs it goes out again all the same, at timeouts that are doubled
+-- up to the greatest one
+abbrev pub gives_up : Shown → ℕ → Shown
+gives_up a now = goes_on (with_beside a (given_up a.resets a.streams a.events)) now
+
+-- the active request was not answered in time: it goes out again, or past the limit it is given up
 abbrev pub after_reconfig_timer : Shown → ℕ → Shown
 after_reconfig_timer a now =
     if (expiry_of names.Reconfig now a.timers).expired then
-    (if (expiry_of names.Reconfig now a.timers).failed then gives_up (reconfig_expired a now)
+    (if (expiry_of names.Reconfig now a.timers).failed then gives_up (reconfig_expired a now) now
     else asks_again (reconfig_expired a now) now)
     else a
 

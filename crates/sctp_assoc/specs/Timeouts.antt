@@ -2,6 +2,7 @@
 use Rattle.std.specs.Prelude.{ℕ, Bool, ◌&&◌, ◌||◌, is_some, not}
 use Rattle.sctp_parts.specs.declared.timer.Timer.TheVariants as names
 use Rattle.sctp_parts.specs.Timers.{expiry_of}
+use Rattle.sctp_reset_requests.specs.Own.{is_given_up_anew}
 use Rattle.sctp_assoc.specs.Calls.{after_ack_delay, after_t3}
 use Rattle.sctp_assoc.specs.Handshake.{after_t1_cookie, after_t1_init}
 use Rattle.sctp_assoc.specs.Resets.{after_reconfig_timer}
@@ -23,10 +24,11 @@ after_sending_timers a now = after_t3 (after_shutdown_timer a now) now
 abbrev pub after_timeouts : Shown → ℕ → Shown
 after_timeouts a now = after_ack_delay (after_reconfig_timer (after_sending_timers a now) now) now
 
--- requests to reset streams are told as failed: their timer expired past its limit
+-- requests to reset streams are told as failed: their timer expired past its limit, by the rules of the RFCs for the
+-- first time
 abbrev pub gives_requests_up : Shown → ℕ → Bool
 gives_requests_up a now =
-    is_some a.resets.own.active
+    is_given_up_anew a.resets.own
     && ((expiry_of names.Reconfig now a.timers).expired && (expiry_of names.Reconfig now a.timers).failed)
 
 -- INIT is to go out again: its timer expired within its limit (RFC 4960 section 5.1)

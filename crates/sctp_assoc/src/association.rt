@@ -292,6 +292,7 @@ impl Association {
             peer_last_tsn window }
     {
         let initial_tsn = handshake.my_initial_tsn;
+        let profile = config.profile().unwrap_or(Profile::Port);
         Association {
             alloc,
             side,
@@ -301,7 +302,7 @@ impl Association {
             lost: false,
             failed: false,
             max_send_message_size: config.max_send_message_size(),
-            profile: config.profile().unwrap_or(Profile::Port),
+            profile,
             handshake,
             receiver: Receiver::new(
                 alloc,
@@ -328,7 +329,7 @@ impl Association {
                 config.rto_max_ms(),
             ),
             stats: AssociationStats::default(),
-            resets: Resets::new(alloc, initial_tsn),
+            resets: Resets::new(alloc, profile, initial_tsn),
             waiting_in_front: 0,
         }
     }

@@ -1,8 +1,9 @@
 // The handshake, step by state and chunk, and the chunks beside it that are answered at once.
 ghost use Rattle.std.specs.Prelude.{◌≡◌, OnErr, OnOk, IfOk, is_some, true};
-ghost use Rattle.sctp_assoc.specs.Handshake.{after_t1_cookie, after_t1_init, connected, echoed, learns_peer};
-ghost use Rattle.sctp_assoc.specs.Handshake.{learned_back, on_cookie_ack, on_cookie_echo, on_heartbeat, on_init};
-ghost use Rattle.sctp_assoc.specs.Handshake.{on_init_ack, sends_cookie, sends_init, with_echo};
+ghost use Rattle.sctp_assoc.specs.Handshake.{acknowledges_again, after_t1_cookie, after_t1_init, connected, echoed};
+ghost use Rattle.sctp_assoc.specs.Handshake.{keeps_peer, learned, learned_back, learns_peer, on_cookie_ack};
+ghost use Rattle.sctp_assoc.specs.Handshake.{on_cookie_echo, on_heartbeat, on_init, on_init_ack, sends_cookie};
+ghost use Rattle.sctp_assoc.specs.Handshake.{sends_init, with_echo};
 ghost use Rattle.sctp_assoc.specs.Memory.{cookie_ack_takes_memory, cookie_echo_takes_memory, heartbeat_takes_memory};
 ghost use Rattle.sctp_assoc.specs.Memory.{init_ack_takes_memory, init_takes_memory};
 ghost use Rattle.sctp_assoc.specs.Timeouts.{echoes_again, offers_again};
@@ -34,8 +35,7 @@ impl Association {
             AssociationState::Closed
             | AssociationState::CookieWait
             | AssociationState::CookieEchoed => {
-                self.handshake.on_init(&header, &init);
-                self.learn_peer(init.initial_tsn, init.advertised_receiver_window_credit);
+                self.learn(&header, &init);
                 let answer = self
                     .handshake
                     .init_ack(self.alloc, self.receiver.buffer_size)?;
@@ -44,6 +44,29 @@ impl Association {
             }
             _ => Ok(Flow::Fault(Error::ErrHandleInitState)),
         }
+    }
+
+    // By the rules of the RFCs an INIT that says what is known leaves what came of the peer (RFC 4960 sections 5.2.1
+    // and 5.2.2): it is a copy, or of a peer whose INIT ACK came before.
+    fn learn(&mut self, header: &CommonHeader, init: &ChunkInit)
+        ensures { self.new ≡ learned self.old header.now init.now }
+    {
+        let keeps_peer = self.keeps_peer(init);
+        self.handshake.on_init(header, init);
+        if !keeps_peer {
+            self.learn_peer(init.initial_tsn, init.advertised_receiver_window_credit);
+        }
+    }
+
+    fn keeps_peer(&self, init: &ChunkInit) -> bool
+        ensures { result ≡ keeps_peer self.now init.now }
+    {
+        self.is_by_rfcs()
+            && self.handshake.peer_verification_tag == init.initiate_tag
+            && match self.handshake.peer_initial_tsn {
+                Some(tsn) => tsn == init.initial_tsn,
+                None => false,
+            }
     }
 
     // The peer's initial TSN and its receive window are known.
@@ -95,7 +118,8 @@ impl Association {
         self.send_cookie(now)
     }
 
-    // COOKIE ECHO (RFC 4960 section 5.1): the cookie that this side gave out establishes the association.
+    // COOKIE ECHO (RFC 4960 section 5.1): the cookie that this side gave out establishes the association. Where it
+    // comes again in a shutdown, what of that waits for its answer goes out again, too.
     #[cold]
     #[inline(never)]
     #[tactic(auto, unfolding(crate::specs::Handshake::on_cookie_echo))]
@@ -117,10 +141,22 @@ impl Association {
                 self.connect()?;
                 self.queue_control(Chunk::CookieAck)?;
             }
-            AssociationState::Established => self.queue_control(Chunk::CookieAck)?,
-            _ => {}
+            _ => {
+                if self.acknowledges_again() {
+                    self.ask_again();
+                    self.queue_control(Chunk::CookieAck)?;
+                }
+            }
         }
         Ok(Flow::Next(trigger))
+    }
+
+    // Whether a COOKIE ECHO that comes again is acknowledged: its COOKIE ACK may have been lost (RFC 4960 section
+    // 5.2.4, D).
+    fn acknowledges_again(&self) -> bool
+        ensures { result ≡ acknowledges_again self.now }
+    {
+        self.state == AssociationState::Established || (self.is_by_rfcs() && self.is_closing())
     }
 
     // COOKIE ACK (RFC 4960 section 5.1): the echoed cookie established the association.

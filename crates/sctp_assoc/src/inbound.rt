@@ -1,6 +1,7 @@
 // One datagram, chunk by chunk.
-ghost use Rattle.std.specs.Prelude.{◌≡◌, ◌≢◌, ◌⊎◌, ◌∷◌, [], true, false, is_ok, OnErr, OnOk, IfOk, Ok, None};
+ghost use Rattle.std.specs.Prelude.{◌≡◌, ◌≢◌, ◌⊎◌, ◌∷◌, ◌&&◌, [], true, false, is_ok, OnErr, OnOk, IfOk, Ok, None};
 ghost use Rattle.std.specs.Prelude.{if◌then◌else◌};
+ghost use Rattle.sctp_wire_types.specs.Config.{is_rfc};
 ghost use Rattle.sctp_wire.specs.ChunkLists.{chunks_in};
 ghost use Rattle.sctp_wire.specs.Packets.{checked, finished};
 ghost use Rattle.sctp_inbound.specs.Receiver.{asked, is_new_to};
@@ -9,7 +10,7 @@ ghost use Rattle.sctp_assoc.specs.Memory.{chunk_takes_memory, chunks_take_memory
 ghost use Rattle.sctp_assoc.specs.Memory.{packet_takes_memory, taking_takes_memory, takes_memory, takes_memory_after};
 ghost use Rattle.sctp_assoc.specs.Chunks.{after_chunks, after_packet, dispatched, on_chunk, on_data, asks};
 ghost use Rattle.sctp_assoc.specs.Chunks.{asks_or_faults, deferred_where_admitted, goes_unread, ended, goes_on};
-ghost use Rattle.sctp_assoc.specs.Chunks.{taken_where_admitted};
+ghost use Rattle.sctp_assoc.specs.Chunks.{passed_over, taken_where_admitted};
 ghost use Rattle.sctp_assoc.specs.Resets.{settled, settling_takes_memory};
 ghost use Rattle.sctp_assoc.specs.Closing.{is_exhausted};
 
@@ -20,6 +21,9 @@ use sctp_wire_queues::{
     PartialDecode, check_packet,
 };
 use std::alloc::AllocError;
+
+// The types of chunks that who does not know them passes over have this bit (RFC 4960 section 3.2).
+const SKIPPABLE: u8 = 0x80;
 
 /// How a packet goes on after one of its chunks.
 pub enum Flow {
@@ -178,6 +182,7 @@ impl Association {
         self.dispatch(header, chunk, trigger, now)
     }
 
+    #[inline(always)]
     fn dispatch(
         &mut self,
         header: CommonHeader,
@@ -208,8 +213,30 @@ impl Association {
             Chunk::Shutdown(_) => Ok(self.on_shutdown(trigger)),
             Chunk::ShutdownAck => Ok(self.on_shutdown_ack(trigger)),
             Chunk::ShutdownComplete => Ok(self.on_shutdown_complete(trigger)),
-            Chunk::Abort(_) | Chunk::Error(_) => Ok(Flow::Fault(Error::ErrAbortChunk)),
-            _ => Ok(Flow::Fault(Error::ErrChunkTypeUnhandled)),
+            Chunk::Abort(_) => Ok(Flow::Fault(Error::ErrAbortChunk)),
+            Chunk::Error(_) => Ok(self.pass_chunk(true, Error::ErrAbortChunk, trigger)),
+            Chunk::HeartbeatAck(_) => Ok(self.pass_unhandled(true, trigger)),
+            Chunk::Other { kind, .. } => Ok(self.pass_unhandled(kind >= SKIPPABLE, trigger)),
+        }
+    }
+
+    fn pass_unhandled(&self, may_be: bool, trigger: AckTrigger) -> Flow
+        ensures { result
+            ≡ passed_over (may_be && is_rfc self.now.profile) Error.ErrChunkTypeUnhandled trigger }
+    {
+        self.pass_chunk(may_be, Error::ErrChunkTypeUnhandled, trigger)
+    }
+
+    // By the rules of the RFCs what only tells something ends nothing: an ERROR (RFC 4960 section 3.3.10), and the
+    // answer to a HEARTBEAT that was not sent (section 8.3). Nor does a chunk whose type lets it be passed over (section
+    // 3.2).
+    fn pass_chunk(&self, may_be: bool, fault: Error, trigger: AckTrigger) -> Flow
+        ensures { result ≡ passed_over (may_be && is_rfc self.now.profile) fault trigger }
+    {
+        if may_be && self.is_by_rfcs() {
+            Flow::Next(trigger)
+        } else {
+            Flow::Fault(fault)
         }
     }
 

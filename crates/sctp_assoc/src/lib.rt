@@ -73,10 +73,11 @@
 //! a state that does not expect it, with two exceptions: an INIT, and a COOKIE ECHO with this side's cookie, which is
 //! acknowledged again.
 //!
-//! A *fault* is a chunk that ends an open association: ABORT, ERROR, a chunk that is not processed or that its own
-//! check refuses, an INIT past the handshake, an INIT ACK without a cookie, a SACK of what is not in flight, DATA that
-//! contradicts what came or is too long, DATA or FORWARD TSN that exhausts the buffer, and a RE-CONFIG that asks for
-//! anything but a reset of outgoing streams. docs/PROOFS.md names every cause. The rest of the packet is not looked at.
+//! A *fault* is a chunk that ends an open association: ABORT, a chunk that is neither processed nor passed over (by the
+//! port's rules ERROR and HEARTBEAT ACK, too) or that its own check refuses, an INIT past the handshake, an INIT ACK
+//! without a cookie, a SACK of what is not in flight, DATA that contradicts what came or is too long, DATA or FORWARD
+//! TSN that exhausts the buffer, and a RE-CONFIG that asks for anything but a reset of outgoing streams. docs/PROOFS.md
+//! names every cause. The rest of the packet is not looked at.
 //! If the association is open (in any state but Closed), it closes: all timers stop, no packet waits any more, each
 //! live stream ends with its last counters ([`Event::DataChannelStatsFinal`]), and [`Event::AssociationLost`] is told.
 //! Only a failed handshake that was not told yet comes after that event. From then on no datagram changes anything.

@@ -2,14 +2,16 @@
 ghost use Rattle.std.specs.Prelude.{◌≡◌, ◌==◌, ◌++◌, ◌&&◌, IfOk, OnErr, OnOk, is_some, length, nat_lt, true};
 ghost use Rattle.sctp_generations.specs.Generations.{has_skips};
 ghost use Rattle.sctp_inbound.specs.Handshake.{header_of};
-ghost use Rattle.sctp_reset_requests.specs.Own.{repeated};
+ghost use Rattle.sctp_reset_requests.specs.Own.{is_given_up_anew, repeated};
+ghost use Rattle.sctp_resets.specs.Resets.{given_up};
 ghost use Rattle.sctp_assoc.specs.Gather.{AreRequestsReadAgain, IsRequestReadAgain, first_listed, listed, requests_of};
 ghost use Rattle.sctp_assoc.specs.Gather.{after_both, first_request_polled, repeat_polled, request_made};
 ghost use Rattle.sctp_assoc.specs.Gather.{request_packet, requests_give, requests_polled, requests_wait};
 ghost use Rattle.sctp_assoc.specs.Resets.{after_param, after_reconfig_timer, asking_if, on_reconfig, on_request};
 ghost use Rattle.sctp_assoc.specs.Resets.{on_response, reconfig_of, responding, settled, skips_applied};
 ghost use Rattle.sctp_assoc.specs.Resets.{behind_params, gives_up, settling_takes_memory, skips_applied_of, stopped_if};
-ghost use Rattle.sctp_assoc.specs.Resets.{timers_changed, with_answer, with_reconfig_run};
+ghost use Rattle.sctp_assoc.specs.Resets.{asks_again, goes_on, said_of, timers_changed, with_answer, with_beside};
+ghost use Rattle.sctp_assoc.specs.Resets.{with_reconfig_run};
 ghost use Rattle.sctp_assoc.specs.Calls.{is_established};
 ghost use Rattle.sctp_assoc.specs.Control.{asking};
 ghost use Rattle.sctp_assoc.specs.Shown.{all_waiting};
@@ -24,7 +26,7 @@ use sctp_inbound::AckTrigger;
 use sctp_parts::state::AssociationState;
 use sctp_parts::timer::Timer;
 use sctp_reset_requests::response_to;
-use sctp_resets::{Settled, TimerChange};
+use sctp_resets::{Handled, Settled, TimerChange};
 use sctp_wire_queues::{
     Chunk, ChunkReconfig, Error, Instant, Param, ParamOutgoingResetRequest, ParamReconfigResponse,
     ReconfigResult, StreamId,
@@ -81,7 +83,7 @@ impl Association {
     }
 
     // A request of the peer (RFC 6525 section 5.2.2), which is answered with the next poll.
-    #[tactic(auto, using(sctp_resets::proofs::FrontWaits::none_waits), unfolding(crate::specs::Resets::on_request))]
+    #[tactic(auto, using(sctp_resets::proofs::FrontWaits::none_waits))]
     fn on_reset_request(&mut self, request: &ParamOutgoingResetRequest) -> Result<(), AllocError>
         ensures { OnOk result (self.new ≡ on_request self.old request.now) }
     {
@@ -95,9 +97,16 @@ impl Association {
             self.sender.queue.next_message_id(),
             self.receiver.max_receive_message_size,
         )?;
+        self.tell_handled(request.reconfig_request_sequence_number, handled)
+    }
+
+    // What a request of the peer with this number led to is answered.
+    fn tell_handled(&mut self, number: u32, handled: Handled) -> Result<(), AllocError>
+        ensures { OnOk result (self.new ≡ said_of handled number self.old) }
+    {
         self.stop_reconfig_if(handled.confirms);
         self.place_if(handled.asks)?;
-        self.respond(request.reconfig_request_sequence_number, handled.answer)
+        self.respond(number, handled.answer)
     }
 
     fn stop_reconfig_if(&mut self, confirms: bool)
@@ -237,7 +246,7 @@ impl Association {
             .apply_skips_of(id, &mut self.streams, &mut self.events)
     }
 
-    // The active request was not answered in time: it goes out again, or past the limit it failed.
+    // The active request was not answered in time: it goes out again, or past the limit it is given up.
     pub(crate) fn on_reconfig_timeout(&mut self, now: Instant) -> Result<(), AllocError>
         ensures exact { OnOk result (self.new ≡ after_reconfig_timer self.old now) }
         ensures grows { OnErr result (gives_requests_up self.old now ≡ true) }
@@ -248,22 +257,49 @@ impl Association {
         }
         self.timers.set(Timer::Reconfig, None);
         if expiry.failed {
-            return self.give_requests_up();
+            return self.give_requests_up(now);
         }
+        self.repeat_request(now);
+        Ok(())
+    }
+
+    // The active request goes out again, and its timer begins anew.
+    fn repeat_request(&mut self, now: Instant)
+        ensures { self.new ≡ asks_again self.old now }
+    {
         self.resets.expire();
         let rto = self.rto.get_rto();
         self.timers.start(Timer::Reconfig, now, rto);
+    }
+
+    fn give_requests_up(&mut self, now: Instant) -> Result<(), AllocError>
+        ensures exact { OnOk result (self.new ≡ gives_up self.old now) }
+        ensures grows { OnErr result (is_given_up_anew self.old.resets.own ≡ true) }
+    {
+        self.tell_given_up()?;
+        self.go_on(now);
         Ok(())
     }
 
     #[tactic(auto, using(sctp_resets::proofs::FrontWaits::none_waits))]
-    fn give_requests_up(&mut self) -> Result<(), AllocError>
-        ensures exact { OnOk result (self.new ≡ gives_up self.old) }
-        ensures grows { OnErr result (is_some self.old.resets.own.active ≡ true) }
+    fn tell_given_up(&mut self) -> Result<(), AllocError>
+        ensures exact { OnOk result
+            (self.new ≡ with_beside self.old (given_up self.old.resets self.old.streams self.old.events)) }
+        ensures grows { OnErr result (is_given_up_anew self.old.resets.own ≡ true) }
     {
-        self.timers.stop(Timer::Reconfig);
         self.waiting_in_front = 0;
         self.resets.give_up(&mut self.streams, &mut self.events)
+    }
+
+    // A request that is still active goes out again.
+    fn go_on(&mut self, now: Instant)
+        ensures { self.new ≡ goes_on self.old now }
+    {
+        if self.resets.has_active() {
+            self.repeat_request(now);
+        } else {
+            self.timers.stop(Timer::Reconfig);
+        }
     }
 
     pub(crate) fn put_request(

@@ -139,7 +139,8 @@ impl Association {
         }
     }
 
-    fn ask_again(&mut self)
+    // SHUTDOWN or SHUTDOWN ACK goes out again where it waits for its answer.
+    pub(crate) fn ask_again(&mut self)
         ensures { self.new ≡ shutdown_again self.old }
     {
         match self.state {

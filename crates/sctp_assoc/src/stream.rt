@@ -214,7 +214,8 @@ impl<'a> Stream<'a> {
     ///
     /// By the rules of the RFCs (`Profile::Rfc`) what waits to be read is dropped, and so is what comes until the
     /// stream ends: it is acknowledged, and none of it counts as waiting. By those of the port it goes on waiting,
-    /// although it can never be read. Where the peer ended the stream already, both drop it, and no reset is asked for.
+    /// although it can never be read. Where the peer ended the stream already, both drop it, and no reset is asked for,
+    /// by the rules of the RFCs unless something came behind that end: then its next use is reset.
     ///
     /// Refused, in this order with nothing changed: `ErrAssociationFailed`; `ErrStreamClosed` where the stream is gone;
     /// `ErrResetPacketInStateNotExist` outside Established, where no generation of the stream is retiring;

@@ -1,12 +1,12 @@
 // Datagrams and moments.
 ghost use Rattle.std.specs.Prelude.{◌≡◌, ◌≢◌, ◌⊎◌, None, IfSome};
 ghost use Rattle.sctp_parts.specs.Timers.{least_moment};
-ghost use Rattle.sctp_assoc.specs.Chunks.{after_packet};
 ghost use Rattle.sctp_assoc.specs.Timeouts.{after_timeouts};
 ghost use Rattle.sctp_driver.specs.declared.tags.DatagramAnswer.TheVariants as fates;
 ghost use Rattle.sctp_driver.specs.Driving.{RunsOutOfMemory, with_association};
 ghost use Rattle.sctp_driver.specs.Sending.{Sends, asked};
-ghost use Rattle.sctp_driver.specs.Tags.{answer_to, packet_in};
+ghost use Rattle.sctp_driver.specs.Late.{with_datagram};
+ghost use Rattle.sctp_driver.specs.Tags.{answer_to};
 ghost use Rattle.sctp_slots.specs.Codes.{code_of};
 ghost use Rattle.sctp_c.specs.Codes.{answer_in, fate_of, code_with, found_by, received_by};
 ghost use Rattle.sctp_c.specs.Codes.{sent_by, sent_code};
@@ -57,8 +57,7 @@ pub extern "C" fn sctp_assoc_handle_datagram(
     ensures left { OnAny slot.old.handle.driver slot.new.handle.driver
         (λ d e. answer_to d datagram.now ≢ fates.Taken → e ≡ d) }
     ensures taken { result ≡ 0 → OnHeld slot.old.handle.driver slot.new.handle.driver
-        (λ d e. answer_to d datagram.now ≡ fates.Taken
-        → e ≡ with_association d (after_packet d.association (packet_in datagram.now) now)) }
+        (λ d e. answer_to d datagram.now ≡ fates.Taken → e ≡ with_datagram d datagram.now now) }
     ensures empty { slot.old.handle.driver ≡ None → result ≡ 1 }
     ensures refused { result ≡ 10 → slot.new.handle.driver ≡ slot.old.handle.driver }
     ensures memory { result ≡ 2 → OnHeld slot.old.handle.driver slot.new.handle.driver

@@ -17,7 +17,8 @@ pub enum ChannelEvent {
     /// The buffered amount of this channel fell from above its low threshold to it or below.
     BufferedLow(StreamId),
     /// This channel ended, by either side, and all that came before was received. It is gone, and its identifier is
-    /// free again, unless the reset of its stream failed: then it stays `Closing`.
+    /// free again, unless the reset of its stream failed: then it stays `Closing`, and this is told once more if the
+    /// peer answers later.
     Closed(StreamId),
     /// The peer's stream began with something else than an OPEN, and is being reset, or this channel could not be
     /// begun. There is no such channel.

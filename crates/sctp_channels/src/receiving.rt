@@ -49,7 +49,8 @@ impl Channels {
         self.receive_searched(driver, id, buffer)
     }
 
-    // The same of a channel that is not at hand.
+    // The same of a channel that is not at hand. It stands apart, so that one that is does not pay for it.
+    #[inline(never)]
     fn receive_searched(
         &mut self,
         driver: &mut Driver,

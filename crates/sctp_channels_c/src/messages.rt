@@ -77,6 +77,7 @@ pub extern "C" fn sctp_channels_send(
 }
 
 // Writes what is known of the message that was received, or that did not fit.
+#[inline(always)]
 fn tell_received(
     answer: Result<Received, ChannelError>,
     length: &mut usize,

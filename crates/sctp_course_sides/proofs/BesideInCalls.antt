@@ -1,7 +1,7 @@
 -- What waits to go out stays beside streams whatever call is carried out that brings no packet, from the association on
 -- that two tokens join.
 use Rattle.std.proofs.Common.{◌≡◌, refl, ℕ, Bool, true, false, List, [], ◌∷◌, Option, Some, None}
-use Rattle.std.proofs.Common.{if◌then◌else◌}
+use Rattle.std.proofs.Common.{if◌then◌else◌, is_some}
 use Rattle.sctp_resets.specs.Resets.{ResetsView, event_told, given_up, is_retiring, read_out}
 use Rattle.sctp_resets.specs.Resets.{stopped_reading, waiting_for}
 use Rattle.sctp_assoc.specs.Resets.{with_beside, after_reconfig_timer, asks_again, gives_up}
@@ -15,7 +15,7 @@ use Rattle.sctp_wire_types.specs.declared.chunk.Chunk.TheVariants as chunks
 use Rattle.sctp_wire_types.specs.declared.error.Error.TheVariants as errors
 use Rattle.sctp_wire_types.specs.declared.ids.PayloadProtocolIdentifier.{PayloadProtocolIdentifier}
 use Rattle.sctp_parts.specs.declared.timer.Timer.TheVariants as names
-use Rattle.sctp_parts.specs.Timers.{expiry_of}
+use Rattle.sctp_parts.specs.Timers.{expiry_of, with_stopped}
 use Rattle.sctp_receive_queues.specs.Messages.{ReceivedMessage}
 use Rattle.sctp_streams.specs.declared.event.AssociationError.TheVariants as reasons
 use Rattle.sctp_streams.specs.Stream.{StreamView, is_read_half_open}
@@ -165,16 +165,24 @@ t3_keeps false failure a now h = h
 t3_keeps true true a now h = h
 t3_keeps true false a now h = h
 
-gives_up_keeps : (a : Shown) → Keeps a (gives_up a)
-gives_up_keeps a h = beside_keeps a (given_up a.resets a.streams a.events) h
+going_on_keeps : (active : Bool) (a : Shown) (now : ℕ)
+    → Keeps a (if active then asks_again a now else record a { timers = with_stopped names.Reconfig a.timers })
+going_on_keeps true a now h = h
+going_on_keeps false a now h = h
+
+gives_up_keeps : (a : Shown) (now : ℕ) → Keeps a (gives_up a now)
+gives_up_keeps a now h =
+    let b : Shown = with_beside a (given_up a.resets a.streams a.events) in
+    going_on_keeps (is_some b.resets.own.active) b now (beside_keeps a (given_up a.resets a.streams a.events) h)
 
 reconfig_keeps : (expired failure : Bool) (a : Shown) (now : ℕ)
     → Keeps a
-    (if expired then (if failure then gives_up (reconfig_expired a now) else asks_again (reconfig_expired a now) now)
+    (if expired then
+    (if failure then gives_up (reconfig_expired a now) now else asks_again (reconfig_expired a now) now)
     else a)
 reconfig_keeps false failure a now h = h
 reconfig_keeps true true a now h =
-    gives_up_keeps (reconfig_expired a now) h
+    gives_up_keeps (reconfig_expired a now) now h
 reconfig_keeps true false a now h =
     h
 

@@ -20,7 +20,7 @@ use Rattle.sctp_wire_types.specs.Checks.{checked_chunk}
 use Rattle.sctp_streams.specs.Streams.{StreamMap, generation_left, is_readable_in, pushed_in, refusal_in, stream_at}
 use Rattle.sctp_inbound.specs.declared.receiver.AckTrigger.{AckTrigger}
 use Rattle.sctp_inbound.specs.Greeting.{first_cookie, information_of, init_ack_of}
-use Rattle.sctp_inbound.specs.Handshake.{comes_back, has_issued, header_of}
+use Rattle.sctp_inbound.specs.Handshake.{comes_back, has_issued, header_of, learned_by_init}
 use Rattle.sctp_inbound.specs.Receiver.{admits, is_new_to, taken_to}
 use Rattle.sctp_outbound.specs.declared.sender.SackOutcome.{SackOutcome}
 use Rattle.sctp_outbound.specs.declared.sender.SackOutcome.TheVariants as outcomes
@@ -32,20 +32,20 @@ use Rattle.sctp_resets.specs.Resets.{Beside, Resetting, handled, responded, skip
 use Rattle.sctp_resets.specs.Resets as resets
 use Rattle.sctp_assoc.specs.declared.inbound.Flow.{Flow}
 use Rattle.sctp_assoc.specs.declared.inbound.Flow.TheVariants as flows
-use Rattle.sctp_assoc.specs.Calls.{is_beginning, is_cookie_echoed, is_cookie_wait, is_established, sends_data}
+use Rattle.sctp_assoc.specs.Calls.{is_beginning, is_cookie_echoed, is_cookie_wait, sends_data}
 use Rattle.sctp_assoc.specs.Chunks.{asks, asks_or_faults, checked_first, counted_data, counted_sack, deferred_unless}
 use Rattle.sctp_assoc.specs.Chunks.{deferred_where_admitted, dispatched, goes_unread, left_or_handed_over, on_chunk}
 use Rattle.sctp_assoc.specs.Chunks.{on_counted_sack, on_data, on_new_data, on_sack, stream_found, taken_in}
 use Rattle.sctp_assoc.specs.Chunks.{taken_unless, taken_where_admitted, then_skips, told, with_message}
 use Rattle.sctp_assoc.specs.Closing.{is_exhausted}
 use Rattle.sctp_assoc.specs.Finding.{found_for}
-use Rattle.sctp_assoc.specs.Handshake.{information_returned, on_cookie_ack}
+use Rattle.sctp_assoc.specs.Handshake.{acknowledges_again, information_returned, on_cookie_ack}
 use Rattle.sctp_assoc.specs.Handshake.{on_cookie_echo, on_heartbeat}
 use Rattle.sctp_assoc.specs.Resets.{after_param, asking_if, behind_first, behind_params, channels_of, handled_with}
 use Rattle.sctp_assoc.specs.Resets.{on_reconfig, on_request, on_response, responded_with, settled, settled_with}
 use Rattle.sctp_assoc.specs.Resets.{skips_applied_of, stopped_if, with_answer, with_beside, with_resetting}
 use Rattle.sctp_assoc.specs.Shown.{Shown, all_waiting}
-use Rattle.sctp_assoc.specs.Shutdown.{shutdown_continued}
+use Rattle.sctp_assoc.specs.Shutdown.{shutdown_again, shutdown_continued}
 use Rattle.sctp_assoc.specs.Skipping.{asks_behind, on_forward, skips_of, with_passed, with_skip}
 use Rattle.sctp_assoc.specs.Skipping.{with_skips}
 use Rattle.sctp_assoc.proofs.Probes.{probes_keep}
@@ -64,7 +64,7 @@ use Rattle.sctp_assoc.specs.declared.control.Control.TheVariants as controls
 use Rattle.sctp_assoc.specs.Chunks.{after_chunks, after_packet, after_packet_of, after_sack, goes_on}
 use Rattle.sctp_assoc.specs.Closing.{closed_by, closed_open, exhausted, is_closed_state, out_of_resource}
 use Rattle.sctp_assoc.specs.Control.{queued, queued_under}
-use Rattle.sctp_assoc.specs.Handshake.{connected, echoed, learned, on_init, on_init_ack, sends_cookie}
+use Rattle.sctp_assoc.specs.Handshake.{connected, echoed, keeps_peer, learns_peer, on_init, on_init_ack, sends_cookie}
 use Rattle.sctp_assoc.specs.Probes.{is_probing}
 use Rattle.sctp_assoc.specs.Resets.{responding}
 use Rattle.sctp_assoc.specs.Skipping.{unrecognized_chunk}
@@ -302,13 +302,18 @@ forward_keeps a t es trigger now =
 
 -- The handshake
 
-init_keeps : (counts : Bool) (a : Shown) (header : CommonHeader) (init : ChunkInit) (trigger : AckTrigger)
-    → is_beginning a.state ≡ counts → Keeps a (on_init a header init trigger).0
+init_keeps : (counts keeps : Bool) (a : Shown) (header : CommonHeader) (init : ChunkInit) (trigger : AckTrigger)
+    → is_beginning a.state ≡ counts → keeps_peer a init ≡ keeps → Keeps a (on_init a header init trigger).0
 unfolding on_init
-init_keeps true a header init trigger e =
-    let b : Shown = learned a header init in
-    rw e (queued_keeps b (chunks.InitAck (init_ack_of b.handshake b.receiver.buffer_size)) tt)
-init_keeps false a header init trigger e = rw e (λ x. x)
+init_keeps true true a header init trigger e k =
+    let b : Shown = record a { handshake = learned_by_init a.handshake header init } in
+    rw (e, k) (queued_keeps b (chunks.InitAck (init_ack_of b.handshake b.receiver.buffer_size)) tt)
+init_keeps true false a header init trigger e k =
+    let b : Shown =
+    learns_peer (record a { handshake = learned_by_init a.handshake header init }) init.initial_tsn
+    init.advertised_receiver_window_credit in
+    rw (e, k) (queued_keeps b (chunks.InitAck (init_ack_of b.handshake b.receiver.buffer_size)) tt)
+init_keeps false keeps a header init trigger e k = rw e (λ x. x)
 
 echoed_keeps : (o : Option (List ℕ)) (a b : Shown) (trigger : AckTrigger) (now : ℕ) → b.control ≡ a.control
     → Keeps a (echoed o b trigger now).0
@@ -329,14 +334,18 @@ init_ack_keeps false back a header init trigger now e f = rw e (λ x. x)
 connected_keeps : (a : Shown) → Keeps a (connected a)
 connected_keeps a x = x
 
-cookie_echo_keeps : (issued begins established : Bool) (a : Shown) (cookie : List ℕ) (trigger : AckTrigger)
-    → has_issued a.handshake cookie ≡ issued → is_beginning a.state ≡ begins → is_established a.state ≡ established
+again_keeps : (a : Shown) → Keeps a (shutdown_again a)
+again_keeps a x = x
+
+cookie_echo_keeps : (issued begins again : Bool) (a : Shown) (cookie : List ℕ) (trigger : AckTrigger)
+    → has_issued a.handshake cookie ≡ issued → is_beginning a.state ≡ begins → acknowledges_again a ≡ again
     → Keeps a (on_cookie_echo a cookie trigger).0
 unfolding on_cookie_echo
-cookie_echo_keeps false begins established a cookie trigger e f g = rw e (λ x. x)
-cookie_echo_keeps true true established a cookie trigger e f g =
+cookie_echo_keeps false begins again a cookie trigger e f g = rw e (λ x. x)
+cookie_echo_keeps true true again a cookie trigger e f g =
     rw (e, f) (λ x. queued_keeps (connected a) chunks.CookieAck tt (connected_keeps a x))
-cookie_echo_keeps true false true a cookie trigger e f g = rw (e, f, g) (queued_keeps a chunks.CookieAck tt)
+cookie_echo_keeps true false true a cookie trigger e f g =
+    rw (e, f, g) (λ x. queued_keeps (shutdown_again a) chunks.CookieAck tt (again_keeps a x))
 cookie_echo_keeps true false false a cookie trigger e f g = rw (e, f, g) (λ x. x)
 
 cookie_ack_keeps : (echoes : Bool) (a : Shown) (trigger : AckTrigger) → is_cookie_echoed a.state ≡ echoes
@@ -412,7 +421,8 @@ kind_keeps header (chunks.Data piece) a trigger now = data_keeps a piece trigger
 kind_keeps header (chunks.SelectiveAck k) a trigger now =
     sack_keeps (sends_data a.state) a k.cumulative_tsn_ack k.gap_ack_blocks k.advertised_receiver_window_credit trigger
     now refl
-kind_keeps header (chunks.Init y) a trigger now = init_keeps (is_beginning a.state) a header y trigger refl
+kind_keeps header (chunks.Init y) a trigger now =
+    init_keeps (is_beginning a.state) (keeps_peer a y) a header y trigger refl refl
 kind_keeps header (chunks.InitAck y) a trigger now =
     init_ack_keeps (is_cookie_wait a.state) (comes_back a.handshake header) a header y trigger now refl refl
 kind_keeps header (chunks.Heartbeat y) a trigger now = heartbeat_keeps a y trigger
@@ -422,7 +432,7 @@ kind_keeps header (chunks.Shutdown y) a trigger now = λ x. x
 kind_keeps header chunks.ShutdownAck a trigger now = λ x. x
 kind_keeps header (chunks.Error y) a trigger now = λ x. x
 kind_keeps header (chunks.CookieEcho y) a trigger now =
-    cookie_echo_keeps (has_issued a.handshake y) (is_beginning a.state) (is_established a.state) a y trigger refl refl
+    cookie_echo_keeps (has_issued a.handshake y) (is_beginning a.state) (acknowledges_again a) a y trigger refl refl
     refl
 kind_keeps header chunks.CookieAck a trigger now = cookie_ack_keeps (is_cookie_echoed a.state) a trigger refl
 kind_keeps header chunks.ShutdownComplete a trigger now = λ x. x

@@ -1,7 +1,7 @@
 -- An INIT or INIT ACK that comes to a side to which nothing was sent yet: the side goes on to follow the course of each
 -- stream of its peer, or to await it; and what it answers stays true (RFC 4960 section 5.1).
 use Rattle.std.proofs.Common.{◌≡◌, refl, sym, ap, ◌∙◌, subst, subst₂, ◌⊎◌, inl, inr, ℕ, ◌+◌, ◌-◌, ◌%◌, ◌^◌, ◌<◌, arith}
-use Rattle.std.proofs.Common.{Bool, true, false, ◌&&◌, List, [], ◌∷◌, ◌++◌, length, Option, Some, None}
+use Rattle.std.proofs.Common.{Bool, true, false, not, ◌&&◌, List, [], ◌∷◌, ◌++◌, length, Option, Some, None}
 use Rattle.std.specs.List.{AllByRecursion}
 use Rattle.std.proofs.lemmas.Bool.{false≢true}
 use Rattle.sctp_serial.specs.Serial.{tsn}
@@ -17,7 +17,7 @@ use Rattle.sctp_model.proofs.Lists.{all_join}
 use Rattle.sctp_streams.specs.Streams.{StreamMap}
 use Rattle.sctp_inbound.specs.declared.receiver.AckTrigger.{AckTrigger}
 use Rattle.sctp_inbound.specs.Greeting.{first_cookie}
-use Rattle.sctp_inbound.specs.Handshake.{comes_back, header_of}
+use Rattle.sctp_inbound.specs.Handshake.{comes_back, header_of, learned_by_init}
 use Rattle.sctp_inbound.specs.Receiver.{past_of}
 use Rattle.sctp_reset_requests.specs.declared.own_request.OwnRequest.{OwnRequest}
 use Rattle.sctp_reset_requests.specs.Laws.{HasNumber}
@@ -36,7 +36,8 @@ use Rattle.sctp_directions.specs.Acts.{History, with_peer}
 use Rattle.sctp_assoc.specs.declared.control.Control.{Control}
 use Rattle.sctp_assoc.specs.declared.control.Control.TheVariants as controls
 use Rattle.sctp_assoc.specs.Calls.{is_beginning, is_cookie_wait}
-use Rattle.sctp_assoc.specs.Handshake.{answered, echoed, learned, on_init, on_init_ack, sends_cookie, with_echo}
+use Rattle.sctp_assoc.specs.Handshake.{answered, echoed, keeps_peer, learns_peer, on_init, on_init_ack, sends_cookie}
+use Rattle.sctp_assoc.specs.Handshake.{with_echo}
 use Rattle.sctp_assoc.specs.Leads.{Binds}
 use Rattle.sctp_assoc.specs.Shown.{Shown}
 use Rattle.sctp_assoc.proofs.WhatCame.{came_on}
@@ -190,15 +191,27 @@ still_before P initial id a b h c alike (inr w) = inr (alike_awaits P initial id
 module _ (P : ChunkPayloadData → Type 0) (initial id : ℕ) (a : Shown) (h : History) (c : Course)
     (small : initial < 2 ^ 32) (binds : Binds a h)
     (was : Follows P initial id a h c ⊎ AwaitsIts P initial id a c) where
-  init_at : (counts : Bool) (header : CommonHeader) (init : ChunkInit) (trigger : AckTrigger)
-      → is_beginning a.state ≡ counts → init.initial_tsn ≡ initial → (counts ≡ true → IsUntouched c)
-      → Follows P initial id (on_init a header init trigger).0 (greeted counts init.initial_tsn h) c
+  init_at : (counts keeps : Bool) (header : CommonHeader) (init : ChunkInit) (trigger : AckTrigger)
+      → is_beginning a.state ≡ counts → keeps_peer a init ≡ keeps → init.initial_tsn ≡ initial
+      → ((counts && not keeps) ≡ true → IsUntouched c)
+      → Follows P initial id (on_init a header init trigger).0 (greeted (counts && not keeps) init.initial_tsn h) c
       ⊎ AwaitsIts P initial id (on_init a header init trigger).0 c
   unfolding on_init
-  init_at true header init trigger e same u =
-      rw e (inl (met_follows P initial id init.initial_tsn a (answered (learned a header init)) h c same small (u refl)
+  init_at true true header init trigger e k same u =
+      let b : Shown = answered (record a { handshake = learned_by_init a.handshake header init }) in
+      rw (e, k) (still_before P initial id a b h c (record {
+        resets = refl;
+        streams = refl;
+        queue = refl;
+        past = refl;
+      }) was)
+  init_at true false header init trigger e k same u =
+      let b : Shown =
+      learns_peer (record a { handshake = learned_by_init a.handshake header init }) init.initial_tsn
+      init.advertised_receiver_window_credit in
+      rw (e, k) (inl (met_follows P initial id init.initial_tsn a (answered b) h c same small (u refl)
       binds (before P initial id a h c was) refl refl refl refl))
-  init_at false header init trigger e same u = rw e was
+  init_at false keeps header init trigger e k same u = rw e was
 
   echoed_at : (o : Option (List ℕ)) (b : Shown) (t : ℕ) (trigger : AckTrigger) (now : ℕ) → t ≡ initial
       → IsUntouched c → b.resets ≡ met_peer a.resets t → b.streams ≡ a.streams → b.sender.queue ≡ a.sender.queue
@@ -240,21 +253,26 @@ on_some P initial id b k c (inr w) = inr w
 module _ (P : ChunkPayloadData → Type 0) (initial id : ℕ) (a : Shown) (h : History) (c : Course) (header : CommonHeader)
     (init : ChunkInit)
     (trigger : AckTrigger) where
-  -- An INIT of its peer comes to a side; where it counts nothing was sent to the side yet.
+  -- An INIT of its peer comes to a side; where it counts nothing was sent to the side yet. It counts before the
+  -- association is established, unless it leaves what is known of the peer.
   pub init_follows_on : init.initial_tsn ≡ initial → initial < 2 ^ 32
-      → (is_beginning a.state ≡ true → IsUntouched c) → Binds a h
+      → ((is_beginning a.state && not (keeps_peer a init)) ≡ true → IsUntouched c) → Binds a h
       → (Follows P initial id a h c ⊎ AwaitsIts P initial id a c)
-      → Follows P initial id (on_init a header init trigger).0 (greeted (is_beginning a.state) init.initial_tsn h) c
+      → Follows P initial id (on_init a header init trigger).0
+      (greeted (is_beginning a.state && not (keeps_peer a init)) init.initial_tsn h) c
       ⊎ AwaitsIts P initial id (on_init a header init trigger).0 c
   init_follows_on same small u binds was =
-      init_at P initial id a h c small binds was (is_beginning a.state) header init trigger refl same u
+      init_at P initial id a h c small binds was (is_beginning a.state) (keeps_peer a init) header init trigger refl
+      refl same u
 
-  pub init_follows : init.initial_tsn ≡ initial → initial < 2 ^ 32 → (is_beginning a.state ≡ true → IsUntouched c)
+  pub init_follows : init.initial_tsn ≡ initial → initial < 2 ^ 32
+      → ((is_beginning a.state && not (keeps_peer a init)) ≡ true → IsUntouched c)
       → Binds a h → (Follows P initial id a h c ⊎ AwaitsIts P initial id a c)
       → ((k : History) × Follows P initial id (on_init a header init trigger).0 k c)
       ⊎ AwaitsIts P initial id (on_init a header init trigger).0 c
   init_follows same small u binds was =
-      on_some P initial id (on_init a header init trigger).0 (greeted (is_beginning a.state) init.initial_tsn h) c
+      on_some P initial id (on_init a header init trigger).0
+      (greeted (is_beginning a.state && not (keeps_peer a init)) init.initial_tsn h) c
       (init_follows_on same small u binds was)
 
   -- So it is with an INIT ACK: it counts where the side waits for one, and it comes back between the ports of its INIT.
@@ -311,12 +329,19 @@ answers_with initial a b c x own control said h = record {
 
 -- What a side answers stays true by the greetings of its peer, of whatever course.
 module _ (initial : ℕ) (a : Shown) (c : Course) (h : AnswersTruly initial a c) where
-  init_answers_at : (counts : Bool) (header : CommonHeader) (init : ChunkInit) (trigger : AckTrigger)
-      → is_beginning a.state ≡ counts → AnswersTruly initial (on_init a header init trigger).0 c
+  init_answers_at : (counts keeps : Bool) (header : CommonHeader) (init : ChunkInit) (trigger : AckTrigger)
+      → is_beginning a.state ≡ counts → keeps_peer a init ≡ keeps
+      → AnswersTruly initial (on_init a header init trigger).0 c
   unfolding on_init
-  init_answers_at true header init trigger e =
-      rw e (answers_with initial a (answered (learned a header init)) c _ refl refl tt h)
-  init_answers_at false header init trigger e = rw e h
+  init_answers_at true true header init trigger e k =
+      let b : Shown = record a { handshake = learned_by_init a.handshake header init } in
+      rw (e, k) (answers_with initial a (answered b) c _ refl refl tt h)
+  init_answers_at true false header init trigger e k =
+      let b : Shown =
+      learns_peer (record a { handshake = learned_by_init a.handshake header init }) init.initial_tsn
+      init.advertised_receiver_window_credit in
+      rw (e, k) (answers_with initial a (answered b) c _ refl refl tt h)
+  init_answers_at false keeps header init trigger e k = rw e h
 
   echoed_answers : (o : Option (List ℕ)) (b : Shown) (trigger : AckTrigger) (now : ℕ)
       → b.resets.own ≡ a.resets.own → b.control ≡ a.control
@@ -339,7 +364,8 @@ module _ (initial : ℕ) (a : Shown) (c : Course) (h : AnswersTruly initial a c)
 
   pub greeting_answers : (header : CommonHeader) (init : ChunkInit) (trigger : AckTrigger)
       → AnswersTruly initial (on_init a header init trigger).0 c
-  greeting_answers header init trigger = init_answers_at (is_beginning a.state) header init trigger refl
+  greeting_answers header init trigger =
+      init_answers_at (is_beginning a.state) (keeps_peer a init) header init trigger refl refl
 
   pub greeting_back_answers : (header : CommonHeader) (init : ChunkInit) (trigger : AckTrigger) (now : ℕ)
       → AnswersTruly initial (on_init_ack a header init trigger now).0 c

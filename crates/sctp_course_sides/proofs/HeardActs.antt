@@ -23,10 +23,12 @@ use Rattle.sctp_directions.specs.Acts.{Act}
 use Rattle.sctp_assoc.specs.Calls.{is_beginning, is_cookie_wait, sends_data}
 use Rattle.sctp_assoc.specs.Chunks.{counted_data, deferred_where_admitted, goes_unread, stream_found, taken_in}
 use Rattle.sctp_assoc.specs.Chunks.{taken_where_admitted}
+use Rattle.sctp_assoc.specs.Handshake.{keeps_peer}
 use Rattle.sctp_assoc.specs.Happened.{acts_if_left, acts_of_checked, acts_of_chunk, acts_of_data, acts_of_deferring}
 use Rattle.sctp_assoc.specs.Happened.{acts_of_finding, acts_of_forward, acts_of_found, acts_of_hidden, acts_of_kind}
 use Rattle.sctp_assoc.specs.Happened.{acts_of_outcome, acts_of_skips_behind, acts_of_stream, acts_of_taking}
 use Rattle.sctp_assoc.specs.Happened.{acts_of_taking_where_admitted, acts_unless_faulty, acts_unless_refused}
+use Rattle.sctp_assoc.specs.Happened.{known_unless}
 use Rattle.sctp_assoc.specs.Probes.{is_probing, opens_window}
 use Rattle.sctp_assoc.specs.ResetActs.{acts_of_keeping, acts_of_kept_skips, acts_of_reconfig, acts_of_settling}
 use Rattle.sctp_assoc.specs.Resets.{skips_applied_of}
@@ -145,13 +147,19 @@ forward_is_heard a t skips =
     (λ b acts heard.
     all_join IsHeard (acts_of_finding t skips b) acts (finding_opens IsHeard (λ id first. tt) t skips b) heard) a
 
+known_is_heard : (keeps : Bool) (initial_tsn : ℕ) → AreHeard (known_unless keeps initial_tsn)
+known_is_heard true initial_tsn = tt
+known_is_heard false initial_tsn = (tt, tt)
+
 kind_is_heard : (a : Shown) (header : CommonHeader) (chunk : Chunk) → AreHeard (acts_of_kind a header chunk)
 kind_is_heard a header (chunks.Data piece) = data_is_heard a piece
 kind_is_heard a header (chunks.SelectiveAck sack) =
     give_if IsHeard (sends_data a.state) _ []
     (outcome_is_heard _ _ sack.gap_ack_blocks _
     (opens_window (is_probing a.profile a.sender) sack.advertised_receiver_window_credit)) tt
-kind_is_heard a header (chunks.Init init) = give_if IsHeard (is_beginning a.state) _ [] (tt, tt) tt
+kind_is_heard a header (chunks.Init init) =
+    give_if IsHeard (is_beginning a.state) (known_unless (keeps_peer a init) init.initial_tsn) []
+    (known_is_heard (keeps_peer a init) init.initial_tsn) tt
 kind_is_heard a header (chunks.InitAck init) =
     give_if IsHeard (is_cookie_wait a.state) _ []
     (give_if IsHeard (comes_back a.handshake header) _ [] (tt, tt) tt) tt

@@ -11,10 +11,12 @@ use Rattle.sctp_wire_types.specs.Checks.{checked_chunk}
 use Rattle.sctp_inbound.specs.declared.receiver.AckTrigger.{AckTrigger}
 use Rattle.sctp_inbound.specs.Greeting.{first_cookie}
 use Rattle.sctp_inbound.specs.Handshake.{comes_back, has_issued}
-use Rattle.sctp_assoc.specs.Calls.{is_beginning, is_cookie_echoed, is_cookie_wait, is_established}
+use Rattle.sctp_assoc.specs.Calls.{is_beginning, is_cookie_echoed, is_cookie_wait}
 use Rattle.sctp_assoc.specs.Chunks.{checked_first, on_chunk}
-use Rattle.sctp_assoc.specs.Handshake.{echoed, on_cookie_ack, on_cookie_echo, on_init, on_init_ack, sends_cookie}
+use Rattle.sctp_assoc.specs.Handshake.{acknowledges_again, echoed, keeps_peer, on_cookie_ack, on_cookie_echo, on_init}
+use Rattle.sctp_assoc.specs.Handshake.{on_init_ack, sends_cookie}
 use Rattle.sctp_assoc.specs.Shown.{Shown}
+use Rattle.sctp_assoc.proofs.HandshakeFacts.{kept_is_known}
 use Rattle.sctp_course_sides.proofs.Greetings.{IsSeenAlike}
 
 late_init_at : (counts : Bool) (a : Shown) (header : CommonHeader) (init : ChunkInit) (trigger : AckTrigger)
@@ -72,22 +74,6 @@ late_init_ack_chunk a header init trigger now late =
 abbrev pub IsKnown : Shown → Type 0
 IsKnown b = (is_some b.handshake.peer_initial_tsn ≡ true) × (is_some b.resets.peer.last_completed ≡ true)
 
-init_known_at : (counts : Bool) (a : Shown) (header : CommonHeader) (init : ChunkInit) (trigger : AckTrigger)
-    → is_beginning a.state ≡ counts → counts ≡ true → IsKnown (on_init a header init trigger).0
-unfolding on_init
-init_known_at true a header init trigger e counts = rw e (refl, refl)
-init_known_at false a header init trigger e counts = absurd (cc)
-
-pub init_known : (a : Shown) (header : CommonHeader) (init : ChunkInit) (trigger : AckTrigger)
-    → is_beginning a.state ≡ true → IsKnown (on_init a header init trigger).0
-init_known a header init trigger counts = init_known_at (is_beginning a.state) a header init trigger refl counts
-
-echoed_known : (o : Option (List ℕ)) (b : Shown) (trigger : AckTrigger) (now : ℕ) → IsKnown b
-    → IsKnown (echoed o b trigger now).0
-unfolding sends_cookie
-echoed_known None b trigger now known = known
-echoed_known (Some cookie) b trigger now known = known
-
 -- What is known of the peer is as it was, and nothing is seen of it.
 pub record IsLeft (a b : Shown) : Type 0 where
   pub known : b.handshake.peer_initial_tsn ≡ a.handshake.peer_initial_tsn
@@ -95,6 +81,31 @@ pub record IsLeft (a b : Shown) : Type 0 where
 
 pub left_itself : (a : Shown) → IsLeft a a
 left_itself a = record { known = refl; alike = record { resets = refl; streams = refl; queue = refl; past = refl } }
+
+init_known_at : (counts keeps : Bool) (a : Shown) (header : CommonHeader) (init : ChunkInit) (trigger : AckTrigger)
+    → is_beginning a.state ≡ counts → keeps_peer a init ≡ keeps
+    → IsKnown (on_init a header init trigger).0 ⊎ IsLeft a (on_init a header init trigger).0
+unfolding on_init
+init_known_at true true a header init trigger e k =
+    let known : Some init.initial_tsn ≡ a.handshake.peer_initial_tsn = sym (kept_is_known a init k) in
+    rw (e, k) (inr record {
+      known = known;
+      alike = record { resets = refl; streams = refl; queue = refl; past = refl };
+    })
+init_known_at true false a header init trigger e k = rw (e, k) (inl (refl, refl))
+init_known_at false keeps a header init trigger e k = rw e (inr (left_itself a))
+
+-- An INIT makes it known, or leaves what was known.
+pub init_known : (a : Shown) (header : CommonHeader) (init : ChunkInit) (trigger : AckTrigger)
+    → IsKnown (on_init a header init trigger).0 ⊎ IsLeft a (on_init a header init trigger).0
+init_known a header init trigger =
+    init_known_at (is_beginning a.state) (keeps_peer a init) a header init trigger refl refl
+
+echoed_known : (o : Option (List ℕ)) (b : Shown) (trigger : AckTrigger) (now : ℕ) → IsKnown b
+    → IsKnown (echoed o b trigger now).0
+unfolding sends_cookie
+echoed_known None b trigger now known = known
+echoed_known (Some cookie) b trigger now known = known
 
 init_ack_known_at : (waits back : Bool) (a : Shown) (header : CommonHeader) (init : ChunkInit) (trigger : AckTrigger)
     (now : ℕ) → is_cookie_wait a.state ≡ waits → comes_back a.handshake header ≡ back
@@ -109,7 +120,7 @@ init_ack_known_at true false a header init trigger now e f =
     })
 init_ack_known_at false back a header init trigger now e f = rw e (inr (left_itself a))
 
--- An INIT ACK makes it known, or leaves what was known.
+-- So does an INIT ACK.
 pub init_ack_known : (a : Shown) (header : CommonHeader) (init : ChunkInit) (trigger : AckTrigger) (now : ℕ)
     → IsKnown (on_init_ack a header init trigger now).0 ⊎ IsLeft a (on_init_ack a header init trigger now).0
 init_ack_known a header init trigger now =
@@ -117,12 +128,12 @@ init_ack_known a header init trigger now =
 
 -- The other greetings
 
-cookie_echo_left : (issued begins established : Bool) (a : Shown) (cookie : List ℕ) (trigger : AckTrigger)
-    → has_issued a.handshake cookie ≡ issued → is_beginning a.state ≡ begins → is_established a.state ≡ established
+cookie_echo_left : (issued begins again : Bool) (a : Shown) (cookie : List ℕ) (trigger : AckTrigger)
+    → has_issued a.handshake cookie ≡ issued → is_beginning a.state ≡ begins → acknowledges_again a ≡ again
     → IsLeft a (on_cookie_echo a cookie trigger).0
 unfolding on_cookie_echo
-cookie_echo_left false begins established a cookie trigger e f g = rw e (left_itself a)
-cookie_echo_left true true established a cookie trigger e f g =
+cookie_echo_left false begins again a cookie trigger e f g = rw e (left_itself a)
+cookie_echo_left true true again a cookie trigger e f g =
     rw (e, f) record {
       known = refl;
       alike = record { resets = refl; streams = refl; queue = refl; past = refl };
@@ -156,7 +167,7 @@ plain_left : (r : Result (Unit {0}) Error) (chunk : Chunk) (a : Shown) (header :
     (now : ℕ) → IsPlainGreeting chunk → IsLeft a (checked_first r a header chunk trigger now).0
 plain_left (Err fault) chunk a header trigger now plain = left_itself a
 plain_left (Ok done) (chunks.CookieEcho x) a header trigger now plain =
-    cookie_echo_left (has_issued a.handshake x) (is_beginning a.state) (is_established a.state) a x trigger refl refl
+    cookie_echo_left (has_issued a.handshake x) (is_beginning a.state) (acknowledges_again a) a x trigger refl refl
     refl
 plain_left (Ok done) chunks.CookieAck a header trigger now plain =
     cookie_ack_left (is_cookie_echoed a.state) a trigger refl

@@ -7,6 +7,7 @@ pub mod BesideInPolls
 pub mod CarriedRequests
 pub mod ChunksHold
 pub mod DataComes
+pub mod EndsTold
 pub mod FollowsWeaker
 pub mod ForwardComes
 pub mod Greetings
@@ -22,6 +23,7 @@ pub mod PollComes
 pub mod PollRequests
 pub mod PollSpells
 pub mod Reaching
+pub mod ReadsStopped
 pub mod ReceiverCalls
 pub mod ReceiverPolls
 pub mod ReceiverReads

@@ -1,5 +1,5 @@
 -- What a side that meets its peer takes of the peer's handshake, chunk by chunk (RFC 4960 section 5.1).
-use Rattle.std.proofs.Common.{◌≡◌, refl, sym, ap, ◌∙◌, subst, ◌⊎◌, ⊎_elim, inl, inr, ℕ, ◌<◌, ◌^◌, Bool, true, false}
+use Rattle.std.proofs.Common.{◌≡◌, refl, sym, ap, ◌∙◌, subst, ◌⊎◌, ⊎_elim, inl, inr, ℕ, ◌<◌, ◌^◌, true, false}
 use Rattle.std.proofs.Common.{is_some, Option, Some, None, Result, Ok, Err}
 use Rattle.std.proofs.lemmas.Bool.{false≢true, true≢false}
 use Rattle.sctp_wire_types.specs.declared.chunk.Chunk.{Chunk}
@@ -13,10 +13,8 @@ use Rattle.sctp_wire.specs.declared.packet.Packet.{Packet}
 use Rattle.sctp_streams.specs.declared.event.AssociationError.TheVariants as reasons
 use Rattle.sctp_inbound.specs.declared.receiver.AckTrigger.{AckTrigger}
 use Rattle.sctp_inbound.specs.declared.receiver.AckTrigger.TheVariants as triggers
-use Rattle.sctp_inbound.specs.Handshake.{comes_back}
 use Rattle.sctp_courses.specs.Course.{Course}
 use Rattle.sctp_directions.specs.Acts.{History}
-use Rattle.sctp_assoc.specs.Calls.{is_beginning, is_cookie_wait}
 use Rattle.sctp_assoc.specs.Chunks.{after_packet, checked_first, ended, on_chunk}
 use Rattle.sctp_assoc.specs.Closing.{closed_by, exhausted, is_closed_state, out_of_resource}
 use Rattle.sctp_assoc.specs.Control.{queued}
@@ -34,8 +32,7 @@ use Rattle.sctp_course_sides.specs.Follows.{AwaitsIts, Follows, IsUntouched}
 use Rattle.sctp_course_sides.specs.Meets.{FollowsOrAwaits, SpeaksOfStage}
 use Rattle.sctp_course_sides.proofs.ChunksHold.{KeptByChunks, packet_holds}
 use Rattle.sctp_course_sides.proofs.Greetings.{IsSeenAlike, alike_awaits, alike_follows, init_ack_follows, init_follows}
-use Rattle.sctp_course_sides.proofs.LateGreetings.{IsKnown, IsLeft, init_ack_known, init_known, late_init}
-use Rattle.sctp_course_sides.proofs.LateGreetings.{plain_greeting_left}
+use Rattle.sctp_course_sides.proofs.LateGreetings.{IsKnown, IsLeft, init_ack_known, init_known, plain_greeting_left}
 use Rattle.sctp_course_sides.proofs.StageCalls.{stays_at}
 use Rattle.sctp_course_sides.proofs.StageChunks.{GoesToStage, chunk_goes_to_stage, end_stays_at, goes_through}
 
@@ -69,20 +66,23 @@ module _ (P : ChunkPayloadData → Type 0) (initial id : ℕ) (c : Course) where
   module _ (small : initial < 2 ^ 32) (untouched : IsUntouched c) (header : CommonHeader) (init : ChunkInit)
       (trigger : AckTrigger) (same : init.initial_tsn ≡ initial)
     where
-      init_counts : (a : Shown) (h : History) → Binds a h → is_beginning a.state ≡ true
+      init_knows : (a : Shown) (h : History) → Binds a h → IsKnown (on_init a header init trigger).0
           → FollowsOrAwaits P initial id a c → FollowsOrAwaits P initial id (on_init a header init trigger).0 c
-      init_counts a h binds counts (inl (known, k, f)) =
-          known_receives (on_init a header init trigger).0 (init_known a header init trigger counts)
+      init_knows a h binds known (inl (before, k, f)) =
+          known_receives (on_init a header init trigger).0 known
           (init_follows P initial id a k c header init trigger same small (λ e. untouched) f.binds (inl f))
-      init_counts a h binds counts (inr (unknown, w)) =
-          known_receives (on_init a header init trigger).0 (init_known a header init trigger counts)
+      init_knows a h binds known (inr (unknown, w)) =
+          known_receives (on_init a header init trigger).0 known
           (init_follows P initial id a h c header init trigger same small (λ e. untouched) binds (inr w))
 
-      init_receives : (counts : Bool) (a : Shown) (h : History) → Binds a h → is_beginning a.state ≡ counts
-          → FollowsOrAwaits P initial id a c → FollowsOrAwaits P initial id (on_init a header init trigger).0 c
-      init_receives true a h binds e was = init_counts a h binds e was
-      init_receives false a h binds e was =
-          subst (λ (b : Shown). FollowsOrAwaits P initial id b c) (sym (late_init a header init trigger e)) was
+      init_receives : (a : Shown) (h : History) → Binds a h → FollowsOrAwaits P initial id a c
+          → FollowsOrAwaits P initial id (on_init a header init trigger).0 c
+      init_receives a h binds was =
+          ⊎_elim
+          (λ (known : IsKnown (on_init a header init trigger).0). init_knows a h binds known was)
+          (λ (left : IsLeft a (on_init a header init trigger).0).
+          left_receives a (on_init a header init trigger).0 left was)
+          (init_known a header init trigger)
 
       init_ack_receives : (now : ℕ) (a : Shown) (h : History) → Binds a h → FollowsOrAwaits P initial id a c
           → FollowsOrAwaits P initial id (on_init_ack a header init trigger now).0 c
@@ -126,7 +126,7 @@ module _ (P : ChunkPayloadData → Type 0) (initial id : ℕ) (c : Course) where
       unfolding on_chunk
       init_chunk init same =
           init_checked (checked_chunk (chunks.Init init)) a header init trigger now was
-          (init_receives small untouched header init trigger same (is_beginning a.state) a h binds refl was)
+          (init_receives small untouched header init trigger same a h binds was)
 
       init_ack_chunk : (init : ChunkInit) → init.initial_tsn ≡ initial
           → FollowsOrAwaits P initial id (on_chunk a header (chunks.InitAck init) trigger now).0 c

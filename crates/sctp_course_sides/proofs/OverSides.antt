@@ -174,6 +174,7 @@ silent_over a over =
         waiting = n.waiting;
         queued = n.queued;
         active = n.active;
+        ahead = n.ahead;
         in_progress = n.in_progress;
         owed = n.owed;
         kept = n.kept;

@@ -24,15 +24,15 @@ use Rattle.sctp_reset_fit.proofs.Keeping.{goes_nowhere, goes_on}
 use Rattle.sctp_directions.specs.Acts.{History}
 use Rattle.sctp_assoc.specs.declared.inbound.Flow.{Flow}
 use Rattle.sctp_assoc.specs.declared.inbound.Flow.TheVariants as flows
-use Rattle.sctp_assoc.specs.Calls.{is_beginning, is_cookie_echoed, is_established}
+use Rattle.sctp_assoc.specs.Calls.{is_beginning, is_cookie_echoed}
 use Rattle.sctp_assoc.specs.Chunks.{after_chunks, after_packet, after_packet_of, checked_first, dispatched, ended}
 use Rattle.sctp_assoc.specs.Chunks.{goes_on as goes_behind, on_chunk}
 use Rattle.sctp_assoc.specs.Closing.{closed_open, is_closed_state, out_of_resource}
 use Rattle.sctp_assoc.specs.Control.{queued}
-use Rattle.sctp_assoc.specs.Handshake.{acknowledged_cookie, connected, information_returned, on_cookie_ack}
-use Rattle.sctp_assoc.specs.Handshake.{on_cookie_echo, on_heartbeat}
+use Rattle.sctp_assoc.specs.Handshake.{acknowledged_cookie, acknowledges_again, connected, information_returned}
+use Rattle.sctp_assoc.specs.Handshake.{on_cookie_ack, on_cookie_echo, on_heartbeat}
 use Rattle.sctp_assoc.specs.Shown.{Shown}
-use Rattle.sctp_assoc.specs.Shutdown.{shutdown_answered, shutdown_taken}
+use Rattle.sctp_assoc.specs.Shutdown.{shutdown_again, shutdown_answered, shutdown_taken}
 use Rattle.sctp_assoc.specs.Skipping.{skips_of}
 use Rattle.sctp_sides.specs.Brought.{BringsOnly, IsOnly}
 use Rattle.sctp_course_sides.specs.Following.{ChunksCome, IsNoGreeting, LeadsFollowing, LeadsUnlessLost, PacketComes}
@@ -75,17 +75,16 @@ all_come_still initial id c d goes (x ∷ xs) came =
 module _ (P : ChunkPayloadData → Type 0) (initial id : ℕ) where
   -- The handshake, where the peer is known
 
-  cookie_echo_follows : (issued beginning established : Bool) (a : Shown) (h : History) (c : Course)
+  cookie_echo_follows : (issued beginning again : Bool) (a : Shown) (h : History) (c : Course)
       (cookie : List ℕ) (trigger : AckTrigger) → has_issued a.handshake cookie ≡ issued
-      → is_beginning a.state ≡ beginning → is_established a.state ≡ established → Follows P initial id a h c
+      → is_beginning a.state ≡ beginning → acknowledges_again a ≡ again → Follows P initial id a h c
       → LeadsFollowing P initial id (on_cookie_echo a cookie trigger).0 c
   unfolding on_cookie_echo
-  cookie_echo_follows false beginning established a h c cookie trigger e g i f =
-      rw e (same_following P initial id a h c f)
-  cookie_echo_follows true true established a h c cookie trigger e g i f =
+  cookie_echo_follows false beginning again a h c cookie trigger e g i f = rw e (same_following P initial id a h c f)
+  cookie_echo_follows true true again a h c cookie trigger e g i f =
       rw (e, g) (stays_following P initial id a (acknowledged_cookie (connected a)) h c refl refl refl f)
   cookie_echo_follows true false true a h c cookie trigger e g i f =
-      rw (e, g, i) (stays_following P initial id a (acknowledged_cookie a) h c refl refl refl f)
+      rw (e, g, i) (stays_following P initial id a (acknowledged_cookie (shutdown_again a)) h c refl refl refl f)
   cookie_echo_follows true false false a h c cookie trigger e g i f =
       rw (e, g, i) (same_following P initial id a h c f)
 
@@ -133,7 +132,7 @@ module _ (P : ChunkPayloadData → Type 0) (initial id : ℕ) where
       stays_following P initial id a (shutdown_answered a) h c refl refl refl f
   kind_follows a h c header (chunks.Error x) trigger now other came so shakes f = same_following P initial id a h c f
   kind_follows a h c header (chunks.CookieEcho x) trigger now other came so shakes f =
-      cookie_echo_follows (has_issued a.handshake x) (is_beginning a.state) (is_established a.state) a h c x trigger
+      cookie_echo_follows (has_issued a.handshake x) (is_beginning a.state) (acknowledges_again a) a h c x trigger
       refl refl refl f
   kind_follows a h c header chunks.CookieAck trigger now other came so shakes f =
       cookie_ack_follows (is_cookie_echoed a.state) a h c trigger refl f

@@ -1,7 +1,7 @@
 -- The calls of a side that receives keep to the course of each stream, all but reads. Nothing comes by them, and
 -- nothing is read.
-use Rattle.std.proofs.Common.{◌≡◌, refl, sym, ap, ◌∙◌, subst, ℕ, ◌<◌, ◌≤◌, ◌^◌, not, Bool, true, false, cond}
-use Rattle.std.proofs.Common.{if◌then◌else◌, filter, List, [], ◌∷◌, length, Option, Some, None}
+use Rattle.std.proofs.Common.{◌≡◌, refl, sym, ap, ◌∙◌, subst, ℕ, ◌<◌, ◌≤◌, ◌^◌, Bool, true, false, cond}
+use Rattle.std.proofs.Common.{if◌then◌else◌, List, [], ◌∷◌, length, Option, Some, None}
 use Rattle.std.specs.Prelude.{remove, slice_get, ⊤}
 use Rattle.std.proofs.lemmas.Bool.{true≢false}
 use Rattle.sctp_wire_types.specs.Config.{is_rfc}
@@ -13,13 +13,11 @@ use Rattle.sctp_streams.specs.declared.event.AssociationError.TheVariants as rea
 use Rattle.sctp_streams.specs.declared.event.Event.{Event}
 use Rattle.sctp_streams.specs.declared.setting.Setting.{Setting}
 use Rattle.sctp_streams.specs.declared.setting.Setting.TheVariants as settings
-use Rattle.sctp_streams.specs.Events.{is_told_of}
-use Rattle.sctp_streams.specs.Stream.{StreamView, is_read_half_open, without_unread}
-use Rattle.sctp_streams.specs.Streams.{StreamMap, changed_stream, stream_at}
-use Rattle.sctp_generations.specs.Generations as generations
+use Rattle.sctp_streams.specs.Stream.{StreamView, is_read_half_open}
+use Rattle.sctp_streams.specs.Streams.{StreamMap, stream_at}
 use Rattle.sctp_reset_requests.specs.Peer.{PeerView}
-use Rattle.sctp_resets.specs.Resets.{Beside, ResetsView, ended_unless, event_told, event_told_at, is_blocked}
-use Rattle.sctp_resets.specs.Resets.{is_retiring, stopped_reading, waiting_for, with_event, with_generations}
+use Rattle.sctp_resets.specs.Resets.{Beside, ResetsView, event_told, event_told_at, is_retiring, stopped_reading}
+use Rattle.sctp_resets.specs.Resets.{waiting_for, with_event}
 use Rattle.sctp_resets.specs.Telling.{next_told}
 use Rattle.sctp_directions.specs.Acts.{History, reach_in, type_on}
 use Rattle.sctp_courses.specs.Course.{Course, Request}
@@ -42,6 +40,7 @@ use Rattle.sctp_assoc.specs.Shutdown.{endpoint_event_polled, shutdown_begun}
 use Rattle.sctp_sides.specs.OneSide.{Call, call_refusal, carried_out, with_told}
 use Rattle.sctp_sides.proofs.LiveStreams.{opened_streams_were_not_live}
 use Rattle.sctp_course_sides.specs.Follows.{AwaitsIts, Follows, IsUntouched}
+use Rattle.sctp_course_sides.proofs.ReadsStopped.{stopped_has}
 use Rattle.sctp_course_sides.proofs.ReceiverPolls.{KeepsOn, course_on, polled_on, same_on, stays_on, then_on}
 use Rattle.sctp_course_sides.proofs.ReceiverPolls.{timeouts_on, with_peer_of}
 
@@ -63,18 +62,11 @@ told_stays : (o : Option ℕ) (r : ResetsView) (told : List Event)
 told_stays None r told = (refl, refl)
 told_stays (Some index) r told = event_stays (slice_get told index) r (remove told index)
 
-ended_peer : (blocked : Bool) (r : ResetsView) (k : ℕ) (m : StreamMap) (told : List Event)
-    → (ended_unless blocked r k m told).0.peer ≡ r.peer
-ended_peer true r k m told = refl
-ended_peer false r k m told = refl
-
 stopped_peer : (retires : Bool) (r : ResetsView) (m n : StreamMap) (told : List Event) (k : ℕ)
     → (cond {A = Beside} retires (stopped_reading k r (with_read_half_closed m k) told)
     (waiting_for r k, n, told)).0.peer ≡ r.peer
 stopped_peer true r m n told k =
-    let s : ResetsView = with_generations r (generations.discarded r.generations k) in
-    ended_peer (is_blocked s k) s k (changed_stream without_unread (with_read_half_closed m k) k)
-    (filter (λ e. not (is_told_of k e)) told)
+    stopped_has (λ (s : ResetsView). s.peer ≡ r.peer) k r (with_read_half_closed m k) told refl refl
 stopped_peer false r m n told k = refl
 
 -- a stop, by its two ways, where these streams are left of one that does not retire

@@ -1,13 +1,13 @@
 -- What the timers of a side that receives do, and its polls for packets, keeps to the course of each stream. Nothing
 -- comes by them, and nothing is read.
 use Rattle.std.proofs.Common.{◌≡◌, refl, sym, ap, ◌∙◌, subst, ℕ, Bool, true, false, if◌then◌else◌, List, [], ◌∷◌}
-use Rattle.std.proofs.Common.{Option, Some, None}
+use Rattle.std.proofs.Common.{Option, Some, None, is_some}
 use Rattle.std.proofs.lemmas.Bool.{true≢false}
 use Rattle.sctp_wire_types.specs.declared.chunk.ChunkPayloadData.{ChunkPayloadData}
 use Rattle.sctp_wire_types.specs.declared.chunk.Chunk.{Chunk}
 use Rattle.sctp_wire_types.specs.declared.error.Error.TheVariants as errors
 use Rattle.sctp_parts.specs.declared.timer.Timer.TheVariants as names
-use Rattle.sctp_parts.specs.Timers.{expiry_of, started}
+use Rattle.sctp_parts.specs.Timers.{expiry_of, started, with_stopped}
 use Rattle.sctp_streams.specs.Streams.{StreamMap}
 use Rattle.sctp_outbound_queue.specs.declared.message.InFlight.{InFlight}
 use Rattle.sctp_outbound_queue.specs.declared.queue.Released.{Released}
@@ -315,21 +315,30 @@ module _ (P : ChunkPayloadData → Type 0) (initial id : ℕ) where
   t3_on true true a now = same_on a _ refl refl refl
   t3_on true false a now = retransmits_on a now
 
-  gives_up_on : (a : Shown) → KeepsOn P initial id a (gives_up a)
-  gives_up_on a =
+  -- a request goes out again, or none is active
+  going_on : (active : Bool) (a : Shown) (now : ℕ)
+      → KeepsOn P initial id a
+      (if active then asks_again a now else record a { timers = with_stopped names.Reconfig a.timers })
+  going_on true a now = same_on a _ refl refl refl
+  going_on false a now = same_on a _ refl refl refl
+
+  gives_up_on : (a : Shown) (now : ℕ) → KeepsOn P initial id a (gives_up a now)
+  gives_up_on a now =
       let x : Beside = given_up a.resets a.streams a.events in
+      let b : Shown = with_beside a x in
       then_on
       (beside_on a x (given_up_keeps P initial id a.resets a.streams a.events)
       (given_up_peer a.resets a.streams a.events))
-      (same_on (with_beside a x) (gives_up a) refl refl refl)
+      (going_on (is_some b.resets.own.active) b now)
 
   reconfig_on : (expired failure : Bool) (a : Shown) (now : ℕ)
       → KeepsOn P initial id a
-      (if expired then (if failure then gives_up (reconfig_expired a now) else asks_again (reconfig_expired a now) now)
+      (if expired then
+      (if failure then gives_up (reconfig_expired a now) now else asks_again (reconfig_expired a now) now)
       else a)
   reconfig_on false failure a now = stays_on a
   reconfig_on true true a now =
-      let b : Shown = reconfig_expired a now in then_on (same_on a b refl refl refl) (gives_up_on b)
+      let b : Shown = reconfig_expired a now in then_on (same_on a b refl refl refl) (gives_up_on b now)
   reconfig_on true false a now = same_on a _ refl refl refl
 
   delay_on : (expired : Bool) (a : Shown) (now : ℕ) → (expiry_of names.Ack now a.timers).expired ≡ expired

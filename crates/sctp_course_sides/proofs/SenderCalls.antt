@@ -1,7 +1,7 @@
 -- The calls of an application, and the timers, leave what a side sends of a stream its course; where one closes the
 -- association nothing is said.
 use Rattle.std.proofs.Common.{◌≡◌, refl, sym, ap, ◌∙◌, subst, ⊎_elim, ℕ, ◌<◌, ◌^◌, ◌==◌, ◌||◌, Bool, true}
-use Rattle.std.proofs.Common.{false, if◌then◌else◌, List, [], ◌∷◌, length, Option, Some, None}
+use Rattle.std.proofs.Common.{false, if◌then◌else◌, List, [], ◌∷◌, length, Option, Some, None, is_some}
 use Rattle.std.specs.Prelude.{remove, slice_get}
 use Rattle.std.proofs.lemmas.Bool.{cases_Bool, eqb-true, false≢true, true≢false}
 use Rattle.sctp_wire_types.specs.Config.{is_rfc}
@@ -10,7 +10,7 @@ use Rattle.sctp_wire_types.specs.declared.event.StreamEvent.{StreamEvent}
 use Rattle.sctp_wire_types.specs.declared.event.StreamEvent.TheVariants as said
 use Rattle.sctp_wire_types.specs.declared.ids.PayloadProtocolIdentifier.{PayloadProtocolIdentifier}
 use Rattle.sctp_parts.specs.declared.timer.Timer.TheVariants as names
-use Rattle.sctp_parts.specs.Timers.{expiry_of}
+use Rattle.sctp_parts.specs.Timers.{expiry_of, with_stopped}
 use Rattle.sctp_receive_queues.specs.Messages.{ReceivedMessage}
 use Rattle.sctp_streams.specs.declared.event.AssociationError.{AssociationError}
 use Rattle.sctp_streams.specs.declared.event.AssociationError.TheVariants as reasons
@@ -20,15 +20,16 @@ use Rattle.sctp_streams.specs.declared.setting.Setting.{Setting}
 use Rattle.sctp_streams.specs.Stream.{StreamView, is_read_half_open}
 use Rattle.sctp_streams.specs.Streams.{StreamMap, read_in, stream_at}
 use Rattle.sctp_inbound.specs.declared.handshake.Offer.{Offer}
+use Rattle.sctp_generations.specs.Generations as generations
 use Rattle.sctp_reset_requests.specs.Debts.{DebtsView, entry_at, is_owed, one_end_given, one_given}
 use Rattle.sctp_reset_requests.specs.Ids.{has_id}
 use Rattle.sctp_reset_requests.specs.Own.{is_asked_for}
 use Rattle.sctp_reset_requests.specs.Peer.{boundary_of}
 use Rattle.sctp_resets.specs.Channels.{channels}
 use Rattle.sctp_resets.specs.Draining.{Reading, drained_out}
-use Rattle.sctp_resets.specs.Resets.{Beside, ResetsView, Resetting, ended_unless, event_told, event_told_at, given_up}
-use Rattle.sctp_resets.specs.Resets.{is_blocked, is_retiring, read_out, stopped_reading, waiting_for, with_event}
-use Rattle.sctp_resets.specs.Resets.{with_read}
+use Rattle.sctp_resets.specs.Resets.{Beside, ResetsView, Resetting, event_told, event_told_at, given_up, is_blocked}
+use Rattle.sctp_resets.specs.Resets.{is_retiring, read_out, stopped_reading, waiting_for, with_event}
+use Rattle.sctp_resets.specs.Resets.{with_generations, with_read}
 use Rattle.sctp_resets.specs.Telling.{debts_said, debts_told, next_told}
 use Rattle.sctp_directions.specs.Acts.{Act, History, message_of, type_on}
 use Rattle.sctp_courses.specs.Course.{Course}
@@ -53,6 +54,7 @@ use Rattle.sctp_sides.proofs.ActiveOverRuns.{writes_wait_for_resets}
 use Rattle.sctp_sides.proofs.QuietQueues.{acts_add_none, message_adds_none}
 use Rattle.sctp_course_sides.specs.Sends.{IsHeldBack, Sends}
 use Rattle.sctp_course_sides.proofs.Identifiers.{inserted_small}
+use Rattle.sctp_course_sides.proofs.ReadsStopped.{stopped_has}
 use Rattle.sctp_course_sides.proofs.SenderParts.{Asks, AsksOf, asks_of, flown_of, marked_flown, quiet_of}
 use Rattle.sctp_course_sides.proofs.SenderParts.{sends_by_asks, sends_from}
 use Rattle.sctp_course_sides.proofs.SenderRequests.{changed_failed, given_up_asks, repeated_asks}
@@ -190,11 +192,6 @@ module _ (initial id : ℕ) (c : Course) where
 
   -- Stops
 
-  dropped_asks : (blocked : Bool) (r : ResetsView) (stream : ℕ) (m : StreamMap) (told : List Event)
-      → AsksOf initial id c r → AsksOf initial id c (ended_unless blocked r stream m told).0
-  dropped_asks true r stream m told x = x
-  dropped_asks false r stream m told x = x
-
   waiting_asks : (r : ResetsView) (stream : ℕ) → stream < 2 ^ 16 → AsksOf initial id c r
       → AsksOf initial id c (waiting_for r stream)
   waiting_asks r stream l x = record {
@@ -214,7 +211,10 @@ module _ (initial id : ℕ) (c : Course) where
       record b { streams = unread_dropped (is_rfc b.profile) b.streams stream; resets = waiting_for b.resets stream })
   stopping_keeps true a stream l =
       let b : Shown = without_read_half_of a stream in
-      beside_keeps b (stopped_reading stream b.resets b.streams b.events) (λ x. dropped_asks _ _ stream _ _ x)
+      let r : ResetsView = with_generations b.resets (generations.discarded b.resets.generations stream) in
+      beside_keeps b (stopped_reading stream b.resets b.streams b.events)
+      (λ x. stopped_has (λ (s : ResetsView). AsksOf initial id c s) stream b.resets b.streams b.events x
+      (waiting_asks r stream l x))
   stopping_keeps false a stream l = (refl, waiting_asks a.resets stream l)
 
   -- Timers
@@ -254,21 +254,32 @@ module _ (initial id : ℕ) (c : Course) where
   t1_cookie_keeps true true a now = (refl, λ x. x)
   t1_cookie_keeps true false a now = echo_keeps (t1_cookie_expired a now) now
 
-  giving_up_keeps : (a : Shown) → Keeps a (gives_up a)
-  giving_up_keeps a =
-      beside_keeps a (given_up a.resets a.streams a.events) (given_up_asks initial id c a.resets a.streams a.events)
-
-  reconfig_keeps : (expired failure : Bool) (a : Shown) (now : ℕ)
-      → Keeps a
-      (if expired then (if failure then gives_up (reconfig_expired a now) else asks_again (reconfig_expired a now) now)
-      else a)
-  reconfig_keeps false failure a now = (refl, λ x. x)
-  reconfig_keeps true true a now = giving_up_keeps (reconfig_expired a now)
-  reconfig_keeps true false a now = (
+  -- a request goes out again, or none is active
+  going_on_keeps : (active : Bool) (a : Shown) (now : ℕ)
+      → Keeps a (if active then asks_again a now else record a { timers = with_stopped names.Reconfig a.timers })
+  going_on_keeps true a now = (
     refl,
     repeated_asks initial id c true a.resets.own.next_number a.resets.own.waiting a.resets.own.queued
         a.resets.own.active a.resets.peer.in_progress a.resets.debts.failed,
   )
+  going_on_keeps false a now = (refl, λ x. x)
+
+  giving_up_keeps : (a : Shown) (now : ℕ) → Keeps a (gives_up a now)
+  giving_up_keeps a now =
+      let y : Beside = given_up a.resets a.streams a.events in
+      let b : Shown = with_beside a y in
+      then_keeps a b (gives_up a now)
+      (beside_keeps a y (given_up_asks initial id c a.resets a.streams a.events))
+      (going_on_keeps (is_some b.resets.own.active) b now)
+
+  reconfig_keeps : (expired failure : Bool) (a : Shown) (now : ℕ)
+      → Keeps a
+      (if expired then
+      (if failure then gives_up (reconfig_expired a now) now else asks_again (reconfig_expired a now) now)
+      else a)
+  reconfig_keeps false failure a now = (refl, λ x. x)
+  reconfig_keeps true true a now = giving_up_keeps (reconfig_expired a now) now
+  reconfig_keeps true false a now = going_on_keeps true (reconfig_expired a now) now
 
   ack_delay_keeps : (expired : Bool) (a : Shown) (now : ℕ) → (expiry_of names.Ack now a.timers).expired ≡ expired
       → Keeps a (after_ack_delay a now)

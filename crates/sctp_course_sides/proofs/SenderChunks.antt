@@ -39,7 +39,7 @@ use Rattle.sctp_courses.specs.Course.{Course}
 use Rattle.sctp_courses.specs.Invariants.{Invariant}
 use Rattle.sctp_assoc.specs.declared.inbound.Flow.{Flow}
 use Rattle.sctp_assoc.specs.declared.inbound.Flow.TheVariants as flows
-use Rattle.sctp_assoc.specs.Calls.{is_beginning, is_cookie_echoed, is_cookie_wait, is_established, sends_data}
+use Rattle.sctp_assoc.specs.Calls.{is_beginning, is_cookie_echoed, is_cookie_wait, sends_data}
 use Rattle.sctp_assoc.specs.Chunks.{after_sack, asks, asks_or_faults, checked_first, counted_data, counted_sack}
 use Rattle.sctp_assoc.specs.Chunks.{deferred_unless, deferred_where_admitted, dispatched, goes_unread}
 use Rattle.sctp_assoc.specs.Chunks.{left_or_handed_over, on_chunk, on_counted_sack, on_data, on_new_data, on_sack}
@@ -47,8 +47,9 @@ use Rattle.sctp_assoc.specs.Chunks.{stream_found, taken_in, taken_unless, taken_
 use Rattle.sctp_assoc.specs.Chunks.{with_message}
 use Rattle.sctp_assoc.specs.Closing.{is_exhausted}
 use Rattle.sctp_assoc.specs.Finding.{found_for}
-use Rattle.sctp_assoc.specs.Handshake.{cookie_queued, echoed, information_returned, learned_back, on_cookie_ack}
-use Rattle.sctp_assoc.specs.Handshake.{on_cookie_echo, on_heartbeat, on_init, on_init_ack, sends_cookie}
+use Rattle.sctp_assoc.specs.Handshake.{acknowledges_again, cookie_queued, echoed, information_returned, keeps_peer}
+use Rattle.sctp_assoc.specs.Handshake.{learned_back, on_cookie_ack, on_cookie_echo, on_heartbeat, on_init, on_init_ack}
+use Rattle.sctp_assoc.specs.Handshake.{sends_cookie}
 use Rattle.sctp_assoc.specs.Happened.{acts_of_chunk}
 use Rattle.sctp_assoc.specs.Leads.{Leads, parts}
 use Rattle.sctp_assoc.specs.Probes.{is_probing}
@@ -309,11 +310,12 @@ module _ (initial id : ℕ) (c : Course) where
 
   -- The handshake
 
-  init_keeps : (begins : Bool) (a : Shown) (header : CommonHeader) (init : ChunkInit) (trigger : AckTrigger)
-      → is_beginning a.state ≡ begins → Keeps a (on_init a header init trigger).0
+  init_keeps : (begins keeps : Bool) (a : Shown) (header : CommonHeader) (init : ChunkInit) (trigger : AckTrigger)
+      → is_beginning a.state ≡ begins → keeps_peer a init ≡ keeps → Keeps a (on_init a header init trigger).0
   unfolding on_init
-  init_keeps true a header init trigger e = rw e (λ x. x)
-  init_keeps false a header init trigger e = rw e (λ x. x)
+  init_keeps true true a header init trigger e k = rw (e, k) (λ x. x)
+  init_keeps true false a header init trigger e k = rw (e, k) (λ x. x)
+  init_keeps false keeps a header init trigger e k = rw e (λ x. x)
 
   queued_keeps : (o : Option (List ℕ)) (a : Shown) → Keeps a (cookie_queued o a)
   queued_keeps None a = λ x. x
@@ -351,12 +353,12 @@ module _ (initial id : ℕ) (c : Course) where
   init_ack_keeps a header init trigger now =
       init_ack_if (is_cookie_wait a.state) (comes_back a.handshake header) a header init trigger now
 
-  cookie_echo_keeps : (issued begins established : Bool) (a : Shown) (cookie : List ℕ) (trigger : AckTrigger)
-      → has_issued a.handshake cookie ≡ issued → is_beginning a.state ≡ begins → is_established a.state ≡ established
+  cookie_echo_keeps : (issued begins again : Bool) (a : Shown) (cookie : List ℕ) (trigger : AckTrigger)
+      → has_issued a.handshake cookie ≡ issued → is_beginning a.state ≡ begins → acknowledges_again a ≡ again
       → Keeps a (on_cookie_echo a cookie trigger).0
   unfolding on_cookie_echo
-  cookie_echo_keeps false begins established a cookie trigger e f g = rw e (λ x. x)
-  cookie_echo_keeps true true established a cookie trigger e f g = rw (e, f) (λ x. x)
+  cookie_echo_keeps false begins again a cookie trigger e f g = rw e (λ x. x)
+  cookie_echo_keeps true true again a cookie trigger e f g = rw (e, f) (λ x. x)
   cookie_echo_keeps true false true a cookie trigger e f g = rw (e, f, g) (λ x. x)
   cookie_echo_keeps true false false a cookie trigger e f g = rw (e, f, g) (λ x. x)
 
@@ -450,7 +452,8 @@ module _ (initial id : ℕ) (c : Course) where
     kind_keeps header (chunks.SelectiveAck k) a trigger now some p =
         sack_keeps (sends_data a.state) a k.cumulative_tsn_ack k.gap_ack_blocks k.advertised_receiver_window_credit
         trigger now refl
-    kind_keeps header (chunks.Init y) a trigger now some p = init_keeps (is_beginning a.state) a header y trigger refl
+    kind_keeps header (chunks.Init y) a trigger now some p =
+        init_keeps (is_beginning a.state) (keeps_peer a y) a header y trigger refl refl
     kind_keeps header (chunks.InitAck y) a trigger now some p = init_ack_keeps a header y trigger now
     kind_keeps header (chunks.Heartbeat y) a trigger now some p = heartbeat_keeps a y trigger
     kind_keeps header (chunks.HeartbeatAck y) a trigger now some p = λ x. x
@@ -459,7 +462,7 @@ module _ (initial id : ℕ) (c : Course) where
     kind_keeps header chunks.ShutdownAck a trigger now some p = λ x. x
     kind_keeps header (chunks.Error y) a trigger now some p = λ x. x
     kind_keeps header (chunks.CookieEcho y) a trigger now some p =
-        cookie_echo_keeps (has_issued a.handshake y) (is_beginning a.state) (is_established a.state) a y trigger refl
+        cookie_echo_keeps (has_issued a.handshake y) (is_beginning a.state) (acknowledges_again a) a y trigger refl
         refl refl
     kind_keeps header chunks.CookieAck a trigger now some p =
         cookie_ack_keeps (is_cookie_echoed a.state) a trigger refl

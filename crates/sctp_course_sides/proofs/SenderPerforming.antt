@@ -1,17 +1,17 @@
 -- A request of the peer comes, waits and is performed: what a side asks for stays that of the course.
-use Rattle.std.proofs.Common.{◌≡◌, refl, sym, ◌∙◌, subst, ℕ, suc, ◌<◌, ◌≤◌, ◌^◌, ◌==◌, Bool, true, false, arith}
-use Rattle.std.proofs.Common.{filter, is_some, if◌then◌else◌, List, [], ◌∷◌, fold, length, nat_cmp, Ordering, Less}
-use Rattle.std.proofs.Common.{Equal, Greater}
-use Rattle.std.proofs.Common.{Option, Some, None}
+use Rattle.std.proofs.Common.{◌≡◌, refl, sym, ◌∙◌, subst, ℕ, suc, ◌<◌, ◌≤◌, ◌^◌, ◌==◌, ◌||◌, Bool, true, false, arith}
+use Rattle.std.proofs.Common.{filter, is_some, if◌then◌else◌, nat_le, not, List, [], ◌∷◌, fold, length, nat_cmp}
+use Rattle.std.proofs.Common.{Ordering, Less, Equal, Greater, Option, Some, None}
 use Rattle.std.specs.BTreeSet.{insert_key}
 use Rattle.std.specs.Ordering.{match_ordering}
 use Rattle.std.specs.Prelude.{⊤}
-use Rattle.std.proofs.lemmas.Bool.{false≢true}
+use Rattle.std.proofs.lemmas.Bool.{and_left, false≢true}
 use Rattle.std.proofs.lemmas.Bool.Decides.{nat_tests}
+use Rattle.sctp_wire_types.specs.Config.{is_rfc}
 use Rattle.sctp_wire_types.specs.declared.param.ParamOutgoingResetRequest.{ParamOutgoingResetRequest}
 use Rattle.sctp_wire.specs.Numbers.{IsU16}
 use Rattle.sctp_model.proofs.Lists.{all_filter, all_push}
-use Rattle.sctp_streams.specs.Streams.{live_ids, stream_at}
+use Rattle.sctp_streams.specs.Streams.{StreamMap, live_ids, stream_at}
 use Rattle.sctp_generations.specs.declared.retirement.Retirement.{Retirement}
 use Rattle.sctp_generations.specs.declared.retirement.Retirement.TheVariants as retirements
 use Rattle.sctp_generations.specs.Generations.{retired, retirement_of}
@@ -20,20 +20,24 @@ use Rattle.sctp_reset_requests.specs.declared.answer.Arrival.TheVariants as arri
 use Rattle.sctp_reset_requests.specs.declared.answer.Standing.{Standing}
 use Rattle.sctp_reset_requests.specs.declared.answer.Standing.TheVariants as standings
 use Rattle.sctp_reset_requests.specs.Ids.{set_of}
+use Rattle.sctp_reset_requests.specs.Own.{OwnView, answers_all, most_ids}
 use Rattle.sctp_reset_requests.specs.Peer.{PeerView, advanced, advanced_with, arrived, arrived_as, completed}
 use Rattle.sctp_reset_requests.specs.Peer.{standing_of, taken_up}
 use Rattle.sctp_reset_requests.specs.Request.{PeerRequestView, is_due, names_all, request_of}
 use Rattle.sctp_resets.specs.Channels.{Channels}
-use Rattle.sctp_resets.specs.Performing.{Performing, is_drained, named_live, performing, retired_as, retired_each}
-use Rattle.sctp_resets.specs.Performing.{retired_next, retired_one, with_retired}
+use Rattle.sctp_resets.specs.Performing.{Performing, answered_in, is_drained, named_in, named_live, performing}
+use Rattle.sctp_resets.specs.Performing.{retired_as, retired_each, retired_next, retired_one, with_retired}
 use Rattle.sctp_resets.specs.Resets.{Beside, ResetsView, Resetting, arrived_with, confirmed_by, handled, handled_behind}
 use Rattle.sctp_resets.specs.Resets.{performed, performed_with, settled_by, settled_where, skips_done, skips_done_in}
 use Rattle.sctp_resets.specs.Resets.{with_channels, with_skips_done}
 use Rattle.sctp_resets.specs.Resets as resets
 use Rattle.sctp_resets.specs.Skips.{Skipping, skips_applied}
+use Rattle.sctp_resets.proofs.EndsTold.{each_to_reset}
+use Rattle.sctp_resets.proofs.ListsOver.{of_chosen}
 use Rattle.sctp_courses.specs.Course.{Course}
 use Rattle.sctp_course_sides.specs.Answers.{IsOfPerformed}
 use Rattle.sctp_course_sides.specs.Sends.{AreIdentifiers, PeerNames, PeerNamesStreams}
+use Rattle.sctp_course_sides.proofs.EndsTold.{answered_failed}
 use Rattle.sctp_course_sides.proofs.Identifiers.{set_small}
 use Rattle.sctp_course_sides.proofs.SenderParts.{Asks, AsksOf}
 use Rattle.sctp_course_sides.proofs.SenderRequests.{confirmed_asks, current_asks, made_asks}
@@ -159,15 +163,34 @@ each_small boundary [] x s l = s
 each_small boundary (i ∷ is) x s (l, ls) =
     each_small boundary is (retired_next boundary x i) (next_small boundary x i s l) ls
 
-named_small : (all : Bool) (live ids : List ℕ) (is_live : ℕ → Bool) → all ≡ false → AreIdentifiers ids
-    → AreIdentifiers (if all then live else filter is_live ids)
-named_small true live ids is_live e s = absurd (false≢true (sym e))
-named_small false live ids is_live e s = all_filter IsU16 is_live ids s
+listed_small : (all : Bool) (live ids : List ℕ) → all ≡ false → AreIdentifiers ids
+    → AreIdentifiers (if all then live else ids)
+listed_small true live ids e s = absurd (false≢true (sym e))
+listed_small false live ids e s = s
 
 ended_small : (q : PeerRequestView) (p : Performing) → PeerNames q → AreIdentifiers (retired_each q p).1
 ended_small q p n =
+    let is_live : ℕ → Bool = λ (i : ℕ). is_some (stream_at p.streams i) in
     each_small q.last_tsn (named_live p.streams q) (p, []) tt
-    (named_small (names_all q) (live_ids p.streams) q.ids (λ (i : ℕ). is_some (stream_at p.streams i)) n.listed n.small)
+    (listed_small (names_all q) (live_ids p.streams) (filter is_live q.ids) n.listed
+    (all_filter IsU16 is_live q.ids n.small))
+
+-- The streams that this side resets in answer
+
+named_small : (o : OwnView) (m : StreamMap) (q : PeerRequestView) → PeerNames q → AreIdentifiers (named_in o m q)
+named_small o m q n =
+    of_chosen AreIdentifiers (is_rfc o.profile) (if names_all q then live_ids m else q.ids) []
+    (listed_small (names_all q) (live_ids m) q.ids n.listed n.small) tt
+
+answered_small : (o : OwnView) (named : List ℕ) (y : Performing × List ℕ) → AreIdentifiers named → AreIdentifiers y.1
+    → AreIdentifiers (answered_in o named y).1
+answered_small o named (p, retired) s t = each_to_reset IsU16 o named retired s t
+
+-- its request lists them where that of the peer does
+answers_listed : (o : OwnView) (q : PeerRequestView) (ids : List ℕ) → names_all q ≡ false
+    → answers_all o q ids ≡ false
+answers_listed o q ids listed =
+    and_left (names_all q) (length o.ahead == 0 || not (nat_le (length ids) most_ids)) listed
 
 module _ (initial id : ℕ) (c : Course) where
   -- Skips that were kept are applied
@@ -186,12 +209,12 @@ module _ (initial id : ℕ) (c : Course) where
 
   -- A request of the peer is performed
 
-  reset_asks : (q : PeerRequestView) (first limit : ℕ) (r : ResetsView) (to_accept : List ℕ) (p : Performing × List ℕ)
-      → p.0.debts.failed ≡ r.debts.failed → PeerNames q → AreIdentifiers p.1 → AsksOf initial id c r
-      → AsksOf initial id c (performed_with q first limit r to_accept p).0.0
-  reset_asks q first limit r to_accept (p, ids) e n small x =
-      made_asks initial id c (length ids == 0) (names_all q) r.own q.number ids r.peer.in_progress p.debts.failed
-      n.listed (λ some. some_ids (length ids) some) small
+  reset_asks : (q : PeerRequestView) (first limit : ℕ) (r : ResetsView) (to_accept named : List ℕ)
+      (p : Performing × List ℕ) → p.0.debts.failed ≡ r.debts.failed → PeerNames q → AreIdentifiers p.1
+      → AsksOf initial id c r → AsksOf initial id c (performed_with q first limit r to_accept named p).0.0
+  reset_asks q first limit r to_accept named (p, ids) e n small x =
+      made_asks initial id c (length ids == 0) (answers_all r.own q ids) r.own q.number ids r.peer.in_progress
+      p.debts.failed (answers_listed r.own q ids n.listed) (λ some. some_ids (length ids) some) small
       (subst
       (λ (fs : List ℕ).
       Asks initial id c r.own.next_number r.own.waiting r.own.queued r.own.active r.peer.in_progress fs)
@@ -202,7 +225,11 @@ module _ (initial id : ℕ) (c : Course) where
   unfolding performed
   performed_asks q first limit r ch n x =
       let p : Performing = performing r.generations r.debts ch.streams ch.events in
-      reset_asks q first limit r ch.to_accept (retired_each q p) (retired_failed q p) n (ended_small q p n) x
+      let named : List ℕ = named_in r.own ch.streams q in
+      let y : Performing × List ℕ = retired_each q p in
+      reset_asks q first limit r ch.to_accept named (answered_in r.own named y)
+      (answered_failed r.own named y ∙ retired_failed q p) n
+      (answered_small r.own named y (named_small r.own ch.streams q n) (ended_small q p n)) x
 
   -- what waits of the peer is what is left
   peer_asks : (p : PeerView) (r : ResetsView) → PeerNamesStreams p.in_progress → AsksOf initial id c r

@@ -1,17 +1,18 @@
 -- What becomes of a side's open requests leaves them those of the course: the active one ends or goes again, and one is
 -- made where a request of the peer is performed.
 use Rattle.std.proofs.Common.{◌≡◌, refl, sym, ap, ◌∙◌, subst, ◌⊎◌, inl, inr, ℕ, suc, ◌<◌, ◌≤◌, ◌+◌, ◌^◌, ◌||◌}
-use Rattle.std.proofs.Common.{arith, Bool, true, false, if◌then◌else◌, List, [], ◌∷◌, ◌++◌, length}
+use Rattle.std.proofs.Common.{◌==◌, arith, Bool, true, false, not, if◌then◌else◌, List, [], ◌∷◌, ◌++◌, length}
 use Rattle.std.proofs.Common.{is_eq, nat_cmp, Ordering, Less, Equal, Greater, Option, Some, None, Result, Ok, Err}
 use Rattle.std.specs.BTreeMap.{is_at}
 use Rattle.std.specs.BTreeSet.{insert_key}
 use Rattle.std.specs.List.{AllByRecursion, list_any}
 use Rattle.std.specs.Map.{remove_entry, set_value}
 use Rattle.std.specs.Ordering.{match_ordering}
-use Rattle.std.proofs.lemmas.Bool.{eqb-true, false≢true}
+use Rattle.std.proofs.lemmas.Bool.{and_parts, eqb-true, false≢true}
 use Rattle.std.proofs.lemmas.Bool.Decides.{nat_tests}
 use Rattle.std.proofs.lemmas.List.{drop_all, length_push}
 use Rattle.sctp_serial.specs.Serial.{tsn, tsn_after}
+use Rattle.sctp_wire_types.specs.Config.{is_rfc}
 use Rattle.sctp_wire_types.specs.declared.event.StreamResetError.{StreamResetError}
 use Rattle.sctp_wire_types.specs.declared.event.StreamResetError.TheVariants as reasons
 use Rattle.sctp_wire_types.specs.declared.param.ParamReconfigResponse.{ParamReconfigResponse}
@@ -24,13 +25,14 @@ use Rattle.sctp_reset_requests.specs.declared.own_request.OwnRequest.{OwnRequest
 use Rattle.sctp_reset_requests.specs.declared.own_request.SentRequest.{SentRequest}
 use Rattle.sctp_reset_requests.specs.Debts.{DebtsView, changed_from, entry_at, is_nothing, marked_failed, one_end_less}
 use Rattle.sctp_reset_requests.specs.Ids.{has_id}
-use Rattle.sctp_reset_requests.specs.Own.{AreNumbered, OwnView, answered_with, ended_as, has_number, open_with}
-use Rattle.sctp_reset_requests.specs.Own.{outcome_of, request_sent, with_active, with_repeat, with_request}
+use Rattle.sctp_reset_requests.specs.Own.{AreNumbered, OwnView, answered_with, ended_as, has_number, is_confirmed_by}
+use Rattle.sctp_reset_requests.specs.Own.{open_with, outcome_of, put_off, request_sent, with_active, with_given_up}
+use Rattle.sctp_reset_requests.specs.Own.{with_repeat, with_request}
 use Rattle.sctp_reset_requests.specs.Peer.{number_before}
 use Rattle.sctp_reset_requests.specs.Request.{PeerRequestView}
 use Rattle.sctp_resets.specs.Answers.{Answering, answering, failed_each, failed_one, with_told}
-use Rattle.sctp_resets.specs.Resets.{ResetsView, confirmed_by, confirmed_where, ended_as_answered, given_up}
-use Rattle.sctp_resets.specs.Resets.{given_up_where, request_over, responded}
+use Rattle.sctp_resets.specs.Resets.{Beside, ResetsView, confirmed_by, confirmed_where, ended_as_answered, given_up}
+use Rattle.sctp_resets.specs.Resets.{given_up_for_now, given_up_where, responded}
 use Rattle.sctp_model.proofs.Lists.{all_push}
 use Rattle.sctp_courses.specs.Course.{Course, Request}
 use Rattle.sctp_courses.specs.Events.{is_to_be_reset}
@@ -169,13 +171,13 @@ module _ (initial id : ℕ) (c : Course) where
     barred = λ reset. inr (f reset);
   }
 
-  -- it is to go out again, or went out again
-  pub repeated_asks : (due : Bool) (next : ℕ) (waiting : List ℕ) (queued : List OwnRequest)
-      (active : Option SentRequest) (current : Option PeerRequestView) (failed : List ℕ)
-      → Asks initial id c next waiting queued active current failed
-      → Asks initial id c next waiting queued (with_repeat due active) current failed
-  repeated_asks due next waiting queued None current failed x = x
-  repeated_asks due next waiting queued (Some s) current failed x =
+  -- it stays, and something else is noted of it
+  noted_asks : (due off given : Bool) (next : ℕ) (waiting : List ℕ) (queued : List OwnRequest) (s : SentRequest)
+      (current : Option PeerRequestView) (failed : List ℕ)
+      → Asks initial id c next waiting queued (Some s) current failed
+      → Asks initial id c next waiting queued
+      (Some (record s { repeat_due = due; is_put_off = off; is_given_up = given })) current failed
+  noted_asks due off given next waiting queued s current failed x =
       let l : IsLastAsked initial id c s = x.latest in
       record {
         numbers = x.numbers;
@@ -187,6 +189,33 @@ module _ (initial id : ℕ) (c : Course) where
         small = x.small;
         barred = x.barred;
       }
+
+  -- it is to go out again, or went out again
+  pub repeated_asks : (due : Bool) (next : ℕ) (waiting : List ℕ) (queued : List OwnRequest)
+      (active : Option SentRequest) (current : Option PeerRequestView) (failed : List ℕ)
+      → Asks initial id c next waiting queued active current failed
+      → Asks initial id c next waiting queued (with_repeat due active) current failed
+  repeated_asks due next waiting queued None current failed x = x
+  repeated_asks due next waiting queued (Some s) current failed x =
+      noted_asks due s.is_put_off s.is_given_up next waiting queued s current failed x
+
+  -- it is in progress
+  put_off_asks : (marks : Bool) (next : ℕ) (waiting : List ℕ) (queued : List OwnRequest)
+      (active : Option SentRequest) (current : Option PeerRequestView) (failed : List ℕ)
+      → Asks initial id c next waiting queued active current failed
+      → Asks initial id c next waiting queued (put_off marks active) current failed
+  put_off_asks marks next waiting queued None current failed x = x
+  put_off_asks marks next waiting queued (Some s) current failed x =
+      noted_asks false (s.is_put_off || marks) s.is_given_up next waiting queued s current failed x
+
+  -- it is given up and goes on
+  marked_asks : (next : ℕ) (waiting : List ℕ) (queued : List OwnRequest) (active : Option SentRequest)
+      (current : Option PeerRequestView) (failed : List ℕ)
+      → Asks initial id c next waiting queued active current failed
+      → Asks initial id c next waiting queued (with_given_up active) current failed
+  marked_asks next waiting queued None current failed x = x
+  marked_asks next waiting queued (Some s) current failed x =
+      noted_asks s.repeat_due s.is_put_off true next waiting queued s current failed x
 
   -- what waits of the peer is another request
   pub current_asks : (next : ℕ) (waiting : List ℕ) (queued : List OwnRequest) (active : Option SentRequest)
@@ -209,8 +238,7 @@ module _ (initial id : ℕ) (c : Course) where
   -- a request is made
   pub made_asks : (none all : Bool) (o : OwnView) (number : ℕ) (ids : List ℕ) (current : Option PeerRequestView)
       (failed : List ℕ) → all ≡ false → (none ≡ false → 0 < length ids) → AreIdentifiers ids
-      → Asks initial id c o.next_number o.waiting o.queued o.active current failed
-      → AsksOwn (if none then o else with_request o number all ids) current failed
+      → AsksOwn o current failed → AsksOwn (if none then o else with_request o number all ids) current failed
   made_asks true all o number ids current failed e some small x = x
   made_asks false all o number ids current failed e some small x =
       let r : OwnRequest =
@@ -242,7 +270,8 @@ module _ (initial id : ℕ) (c : Course) where
 
   fails_asks : (reason : StreamResetError) (s : SentRequest) (r : ResetsView) (m : StreamMap) (told : List Event)
       → r.own.active ≡ Some s → AsksOf initial id c r
-      → AsksOf initial id c (request_over (Err reason) s.request (record r { own = with_active r.own None }) m told).0
+      → Asks initial id c r.own.next_number r.own.waiting r.own.queued None r.peer.in_progress
+      (with_told (answering r.debts m told) (failed_each reason s.request.ids (r.debts, told))).debts.failed
   fails_asks reason s r m told e x =
       let y : Asks initial id c r.own.next_number r.own.waiting r.own.queued (Some s) r.peer.in_progress
       r.debts.failed =
@@ -281,10 +310,18 @@ module _ (initial id : ℕ) (c : Course) where
   given_asks None r m told e x = none_asks r e x
   given_asks (Some s) r m told e x = fails_asks reasons.Failed s r m told e x
 
+  given_up_by : (by_rfcs : Bool) (r : ResetsView) (m : StreamMap) (told : List Event) → AsksOf initial id c r
+      → AsksOf initial id c
+      (if◌then◌else◌ {A = Beside} by_rfcs (given_up_for_now r m told)
+      (given_up_where (with_active r.own None, request_sent r.own.active) r m told)).0
+  given_up_by true r m told x =
+      marked_asks r.own.next_number r.own.waiting r.own.queued r.own.active r.peer.in_progress r.debts.failed x
+  given_up_by false r m told x = given_asks r.own.active r m told refl x
+
   -- it is given up
   pub given_up_asks : (r : ResetsView) (m : StreamMap) (told : List Event) → AsksOf initial id c r
       → AsksOf initial id c (given_up r m told).0
-  given_up_asks r m told x = given_asks r.own.active r m told refl x
+  given_up_asks r m told x = given_up_by (is_rfc r.own.profile) r m told x
 
   -- It is answered
 
@@ -317,7 +354,8 @@ module _ (initial id : ℕ) (c : Course) where
       (r.own, answers.Ignored)) r m told).0.0
   answered_asks false outcome r m told free x = x
   answered_asks true None r m told free x =
-      repeated_asks false r.own.next_number r.own.waiting r.own.queued r.own.active r.peer.in_progress r.debts.failed x
+      put_off_asks (is_rfc r.own.profile) r.own.next_number r.own.waiting r.own.queued r.own.active r.peer.in_progress
+      r.debts.failed x
   answered_asks true (Some (Ok done)) r m told free x = done_asks r.own.active done r m told (free refl refl) x
   answered_asks true (Some (Err reason)) r m told free x = failed_asks r.own.active reason r m told refl x
 
@@ -362,9 +400,15 @@ module _ (initial id : ℕ) (c : Course) (known : c.performed ≤ length c.asked
       answered_asks initial id c (has_number r.own.active number) (outcome_of response.result) r m told
       (λ named success. none_left r.own.active number x.latest named (says success)) x
 
+  -- what a number of the peer confirms has that number
+  confirms_number : (active : Option SentRequest) (number : ℕ) → is_confirmed_by active number ≡ true
+      → has_number active number ≡ true
+  confirms_number None number e = e
+  confirms_number (Some s) number e = (and_parts (s.request.number == number) (not s.is_put_off) e).0
+
   -- a request of the peer names a number
   pub confirmed_asks : (number : ℕ) (r : ResetsView) (m : StreamMap) (told : List Event)
       → IsOfPerformed initial c number → AsksOf initial id c r → AsksOf initial id c (confirmed_by number r m told).0.0
   confirmed_asks number r m told p x =
-      confirmed_if initial id c (has_number r.own.active number) r.own.active r m told
-      (λ named. none_left r.own.active number x.latest named p) x
+      confirmed_if initial id c (is_confirmed_by r.own.active number) r.own.active r m told
+      (λ named. none_left r.own.active number x.latest (confirms_number r.own.active number named) p) x

@@ -16,8 +16,9 @@ use Rattle.sctp_reset_requests.specs.declared.own_request.SentRequest.{SentReque
 use Rattle.sctp_reset_requests.specs.Ids.{has_id}
 use Rattle.sctp_reset_requests.specs.Laws.{DataHoldsBack, NamesAreThoseListed}
 use Rattle.sctp_reset_requests.specs.Own.{AreNumbered, OwnView, asked, asked_for, last_tsn_of, may_go, open_with}
-use Rattle.sctp_reset_requests.specs.Own.{param_again, param_of, quiet_ids, repeated, resets, sent_first, sent_of}
-use Rattle.sctp_reset_requests.specs.Own.{sent_param, stream_identifiers_of, with_active, with_repeat, with_request}
+use Rattle.sctp_reset_requests.specs.Own.{param_again, param_of, put_ahead, quiet_ids, repeated, resets, sent_first}
+use Rattle.sctp_reset_requests.specs.Own.{sent_of, sent_param, stream_identifiers_of, with_active, with_repeat}
+use Rattle.sctp_reset_requests.specs.Own.{with_request}
 use Rattle.sctp_reset_requests.specs.Peer.{PeerView}
 use Rattle.sctp_reset_requests.specs.Request.{names, request_of}
 use Rattle.sctp_courses.specs.Course.{Course, Request, no_request, request_at}
@@ -115,7 +116,8 @@ empty_of xs f =
 -- The requests that are made leave the active one.
 
 active_some : (none : Bool) (o : OwnView) (ids : List ℕ) (last : ℕ)
-    → (if◌then◌else◌ {A = OwnView × Bool} none (o, false) (with_request o last false ids, true)).0.active ≡ o.active
+    → (if◌then◌else◌ {A = OwnView × Bool} none (o, false)
+    (with_request (put_ahead o ids) last false ids, true)).0.active ≡ o.active
 active_some true o ids last = refl
 active_some false o ids last = refl
 
@@ -237,7 +239,7 @@ module _ (those_listed : NamesAreThoseListed) (initial id : ℕ) where
     -- A request is made, where none is open.
 
     made_of : (ids : List ℕ) (last : ℕ) → 0 < length ids → AreIdentifiers ids → o.active ≡ None → o.queued ≡ []
-        → OwnSends initial id failed q (with_request o last false ids) c
+        → OwnSends initial id failed q (with_request (put_ahead o ids) last false ids) c
     made_of ids last some fit none empty =
         let r : OwnRequest = record { number = o.next_number; response_number = last; names_all = false; ids = ids } in
         let next = tsn_after o.next_number in
@@ -274,7 +276,7 @@ module _ (those_listed : NamesAreThoseListed) (initial id : ℕ) where
     made_some : (none : Bool) (ids : List ℕ) (last : ℕ) → (length ids == 0) ≡ none → AreIdentifiers ids
         → o.active ≡ None → o.queued ≡ []
         → OwnSends initial id failed q
-        (if◌then◌else◌ {A = OwnView × Bool} none (o, false) (with_request o last false ids, true)).0 c
+        (if◌then◌else◌ {A = OwnView × Bool} none (o, false) (with_request (put_ahead o ids) last false ids, true)).0 c
     made_some true ids last e fit quiet empty = h
     made_some false ids last e fit quiet empty = made_of ids last (some_in (length ids) e) fit quiet empty
 

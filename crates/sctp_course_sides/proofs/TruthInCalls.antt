@@ -1,18 +1,20 @@
 -- Whatever call of a side is carried out that brings no packet, what it says stays true of the course of a stream of
 -- its peer.
 use Rattle.std.proofs.Common.{◌≡◌, refl, sym, subst, ◌≤◌, ℕ, Bool, true, false, List, [], ◌∷◌, Option, Some, None}
-use Rattle.std.proofs.Common.{◌∙◌, arith, if◌then◌else◌}
+use Rattle.std.proofs.Common.{◌∙◌, arith, if◌then◌else◌, is_some}
 use Rattle.sctp_reset_requests.specs.declared.own_request.OwnRequest.{OwnRequest}
 use Rattle.sctp_reset_requests.specs.Own.{OwnView}
 use Rattle.sctp_resets.specs.Resets.{Beside, Resetting, ResetsView, event_told, given_up, is_retiring, read_out}
-use Rattle.sctp_resets.specs.Resets.{stopped_reading, waiting_for, ended_unless, event_told_at, given_up_where}
+use Rattle.sctp_resets.specs.Resets.{stopped_reading, waiting_for, event_told_at, given_up_for_now, given_up_where}
 use Rattle.sctp_resets.specs.Resets.{with_event, with_read}
 use Rattle.sctp_courses.specs.Course.{Course}
 use Rattle.sctp_assoc.specs.Resets.{with_beside, with_resetting, after_reconfig_timer, asks_again, gives_up}
 use Rattle.sctp_assoc.specs.Resets.{reconfig_expired}
 use Rattle.sctp_assoc.specs.Shown.{Shown}
 use Rattle.sctp_course_sides.specs.Answers.{AnswersTruly, IsOfPerformed}
-use Rattle.sctp_course_sides.proofs.TruthOfRequests.{OwnIsTrue, ended_truly, again_truly, last_is_true}
+use Rattle.sctp_course_sides.proofs.ReadsStopped.{stopped_has}
+use Rattle.sctp_course_sides.proofs.TruthOfRequests.{OwnIsTrue, ended_truly, again_truly, given_up_truly, last_is_true}
+use Rattle.sctp_reset_fit.proofs.Answering.{given_up_peer}
 use Rattle.sctp_reset_requests.specs.Laws.{IsCompletedUpTo}
 use Rattle.sctp_reset_requests.specs.Own as requests
 use Rattle.sctp_streams.specs.Streams.{StreamMap, stream_at, read_in}
@@ -23,7 +25,7 @@ use Rattle.sctp_wire_types.specs.Config.{is_rfc}
 use Rattle.sctp_wire_types.specs.declared.error.Error.TheVariants as errors
 use Rattle.sctp_wire_types.specs.declared.ids.PayloadProtocolIdentifier.{PayloadProtocolIdentifier}
 use Rattle.sctp_parts.specs.declared.timer.Timer.TheVariants as names
-use Rattle.sctp_parts.specs.Timers.{expiry_of}
+use Rattle.sctp_parts.specs.Timers.{expiry_of, with_stopped}
 use Rattle.sctp_receive_queues.specs.Messages.{ReceivedMessage}
 use Rattle.sctp_streams.specs.declared.event.AssociationError.{AssociationError}
 use Rattle.sctp_streams.specs.declared.event.AssociationError.TheVariants as reasons
@@ -67,15 +69,10 @@ told_own (Some index) r told = event_own (slice_get told index) r (remove told i
 read_own : (r : ResetsView) (x : Reading) → ((with_read r x).0.own ≡ r.own) × ((with_read r x).0.peer ≡ r.peer)
 read_own r (g, c) = (refl, refl)
 
-dropped_own : (blocked : Bool) (r : ResetsView) (id : ℕ) (m : StreamMap) (told : List Event)
-    → ((ended_unless blocked r id m told).0.own ≡ r.own) × ((ended_unless blocked r id m told).0.peer ≡ r.peer)
-dropped_own true r id m told = (refl, refl)
-dropped_own false r id m told = (refl, refl)
-
 given_up_own : (x : OwnView × Option OwnRequest) (r : ResetsView) (m : StreamMap) (told : List Event)
-    → ((given_up_where x r m told).0.own ≡ x.0) × ((given_up_where x r m told).0.peer ≡ r.peer)
-given_up_own (o, None) r m told = (refl, refl)
-given_up_own (o, Some q) r m told = (refl, refl)
+    → (given_up_where x r m told).0.own ≡ x.0
+given_up_own (o, None) r m told = refl
+given_up_own (o, Some q) r m told = refl
 
 -- What was performed:
 module _ (initial : ℕ) (c : Course) where
@@ -91,6 +88,11 @@ module _ (initial : ℕ) (c : Course) where
   beside_speaks : (a : Shown) (x : Beside) → (x.0.own ≡ a.resets.own) × (x.0.peer ≡ a.resets.peer)
       → On a (with_beside a x)
   beside_speaks a (r, m, told) e = leaves a (with_beside a (r, m, told)) e.0 e.1 refl
+
+  -- this side's requests are others, and what they say is true
+  own_speaks : (a : Shown) (x : Beside) → OwnIsTrue (IsOfPerformed initial c) x.0.own → x.0.peer ≡ a.resets.peer
+      → On a (with_beside a x)
+  own_speaks a (r, m, told) own peer = speaks_with initial c a (with_beside a (r, m, told)) own peer refl
 
   resetting_speaks : (a : Shown) (x : Resetting) → (x.0.own ≡ a.resets.own) × (x.0.peer ≡ a.resets.peer)
       → On a (with_resetting a x)
@@ -167,7 +169,10 @@ module _ (initial : ℕ) (c : Course) where
       record b { streams = unread_dropped (is_rfc b.profile) b.streams id; resets = waiting_for b.resets id })
   stopped_open_speaks true a id h =
       let b : Shown = without_read_half_of a id in
-      beside_speaks b (stopped_reading id b.resets b.streams b.events) (dropped_own _ _ id _ _)
+      own_speaks b (stopped_reading id b.resets b.streams b.events)
+      (stopped_has (λ (r : ResetsView). OwnIsTrue (IsOfPerformed initial c) r.own) id b.resets b.streams b.events
+      h.truth.own h.truth.own)
+      (stopped_has (λ (r : ResetsView). r.peer ≡ b.resets.peer) id b.resets b.streams b.events refl refl)
       (leaves a b refl refl refl h)
   stopped_open_speaks false a id h = speaks_with initial c a _ h.truth.own refl refl h
 
@@ -227,33 +232,44 @@ module _ (initial : ℕ) (c : Course) where
   t3_speaks true true a now h = leaves a _ refl refl refl h
   t3_speaks true false a now h = leaves a _ refl refl refl h
 
-  -- a request of this side that is given up ends
-  given_up_speaks : (a : Shown) (x : Beside) → OwnIsTrue (IsOfPerformed initial c) x.0.own → x.0.peer ≡ a.resets.peer
-      → On a (with_beside a x)
-  given_up_speaks a (r, m, told) own peer = speaks_with initial c a (with_beside a (r, m, told)) own peer refl
-
-  gives_up_speaks : (a : Shown) → On a (gives_up a)
-  gives_up_speaks a h =
-      let x = given_up a.resets a.streams a.events in
-      let e = given_up_own (requests.ended a.resets.own) a.resets a.streams a.events in
-      leaves (with_beside a x) (gives_up a) refl refl refl
-      (given_up_speaks a x
-      (subst (λ (o : OwnView). OwnIsTrue (IsOfPerformed initial c) o) (sym e.0)
-      (ended_truly (IsOfPerformed initial c) a.resets.own h.truth.own))
-      e.1 h)
+  -- a request of this side that is given up goes on, or ends by the rules of the port
+  given_up_truly_by : (by_rfcs : Bool) (r : ResetsView) (m : StreamMap) (told : List Event)
+      → OwnIsTrue (IsOfPerformed initial c) r.own
+      → OwnIsTrue (IsOfPerformed initial c)
+      (if◌then◌else◌ {A = Beside} by_rfcs (given_up_for_now r m told)
+      (given_up_where (requests.ended r.own) r m told)).0.own
+  given_up_truly_by true r m told h = given_up_truly (IsOfPerformed initial c) r.own h
+  given_up_truly_by false r m told h =
+      subst (λ (o : OwnView). OwnIsTrue (IsOfPerformed initial c) o)
+      (sym (given_up_own (requests.ended r.own) r m told)) (ended_truly (IsOfPerformed initial c) r.own h)
 
   asks_again_speaks : (a : Shown) (now : ℕ) → On a (asks_again a now)
   asks_again_speaks a now h =
       speaks_with initial c a (asks_again a now)
       (again_truly (IsOfPerformed initial c) true a.resets.own h.truth.own) refl refl h
 
+  going_on_speaks : (active : Bool) (a : Shown) (now : ℕ)
+      → On a (if active then asks_again a now else record a { timers = with_stopped names.Reconfig a.timers })
+  going_on_speaks true a now h = asks_again_speaks a now h
+  going_on_speaks false a now h = leaves a _ refl refl refl h
+
+  gives_up_speaks : (a : Shown) (now : ℕ) → On a (gives_up a now)
+  gives_up_speaks a now h =
+      let x : Beside = given_up a.resets a.streams a.events in
+      let b : Shown = with_beside a x in
+      going_on_speaks (is_some b.resets.own.active) b now
+      (own_speaks a x
+      (given_up_truly_by (is_rfc a.resets.own.profile) a.resets a.streams a.events h.truth.own)
+      (given_up_peer a.resets a.streams a.events) h)
+
   reconfig_speaks : (expired failure : Bool) (a : Shown) (now : ℕ)
       → On a
-      (if expired then (if failure then gives_up (reconfig_expired a now) else asks_again (reconfig_expired a now) now)
+      (if expired then
+      (if failure then gives_up (reconfig_expired a now) now else asks_again (reconfig_expired a now) now)
       else a)
   reconfig_speaks false failure a now h = h
   reconfig_speaks true true a now h =
-      gives_up_speaks (reconfig_expired a now) (leaves a (reconfig_expired a now) refl refl refl h)
+      gives_up_speaks (reconfig_expired a now) now (leaves a (reconfig_expired a now) refl refl refl h)
   reconfig_speaks true false a now h =
       asks_again_speaks (reconfig_expired a now) now (leaves a (reconfig_expired a now) refl refl refl h)
 

@@ -43,11 +43,12 @@ use Rattle.sctp_course_sides.proofs.TruthInSteps.{cookie_echo_stays, cookie_ack_
 use Rattle.sctp_wire_types.specs.declared.error.Error.{Error}
 use Rattle.sctp_inbound.specs.declared.receiver.AckTrigger.{AckTrigger}
 use Rattle.sctp_inbound.specs.Handshake.{has_issued}
-use Rattle.sctp_assoc.specs.Calls.{is_beginning, is_cookie_echoed, is_established, sends_data}
+use Rattle.sctp_assoc.specs.Calls.{is_beginning, is_cookie_echoed, sends_data}
 use Rattle.sctp_wire_types.specs.declared.chunk.ChunkReconfig.{ChunkReconfig}
 use Rattle.sctp_wire_types.specs.declared.packet.CommonHeader.{CommonHeader}
 use Rattle.sctp_wire_types.specs.Checks.{checked_chunk}
 use Rattle.sctp_assoc.specs.Chunks.{checked_first, dispatched, on_chunk}
+use Rattle.sctp_assoc.specs.Handshake.{acknowledges_again}
 use Rattle.sctp_assoc.specs.Shutdown.{shutdown_taken, shutdown_answered}
 use Rattle.sctp_assoc.specs.Skipping.{skips_of}
 use Rattle.sctp_course_sides.specs.Following.{IsNoGreeting}
@@ -225,7 +226,7 @@ module _ (initial id : ℕ) (c d : Course) (few : length c.asked < 2 ^ 31) (smal
   kind_steps header (chunks.Error x) a trigger now plain comes = still initial d 2 a a (same initial d a)
   kind_steps header (chunks.CookieEcho x) a trigger now plain comes =
       still initial d 2 a _
-      (cookie_echo_stays initial d (has_issued a.handshake x) (is_beginning a.state) (is_established a.state) a x
+      (cookie_echo_stays initial d (has_issued a.handshake x) (is_beginning a.state) (acknowledges_again a) a x
       trigger refl refl refl)
   kind_steps header chunks.CookieAck a trigger now plain comes =
       still initial d 2 a _ (cookie_ack_stays initial d (is_cookie_echoed a.state) a trigger refl)

@@ -22,13 +22,13 @@ use Rattle.sctp_reset_requests.specs.Own.{OwnView}
 use Rattle.sctp_reset_requests.specs.Peer.{PeerView, advanced}
 use Rattle.sctp_reset_requests.specs.Request.{PeerRequestView}
 use Rattle.sctp_resets.specs.Channels.{Channels}
-use Rattle.sctp_resets.specs.Performing.{Performing, performing, retired_each}
+use Rattle.sctp_resets.specs.Performing.{Performing, answered_in, named_in, performing, retired_each}
 use Rattle.sctp_resets.specs.Resets.{Beside, ResetsView, Resetting, performed, performed_with, settled_by}
 use Rattle.sctp_resets.specs.Resets.{settled_where, skips_done, skips_done_of}
 use Rattle.sctp_resets.specs.Resets as resets
 use Rattle.sctp_resets.specs.Skips as skips
 use Rattle.sctp_courses.specs.Course.{Course}
-use Rattle.sctp_assoc.specs.Calls.{is_beginning, is_cookie_echoed, is_established, sends_data}
+use Rattle.sctp_assoc.specs.Calls.{is_beginning, is_cookie_echoed, sends_data}
 use Rattle.sctp_assoc.specs.Chunks.{after_sack, asks, asks_or_faults, counted_data, counted_sack, deferred_unless}
 use Rattle.sctp_assoc.specs.Chunks.{deferred_where_admitted, goes_unread, left_or_handed_over, on_counted_sack}
 use Rattle.sctp_assoc.specs.Chunks.{on_data, on_new_data, on_sack, stream_found, taken_in, taken_unless}
@@ -36,12 +36,13 @@ use Rattle.sctp_assoc.specs.Chunks.{taken_where_admitted, then_skips, told, with
 use Rattle.sctp_assoc.specs.Closing.{is_exhausted}
 use Rattle.sctp_assoc.specs.Control.{queued}
 use Rattle.sctp_assoc.specs.Finding.{found_for}
-use Rattle.sctp_assoc.specs.Handshake.{connected, information_returned, on_cookie_ack, on_cookie_echo, on_heartbeat}
+use Rattle.sctp_assoc.specs.Handshake.{acknowledges_again, connected, information_returned, on_cookie_ack}
+use Rattle.sctp_assoc.specs.Handshake.{on_cookie_echo, on_heartbeat}
 use Rattle.sctp_assoc.specs.Probes.{forgiven_if, is_probing, marked_if, probes_answered}
 use Rattle.sctp_assoc.specs.Resets.{asking_if, channels_of, settled, settled_with, skips_applied_of, with_beside}
 use Rattle.sctp_assoc.specs.Resets.{with_resetting}
 use Rattle.sctp_assoc.specs.Shown.{Shown, all_waiting}
-use Rattle.sctp_assoc.specs.Shutdown.{shutdown_continued}
+use Rattle.sctp_assoc.specs.Shutdown.{shutdown_again, shutdown_continued}
 use Rattle.sctp_assoc.specs.Skipping.{acknowledged_at_once, asks_behind, on_forward, unrecognized_chunk, with_passed}
 use Rattle.sctp_assoc.specs.Skipping.{with_skip, with_skips}
 use Rattle.sctp_assoc.proofs.Probes.{probes_keep}
@@ -156,18 +157,19 @@ module _ (initial : ℕ) (d : Course) where
 
   -- A request of the peer is performed where it is due
 
-  pub released_own : (q : PeerRequestView) (first limit : ℕ) (r : ResetsView) (to_accept : List ℕ)
+  pub released_own : (q : PeerRequestView) (first limit : ℕ) (r : ResetsView) (to_accept named : List ℕ)
       (x : Performing × List ℕ) → IsOfPerformed initial d q.number → Own r.own
-      → Own (performed_with q first limit r to_accept x).0.0.own
-  released_own q first limit r to_accept (p, ids) one h =
+      → Own (performed_with q first limit r to_accept named x).0.0.own
+  released_own q first limit r to_accept named (p, ids) one h =
       reciprocated_truly (IsOfPerformed initial d) r.own q ids one h
 
   pub performed_own : (q : PeerRequestView) (first limit : ℕ) (r : ResetsView) (e : Channels)
       → IsOfPerformed initial d q.number → Own r.own → Own (performed q first limit r e).0.0.own
   unfolding performed
   performed_own q first limit r e one h =
-      released_own q first limit r e.to_accept
-      (retired_each q (performing r.generations r.debts e.streams e.events)) one h
+      let named : List ℕ = named_in r.own e.streams q in
+      released_own q first limit r e.to_accept named
+      (answered_in r.own named (retired_each q (performing r.generations r.debts e.streams e.events))) one h
 
   pub settled_one_truly : (a : Shown) (q : PeerRequestView) (y : Resetting × Bool) → IsOfPerformed initial d q.number
       → Own y.0.0.own → AnswersTruly initial a d → AnswersTruly initial (settled_with a (settled_by q y)) d
@@ -408,15 +410,17 @@ module _ (initial : ℕ) (d : Course) where
 
   -- Chunks of the handshake that are no greeting, and beside it
 
-  pub cookie_echo_stays : (issued begins established : Bool) (a : Shown) (cookie : List ℕ) (trigger : AckTrigger)
-      → has_issued a.handshake cookie ≡ issued → is_beginning a.state ≡ begins
-      → is_established a.state ≡ established → Stays a (on_cookie_echo a cookie trigger).0
+  pub cookie_echo_stays : (issued begins again : Bool) (a : Shown) (cookie : List ℕ) (trigger : AckTrigger)
+      → has_issued a.handshake cookie ≡ issued → is_beginning a.state ≡ begins → acknowledges_again a ≡ again
+      → Stays a (on_cookie_echo a cookie trigger).0
   unfolding on_cookie_echo
-  cookie_echo_stays false begins established a cookie trigger e f g = rw e (same a)
-  cookie_echo_stays true true established a cookie trigger e f g =
+  cookie_echo_stays false begins again a cookie trigger e f g = rw e (same a)
+  cookie_echo_stays true true again a cookie trigger e f g =
       rw (e, f) (then_stays a (connected a) _ (stays_by a (connected a) refl refl refl)
       (queued_stays (connected a) chunks.CookieAck tt))
-  cookie_echo_stays true false true a cookie trigger e f g = rw (e, f, g) (queued_stays a chunks.CookieAck tt)
+  cookie_echo_stays true false true a cookie trigger e f g =
+      rw (e, f, g) (then_stays a (shutdown_again a) _ (stays_by a (shutdown_again a) refl refl refl)
+      (queued_stays (shutdown_again a) chunks.CookieAck tt))
   cookie_echo_stays true false false a cookie trigger e f g = rw (e, f, g) (same a)
 
   pub cookie_ack_stays : (echoed : Bool) (a : Shown) (trigger : AckTrigger) → is_cookie_echoed a.state ≡ echoed

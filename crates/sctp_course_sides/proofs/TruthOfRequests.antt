@@ -8,6 +8,7 @@ use Rattle.std.specs.Prelude.{⊤}
 use Rattle.std.specs.List.{AllByRecursion}
 use Rattle.sctp_serial.specs.Serial.{tsn, tsn_after, tsn_lte}
 use Rattle.sctp_model.proofs.Lists.{all_push}
+use Rattle.sctp_wire_types.specs.Config.{is_rfc}
 use Rattle.sctp_wire_types.specs.declared.event.StreamResetError.{StreamResetError}
 use Rattle.sctp_wire_types.specs.declared.param.ParamOutgoingResetRequest.{ParamOutgoingResetRequest}
 use Rattle.sctp_wire_types.specs.declared.param.ParamReconfigResponse.{ParamReconfigResponse}
@@ -23,13 +24,14 @@ use Rattle.sctp_reset_requests.specs.declared.outcome.Answered.TheVariants as an
 use Rattle.sctp_reset_requests.specs.declared.own_request.OwnRequest.{OwnRequest}
 use Rattle.sctp_reset_requests.specs.declared.own_request.SentRequest.{SentRequest}
 use Rattle.sctp_reset_requests.specs.Laws.{HasNumber, IsCompletedUpTo}
-use Rattle.sctp_reset_requests.specs.Own.{OwnView, answered, answered_with, asked, asked_for, confirmed, ended}
-use Rattle.sctp_reset_requests.specs.Own.{ended_as, has_number, may_go, open_with, outcome_of, param_again, quiet_ids}
+use Rattle.sctp_reset_requests.specs.Own.{OwnView, answered, answered_with, answers_all, asked, asked_for, confirmed}
+use Rattle.sctp_reset_requests.specs.Own.{ended, ended_as, has_number, is_confirmed_by, marked_given_up, may_go}
+use Rattle.sctp_reset_requests.specs.Own.{open_with, outcome_of, param_again, put_ahead, put_off, quiet_ids}
 use Rattle.sctp_reset_requests.specs.Own.{reciprocated, repeated, request_sent, sent_first, sent_from, sent_of}
-use Rattle.sctp_reset_requests.specs.Own.{sent_param, with_active, with_repeat, with_request}
+use Rattle.sctp_reset_requests.specs.Own.{sent_param, with_active, with_given_up, with_repeat, with_request}
 use Rattle.sctp_reset_requests.specs.Peer.{PeerView, advanced, advanced_with, arrived, arrived_as, completed}
 use Rattle.sctp_reset_requests.specs.Peer.{is_completed, is_current, is_next, number_before, taken_up}
-use Rattle.sctp_reset_requests.specs.Request.{PeerRequestView, is_due, names_all}
+use Rattle.sctp_reset_requests.specs.Request.{PeerRequestView, is_due}
 use Rattle.sctp_resets.proofs.ListsOver.{of_chosen}
 use Rattle.sctp_courses.specs.Course.{Course}
 use Rattle.sctp_reset_fit.specs.Stands.{last_below}
@@ -216,7 +218,19 @@ module _ (N : ℕ → Type 0) where
   open_again due None queued h = h
   open_again due (Some s) queued h = h
 
-  -- the active one ends, or is to go out again
+  open_put_off : (marks : Bool) (active : Option SentRequest) (queued : List OwnRequest)
+      → AllByRecursion (λ (r : OwnRequest). N r.response_number) (open_with active queued)
+      → AllByRecursion (λ (r : OwnRequest). N r.response_number) (open_with (put_off marks active) queued)
+  open_put_off marks None queued h = h
+  open_put_off marks (Some s) queued h = h
+
+  open_given_up : (active : Option SentRequest) (queued : List OwnRequest)
+      → AllByRecursion (λ (r : OwnRequest). N r.response_number) (open_with active queued)
+      → AllByRecursion (λ (r : OwnRequest). N r.response_number) (open_with (with_given_up active) queued)
+  open_given_up None queued h = h
+  open_given_up (Some s) queued h = h
+
+  -- the active one ends, is to go out again, or is given up and goes on
 
   pub ended_truly : (o : OwnView) → OwnIsTrue o → OwnIsTrue (with_active o None)
   ended_truly o h = open_ended o.active o.queued h
@@ -224,10 +238,13 @@ module _ (N : ℕ → Type 0) where
   pub again_truly : (due : Bool) (o : OwnView) → OwnIsTrue o → OwnIsTrue (with_active o (with_repeat due o.active))
   again_truly due o h = open_again due o.active o.queued h
 
+  pub given_up_truly : (o : OwnView) → OwnIsTrue o → OwnIsTrue (marked_given_up o)
+  given_up_truly o h = open_given_up o.active o.queued h
+
   pub confirmed_truly : (o : OwnView) (number : ℕ) → OwnIsTrue o → OwnIsTrue (confirmed o number).0
   confirmed_truly o number h =
-      of_chosen (λ (x : OwnView × Option OwnRequest). OwnIsTrue x.0) (has_number o.active number) (ended o) (o, None)
-      (ended_truly o h) h
+      of_chosen (λ (x : OwnView × Option OwnRequest). OwnIsTrue x.0) (is_confirmed_by o.active number) (ended o)
+      (o, None) (ended_truly o h) h
 
   ended_as_truly : (o : OwnView) (r : Option OwnRequest) (outcome : Result (Unit {0}) StreamResetError)
       → OwnIsTrue o → OwnIsTrue (ended_as (o, r) outcome).0
@@ -236,7 +253,7 @@ module _ (N : ℕ → Type 0) where
 
   answered_with_truly : (outcome : Option (Result (Unit {0}) StreamResetError)) (o : OwnView) → OwnIsTrue o
       → OwnIsTrue (answered_with outcome o).0
-  answered_with_truly None o h = again_truly false o h
+  answered_with_truly None o h = open_put_off (is_rfc o.profile) o.active o.queued h
   answered_with_truly (Some outcome) o h =
       ended_as_truly (with_active o None) (request_sent o.active) outcome (ended_truly o h)
 
@@ -258,15 +275,16 @@ module _ (N : ℕ → Type 0) where
   pub reciprocated_truly : (o : OwnView) (q : PeerRequestView) (ids : List ℕ) → N q.number → OwnIsTrue o
       → OwnIsTrue (reciprocated o q ids)
   reciprocated_truly o q ids one h =
-      of_chosen OwnIsTrue (length ids == 0) o (with_request o q.number (names_all q) ids) h
-      (with_request_truly o q.number (names_all q) ids one h)
+      of_chosen OwnIsTrue (length ids == 0) o (with_request o q.number (answers_all o q ids) ids) h
+      (with_request_truly o q.number (answers_all o q ids) ids one h)
 
   asked_for_truly : (ids : List ℕ) (last : Option ℕ) (o : OwnView) → ((number : ℕ) → last ≡ Some number → N number)
       → OwnIsTrue o → OwnIsTrue (asked_for ids last o).0
   asked_for_truly ids None o says h = h
   asked_for_truly ids (Some last) o says h =
       of_chosen (λ (x : OwnView × Bool). OwnIsTrue x.0) (length ids == 0) (o, false)
-      (with_request o last false ids, true) h (with_request_truly o last false ids (says last refl) h)
+      (with_request (put_ahead o ids) last false ids, true) h
+      (with_request_truly (put_ahead o ids) last false ids (says last refl) h)
 
   pub asked_truly : (o : OwnView) (q : Outbound) (p : PeerView)
       → ((number : ℕ) → p.last_completed ≡ Some number → N number) → OwnIsTrue o → OwnIsTrue (asked o q p).0

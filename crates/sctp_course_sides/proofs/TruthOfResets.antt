@@ -11,7 +11,7 @@ use Rattle.sctp_reset_requests.specs.Own.{OwnView}
 use Rattle.sctp_reset_requests.specs.Request.{PeerRequestView}
 use Rattle.sctp_resets.specs.declared.performing.Handled.{Handled}
 use Rattle.sctp_resets.specs.Channels.{Channels}
-use Rattle.sctp_resets.specs.Performing.{Performing, performing, retired_each}
+use Rattle.sctp_resets.specs.Performing.{Performing, answered_in, named_in, performing, retired_each}
 use Rattle.sctp_resets.specs.Resets.{Beside, ResetsView, Resetting, confirmed_where, ended_as_answered, performed}
 use Rattle.sctp_resets.specs.Resets.{performed_with, settled_by, skips_done, with_channels, with_skips_done}
 use Rattle.sctp_resets.specs.Resets as resets
@@ -22,16 +22,17 @@ use Rattle.sctp_assoc.specs.Shown.{Shown}
 
 -- What becomes of the resets
 
-pub released_peer : (q : PeerRequestView) (first limit : ℕ) (r : ResetsView) (to_accept : List ℕ)
-    (x : Performing × List ℕ) → (performed_with q first limit r to_accept x).0.0.peer ≡ r.peer
-released_peer q first limit r to_accept (p, ids) = refl
+pub released_peer : (q : PeerRequestView) (first limit : ℕ) (r : ResetsView) (to_accept named : List ℕ)
+    (x : Performing × List ℕ) → (performed_with q first limit r to_accept named x).0.0.peer ≡ r.peer
+released_peer q first limit r to_accept named (p, ids) = refl
 
 pub performed_peer : (q : PeerRequestView) (first limit : ℕ) (r : ResetsView) (e : Channels)
     → (performed q first limit r e).0.0.peer ≡ r.peer
 unfolding performed
 performed_peer q first limit r e =
-    released_peer q first limit r e.to_accept
-    (retired_each q (performing r.generations r.debts e.streams e.events))
+    let named : List ℕ = named_in r.own e.streams q in
+    released_peer q first limit r e.to_accept named
+    (answered_in r.own named (retired_each q (performing r.generations r.debts e.streams e.events)))
 
 pub skips_peer : (r : ResetsView) (x : Skipping) → (with_skips_done r x).0.peer ≡ r.peer
 skips_peer r (g, m, told) = refl

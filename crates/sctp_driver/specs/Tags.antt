@@ -18,11 +18,13 @@ use Rattle.sctp_driver.specs.Driving.{Driving}
 abbrev pub has_t_bit : ℕ → Bool
 has_t_bit flags = flags % 2 == 1
 
--- the chunk types that have a rule of their own (RFC 4960 section 3.2): INIT, ABORT, COOKIE ECHO, SHUTDOWN COMPLETE
+-- the chunk types that have a rule of their own (RFC 4960 section 3.2): INIT, ABORT, SHUTDOWN ACK, COOKIE ECHO,
+-- SHUTDOWN COMPLETE
 abbrev pub chunk_named : ℕ → ℕ → FirstChunk
 chunk_named kind flags =
     if kind == 1 then firsts.Init else
     if kind == 6 then firsts.Abort (has_t_bit flags) else
+    if kind == 8 then firsts.ShutdownAck else
     if kind == 10 then firsts.CookieEcho else
     if kind == 14 then firsts.ShutdownComplete (has_t_bit flags) else firsts.Other
 
@@ -52,6 +54,8 @@ judged (firsts.ShutdownComplete reflected) tag own peer begins =
     taken_if (is_own_or_reflected reflected tag own peer)
 -- section 8.5.1 D: the own tag, and the association compares the cookie (section 5.1.5)
 judged firsts.CookieEcho tag own peer begins = taken_if (tag == own)
+-- section 8.5.1 E: in the state in which one is awaited; elsewhere it is answered where it has the own tag
+judged firsts.ShutdownAck tag own peer begins = taken_if (tag == own)
 -- section 8.5: any other packet has the own tag
 judged firsts.Other tag own peer begins = taken_if (tag == own)
 

@@ -64,7 +64,7 @@ fn abort_of(alloc: Global, association: &Association, reason: &[u8]) -> Result<B
     }
 }
 
-fn header_of(association: &Association) -> CommonHeader
+pub(crate) fn header_of(association: &Association) -> CommonHeader
     ensures { result ≡ header_of association.now.handshake }
 {
     let (source_port, destination_port) = association.ports();

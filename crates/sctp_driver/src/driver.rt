@@ -14,8 +14,9 @@ ghost use Rattle.sctp_assoc.specs.Inbound.{taken_packet};
 ghost use Rattle.sctp_assoc.specs.Shutdown.{endpoint_event_polled, shutdown_begun, shutdown_refusal};
 ghost use Rattle.sctp_assoc.specs.Timeouts.{after_timeouts, timeouts_take_memory};
 ghost use Rattle.sctp_driver.specs.Driving.{RunsOutOfMemory, begun_with, by_rfcs, timeout_refusal, with_association};
+ghost use Rattle.sctp_driver.specs.Late.{with_datagram};
 ghost use Rattle.sctp_driver.specs.Sending.{Sends, asked};
-ghost use Rattle.sctp_driver.specs.Tags.{answer_to, begins, judged_packet, packet_in};
+ghost use Rattle.sctp_driver.specs.Tags.{answer_to, begins, judged_packet};
 
 use crate::lending;
 use crate::messages::Kept;
@@ -96,11 +97,10 @@ impl Driver {
         ensures created { IfOk result (λ d. d ≡ begun_with (client (by_rfcs config.now) max_payload_size local_tag
             initial_tsn cookie d.association.remote_addr None now) local_tag) }
     {
-        let config = driven(config)?;
         Driver::made(
             alloc,
             None,
-            &config,
+            config,
             max_payload_size,
             local_tag,
             initial_tsn,
@@ -125,12 +125,11 @@ impl Driver {
         ensures created { IfOk result (λ d. d ≡ begun_with (server (by_rfcs config.now) max_payload_size local_tag
             initial_tsn cookie d.association.remote_addr None) local_tag) }
     {
-        let config = driven(config)?;
         let of_server = ServerConfig::default();
         Driver::made(
             alloc,
             Some(&of_server),
-            &config,
+            config,
             max_payload_size,
             local_tag,
             initial_tsn,
@@ -150,14 +149,17 @@ impl Driver {
         cookie: [u8; 32],
         now: u64,
     ) -> Result<Driver, Error>
-        ensures refused { RefusesOrLacksMemory result (create_refusal max_payload_size initial_tsn) }
-        ensures created { IfOk result (λ d. d ≡ begun_with (created (option_copied server_config.entry) config.now
-            max_payload_size local_tag initial_tsn cookie d.association.remote_addr None now) local_tag) }
+        ensures refused { RefusesOrLacksMemory result
+            (first_refusal (timeout_refusal config.now) (create_refusal max_payload_size initial_tsn)) }
+        ensures created { IfOk result (λ d. d ≡ begun_with (created (option_copied server_config.entry)
+            (by_rfcs config.now) max_payload_size local_tag initial_tsn cookie d.association.remote_addr None now)
+            local_tag) }
     {
+        let config = driven(config)?;
         let association = Association::new(
             alloc,
             server_config,
-            config,
+            &config,
             max_payload_size,
             local_tag,
             initial_tsn,
@@ -214,7 +216,8 @@ impl Driver {
     /// Takes in one datagram that came at `now`, in nanoseconds. One that is no packet, whose verification tag RFC 4960
     /// section 8.5 does not accept, or that is an INIT past the handshake, is left and changes nothing. An ABORT or a
     /// SHUTDOWN COMPLETE may have the peer's tag and its T bit set (section 8.5.1). A SHUTDOWN begins a shutdown at
-    /// this side, too, and a SHUTDOWN COMPLETE ends it: the association closes then (section 9.2).
+    /// this side, too, and a SHUTDOWN COMPLETE ends it: the association closes then (section 9.2). By the rules of the
+    /// RFCs a SHUTDOWN ACK that comes behind the end is answered (section 8.4); `poll_transmit` gives the answer.
     ///
     /// Errors: `ErrAssociationFailed`, with nothing changed; `ErrNoMemory`, which leaves all as it was, or the
     /// association failed where it was at reading the packet.
@@ -222,7 +225,7 @@ impl Driver {
         ensures answer { IfOk result (λ answer. answer ≡ answer_to self.old datagram.now) }
         ensures left { answer_to self.old datagram.now ≢ DatagramAnswer.Taken → self.new ≡ self.old }
         ensures taken { OnOk result (answer_to self.old datagram.now ≡ DatagramAnswer.Taken → self.new
-            ≡ with_association self.old (after_packet self.old.association (packet_in datagram.now) now)) }
+            ≡ with_datagram self.old datagram.now now) }
         ensures failed { IsErrOf result Error.ErrAssociationFailed ↔ (self.old.association.failed ≡ true) }
         ensures refused { IsErrOf result Error.ErrAssociationFailed → self.new ≡ self.old }
         ensures memory { IsErrOf result Error.ErrNoMemory → (self.new ≡ self.old) ⊎ RunsOutOfMemory self.old self.new }
@@ -239,7 +242,11 @@ impl Driver {
         };
         match self.judge(&packet) {
             DatagramAnswer::Taken => {
-                self.take_in(now, packet)?;
+                if self.answers_late(&packet) {
+                    self.answer_late()?;
+                } else {
+                    self.take_in(now, packet)?;
+                }
                 Ok(DatagramAnswer::Taken)
             }
             left => Ok(left),
@@ -258,6 +265,7 @@ impl Driver {
         )
     }
 
+    #[inline(always)]
     fn take_in(&mut self, now: u64, packet: PartialDecode) -> Result<(), Error>
         ensures ok { OnOk result (self.new
             ≡ with_association self.old (after_packet self.old.association (taken_packet (finished packet)) now)) }

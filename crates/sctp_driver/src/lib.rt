@@ -27,6 +27,7 @@
 
 mod aborting;
 mod driver;
+mod late;
 mod lending;
 mod messages;
 mod paths;

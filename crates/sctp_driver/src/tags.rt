@@ -24,6 +24,7 @@ pub(crate) enum FirstChunk {
     Abort { reflected: bool },
     ShutdownComplete { reflected: bool },
     CookieEcho,
+    ShutdownAck,
     Other,
 }
 
@@ -44,6 +45,7 @@ fn chunk_of(kind: u8, flags: u8) -> FirstChunk
     match kind {
         1 => FirstChunk::Init,
         6 => FirstChunk::Abort { reflected },
+        8 => FirstChunk::ShutdownAck,
         10 => FirstChunk::CookieEcho,
         14 => FirstChunk::ShutdownComplete { reflected },
         _ => FirstChunk::Other,
@@ -70,6 +72,7 @@ pub(crate) fn judge(
             take_if(is_own_or_reflected(reflected, tag, own, peer))
         }
         FirstChunk::CookieEcho => take_if(tag == own),
+        FirstChunk::ShutdownAck => take_if(tag == own),
         FirstChunk::Other => take_if(tag == own),
     }
 }

@@ -14,12 +14,14 @@ use Rattle.sctp_streams.specs.Events.{is_told_of}
 use Rattle.sctp_streams.specs.Stream.{StreamView, accepted_by, is_read_half_open, with_setting}
 use Rattle.sctp_streams.specs.Stream.{without_unread, without_write_half}
 use Rattle.sctp_streams.specs.Streams.{StreamMap, changed_stream, read_in, stream_at}
-use Rattle.sctp_generations.specs.Generations.{GenerationsView, discarded}
+use Rattle.sctp_generations.specs.Generations.{GenerationsView, discarded, has_newest}
 use Rattle.sctp_reset_requests.specs.Peer.{PeerView}
 use Rattle.sctp_resets.specs.Channels.{channels}
-use Rattle.sctp_resets.specs.Resets.{ResetsView, ended_unless, event_told, event_told_at, is_blocked, is_retiring}
-use Rattle.sctp_resets.specs.Resets.{read_out, stopped_reading, waiting_for, with_event, with_generations}
+use Rattle.sctp_resets.specs.Resets.{Beside, ResetsView, dropped, ended_unless, event_told, event_told_at, is_blocked}
+use Rattle.sctp_resets.specs.Resets.{is_retiring, read_out, reset_or_ended, stopped_reading, waiting_for, with_event}
+use Rattle.sctp_resets.specs.Resets.{with_generations}
 use Rattle.sctp_resets.specs.Telling.{next_told}
+use Rattle.sctp_resets.proofs.ListsOver.{of_chosen}
 use Rattle.sctp_reset_fit.specs.Laws.{Passes}
 use Rattle.sctp_reset_fit.specs.Pieces.{HoldsOnly}
 use Rattle.sctp_directions.specs.Acts.{type_on}
@@ -178,22 +180,33 @@ module _ {Open : GenerationsView → PeerView → Type 0} {T : GenerationsView �
 
   -- Stops: the read half closes, and what waits of the stream is dropped, where it retires or the profile has it so
 
+  abbrev AreBeside : Beside → Type 0
+  AreBeside x = ResetsAre x.0 x.1
+
+  -- of a stream that retires more came, or not; or a reset of it is open in the other direction, or not
+  reset_or_ended_carries : (more : Bool) (r : ResetsView) (id : ℕ) (m : StreamMap) (told : List Event) → ResetsAre r m
+      → AreBeside (reset_or_ended more r id m told)
+  reset_or_ended_carries true r id m told h = h
+  reset_or_ended_carries false r id m told h = rules.streams.ends r.generations r.peer m id h
+
+  ended_unless_carries : (blocked : Bool) (r : ResetsView) (id : ℕ) (m : StreamMap) (told : List Event) → ResetsAre r m
+      → AreBeside (ended_unless blocked r id m told)
+  ended_unless_carries true r id m told h = h
+  ended_unless_carries false r id m told h = rules.streams.ends r.generations r.peer m id h
+
+  dropped_carries : (more : Bool) (r : ResetsView) (id : ℕ) (m : StreamMap) (told : List Event) → ResetsAre r m
+      → AreBeside (dropped more r id m told)
+  dropped_carries more r id m told h =
+      of_chosen AreBeside (is_rfc r.own.profile) (reset_or_ended more r id m told)
+      (ended_unless (is_blocked r id) r id m told) (reset_or_ended_carries more r id m told h)
+      (ended_unless_carries (is_blocked r id) r id m told h)
+
   stopped_reading_carries : (id : ℕ) (r : ResetsView) (m : StreamMap) (told : List Event)
       → T (discarded r.generations id) r.peer (changed_stream without_unread m id)
-      → ResetsAre (stopped_reading id r m told).0 (stopped_reading id r m told).1
-  stopped_reading_carries id r m told h = by (is_blocked left id)
-    where
-      left : ResetsView
-      left = with_generations r (discarded r.generations id)
-
-      by : (blocked : Bool)
-          → ResetsAre
-          (ended_unless blocked left id (changed_stream without_unread m id)
-          (filter (λ e. not (is_told_of id e)) told)).0
-          (ended_unless blocked left id (changed_stream without_unread m id)
-          (filter (λ e. not (is_told_of id e)) told)).1
-      by true = h
-      by false = rules.streams.ends left.generations r.peer (changed_stream without_unread m id) id h
+      → AreBeside (stopped_reading id r m told)
+  stopped_reading_carries id r m told h =
+      dropped_carries (has_newest r.generations id) (with_generations r (discarded r.generations id)) id
+      (changed_stream without_unread m id) (filter (λ e. not (is_told_of id e)) told) h
 
   stopped_carries_if : (retiring : Bool) (a : Shown) (id : ℕ)
       → Carries T a

@@ -25,7 +25,7 @@ use Rattle.sctp_generations.specs.Generations.{GenerationsView}
 use Rattle.sctp_inbound.specs.declared.receiver.AckTrigger.{AckTrigger}
 use Rattle.sctp_inbound.specs.declared.receiver.AckTrigger.TheVariants as triggers
 use Rattle.sctp_inbound.specs.Greeting.{first_cookie, information_of}
-use Rattle.sctp_inbound.specs.Handshake.{comes_back, has_issued, learned_by_init_ack}
+use Rattle.sctp_inbound.specs.Handshake.{comes_back, has_issued, learned_by_init, learned_by_init_ack}
 use Rattle.sctp_outbound.specs.declared.progress.Progress.{Progress}
 use Rattle.sctp_outbound.specs.declared.sender.SackOutcome.{SackOutcome}
 use Rattle.sctp_outbound.specs.declared.sender.SackOutcome.TheVariants as outcomes
@@ -39,19 +39,20 @@ use Rattle.sctp_resets.specs.Resets as resets
 use Rattle.sctp_resets.specs.Resets.{Beside, Resetting, handled, is_retiring, responded}
 use Rattle.sctp_assoc.specs.declared.inbound.Flow.{Flow}
 use Rattle.sctp_assoc.specs.declared.inbound.Flow.TheVariants as flows
-use Rattle.sctp_assoc.specs.Calls.{is_beginning, is_cookie_echoed, is_cookie_wait, is_established, sends_data}
+use Rattle.sctp_assoc.specs.Calls.{is_beginning, is_cookie_echoed, is_cookie_wait, sends_data}
 use Rattle.sctp_assoc.specs.Chunks.{after_packet, after_packet_of, after_sack, checked_first, counted_sack, dispatched}
 use Rattle.sctp_assoc.specs.Chunks.{after_chunks, ended, goes_on, on_chunk, on_counted_sack, on_sack, with_acknowledged}
 use Rattle.sctp_assoc.specs.Closing.{is_exhausted}
 use Rattle.sctp_assoc.specs.Finding.{found_for}
-use Rattle.sctp_assoc.specs.Handshake.{connected, cookie_queued, echoed, information_returned, learned, learned_back}
-use Rattle.sctp_assoc.specs.Handshake.{on_cookie_ack, on_cookie_echo, on_heartbeat, on_init, on_init_ack, sends_cookie}
+use Rattle.sctp_assoc.specs.Handshake.{acknowledges_again, connected, cookie_queued, echoed, information_returned}
+use Rattle.sctp_assoc.specs.Handshake.{keeps_peer, learned, learned_back, learned_unless, on_cookie_ack}
+use Rattle.sctp_assoc.specs.Handshake.{on_cookie_echo, on_heartbeat, on_init, on_init_ack, sends_cookie}
 use Rattle.sctp_assoc.specs.Probes.{is_probing, probes_answered}
 use Rattle.sctp_assoc.specs.Resets.{after_param, asking_if, behind_first, behind_params, channels_of, handled_with}
 use Rattle.sctp_assoc.specs.Resets.{on_reconfig, on_request, on_response, responded_with, settled, stopped_if}
 use Rattle.sctp_assoc.specs.Resets.{with_beside, with_resetting}
 use Rattle.sctp_assoc.specs.Shown.{Shown}
-use Rattle.sctp_assoc.specs.Shutdown.{shutdown_answered, shutdown_continued, shutdown_taken}
+use Rattle.sctp_assoc.specs.Shutdown.{shutdown_again, shutdown_answered, shutdown_continued, shutdown_taken}
 use Rattle.sctp_assoc.specs.Skipping.{acknowledged_at_once, asks_behind, on_forward, skips_of, with_passed, with_skip}
 use Rattle.sctp_assoc.specs.Skipping.{with_skips}
 use Rattle.sctp_assoc.proofs.Probes.{probes_keep}
@@ -115,10 +116,13 @@ module _ {Open : GenerationsView → PeerView → Type 0} {T : GenerationsView �
 
   -- The handshake, and HEARTBEAT
 
-  -- an INIT and an INIT ACK tell the number before that of the peer's first request
+  -- an INIT and an INIT ACK tell the number before that of the peer's first request, unless what is known is kept
 
-  learned_carries : (a : Shown) (header : CommonHeader) (init : ChunkInit) → Carries T a (learned a header init)
-  learned_carries a header init =
+  learned_carries : (keeps : Bool) (a : Shown) (header : CommonHeader) (init : ChunkInit)
+      → Carries T a
+      (learned_unless keeps (record a { handshake = learned_by_init a.handshake header init }) init)
+  learned_carries true a header init = same_carries a _ refl refl refl
+  learned_carries false a header init =
       record {
         carries = λ h.
             rules.meets a.resets.generations a.resets.peer a.streams (Some (number_before init.initial_tsn)) h;
@@ -136,7 +140,8 @@ module _ {Open : GenerationsView → PeerView → Type 0} {T : GenerationsView �
       → is_beginning a.state ≡ begins → Carries T a (on_init a header init trigger).0
   unfolding on_init
   init_carries true a header init trigger e =
-      rw e (then_carries (learned_carries a header init) (queued_carries (learned a header init) _))
+      rw e
+      (then_carries (learned_carries (keeps_peer a init) a header init) (queued_carries (learned a header init) _))
   init_carries false a header init trigger e = rw e (nothing_carries a)
 
   cookie_carries : (o : Option (List ℕ)) (a : Shown) → Carries T a (cookie_queued o a)
@@ -172,15 +177,17 @@ module _ {Open : GenerationsView → PeerView → Type 0} {T : GenerationsView �
       rw e (back_carries (comes_back a.handshake header) a header init trigger now)
   init_ack_carries false a header init trigger now e = rw e (nothing_carries a)
 
-  cookie_echo_carries : (issued begins established : Bool) (a : Shown) (cookie : List ℕ) (trigger : AckTrigger)
+  cookie_echo_carries : (issued begins again : Bool) (a : Shown) (cookie : List ℕ) (trigger : AckTrigger)
       → has_issued a.handshake cookie ≡ issued → is_beginning a.state ≡ begins
-      → is_established a.state ≡ established → Carries T a (on_cookie_echo a cookie trigger).0
+      → acknowledges_again a ≡ again → Carries T a (on_cookie_echo a cookie trigger).0
   unfolding on_cookie_echo
-  cookie_echo_carries false begins established a cookie trigger e f g = rw e (nothing_carries a)
-  cookie_echo_carries true true established a cookie trigger e f g =
+  cookie_echo_carries false begins again a cookie trigger e f g = rw e (nothing_carries a)
+  cookie_echo_carries true true again a cookie trigger e f g =
       rw (e, f) (then_carries (same_carries a (connected a) refl refl refl)
       (queued_carries (connected a) _))
-  cookie_echo_carries true false true a cookie trigger e f g = rw (e, f, g) (queued_carries a _)
+  cookie_echo_carries true false true a cookie trigger e f g =
+      rw (e, f, g) (then_carries (same_carries a (shutdown_again a) refl refl refl)
+      (queued_carries (shutdown_again a) _))
   cookie_echo_carries true false false a cookie trigger e f g = rw (e, f, g) (nothing_carries a)
 
   cookie_ack_carries : (waits : Bool) (a : Shown) (trigger : AckTrigger) → is_cookie_echoed a.state ≡ waits
@@ -358,8 +365,8 @@ module _ {Open : GenerationsView → PeerView → Type 0} {T : GenerationsView �
       same_carries a (shutdown_answered a) refl refl refl
   dispatched_carries a header (chunks.Error x) trigger now opens inside = nothing_carries a
   dispatched_carries a header (chunks.CookieEcho cookie) trigger now opens inside =
-      cookie_echo_carries (has_issued a.handshake cookie) (is_beginning a.state) (is_established a.state) a cookie
-      trigger refl refl refl
+      cookie_echo_carries (has_issued a.handshake cookie) (is_beginning a.state) (acknowledges_again a) a cookie trigger
+      refl refl refl
   dispatched_carries a header chunks.CookieAck trigger now opens inside =
       cookie_ack_carries (is_cookie_echoed a.state) a trigger refl
   dispatched_carries a header chunks.ShutdownComplete trigger now opens inside = nothing_carries a

@@ -1,10 +1,10 @@
 -- Polls for packets and timeouts carry what each of the rules carries.
-use Rattle.std.proofs.Common.{◌≡◌, refl, sym, subst, ℕ, Bool, true, false, if◌then◌else◌, Option, Some, None}
+use Rattle.std.proofs.Common.{◌≡◌, refl, sym, subst, ℕ, Bool, true, false, if◌then◌else◌, Option, Some, None, is_some}
 use Rattle.sctp_wire_types.specs.declared.error.Error.TheVariants as errors
 use Rattle.sctp_streams.specs.Streams.{StreamMap}
 use Rattle.sctp_streams.specs.declared.event.AssociationError.TheVariants as reasons
 use Rattle.sctp_parts.specs.declared.timer.Timer.TheVariants as names
-use Rattle.sctp_parts.specs.Timers.{expiry_of, started}
+use Rattle.sctp_parts.specs.Timers.{expiry_of, started, with_stopped}
 use Rattle.sctp_generations.specs.Generations.{GenerationsView}
 use Rattle.sctp_inbound.specs.declared.handshake.Offer.{Offer}
 use Rattle.sctp_reset_requests.specs.Peer.{PeerView}
@@ -13,7 +13,7 @@ use Rattle.sctp_assoc.specs.Calls.{after_ack_delay, after_t3, exchanges_data, re
 use Rattle.sctp_assoc.specs.Gather.{control_polled, data_after, data_polled, open_polled, polled}
 use Rattle.sctp_assoc.specs.Handshake.{after_t1_cookie, after_t1_init, init_queued, sends_cookie, sends_init}
 use Rattle.sctp_assoc.specs.Handshake.{t1_cookie_expired, t1_init_expired}
-use Rattle.sctp_assoc.specs.Resets.{after_reconfig_timer, asks_again, gives_up, reconfig_expired, with_beside}
+use Rattle.sctp_assoc.specs.Resets.{after_reconfig_timer, asks_again, gives_up, goes_on, reconfig_expired, with_beside}
 use Rattle.sctp_assoc.specs.Resets.{with_reconfig_run}
 use Rattle.sctp_assoc.specs.Shown.{Shown}
 use Rattle.sctp_assoc.specs.Shutdown.{after_t2_shutdown}
@@ -126,21 +126,31 @@ module _ {Open : GenerationsView → PeerView → Type 0} {T : GenerationsView �
   t3_carries true true a now = same_carries a _ refl refl refl
   t3_carries true false a now = same_carries a _ refl refl refl
 
-  gives_up_carries : (a : Shown) → Carries T a (gives_up a)
-  gives_up_carries a =
+  -- a request that is still active goes out again, or its timer stops
+  goes_on_carries_if : (active : Bool) (a : Shown) (now : ℕ)
+      → Carries T a
+      (if active then asks_again a now else record a { timers = with_stopped names.Reconfig a.timers })
+  goes_on_carries_if true a now = same_carries a _ refl refl refl
+  goes_on_carries_if false a now = same_carries a _ refl refl refl
+
+  goes_on_carries : (a : Shown) (now : ℕ) → Carries T a (goes_on a now)
+  goes_on_carries a now = goes_on_carries_if (is_some a.resets.own.active) a now
+
+  gives_up_carries : (a : Shown) (now : ℕ) → Carries T a (gives_up a now)
+  gives_up_carries a now =
       let x = given_up a.resets a.streams a.events in
       then_carries
       (beside_carries a x (given_up_carries rules.streams a.resets a.streams a.events))
-      (same_carries (with_beside a x) (gives_up a) refl refl refl)
+      (goes_on_carries (with_beside a x) now)
 
   reconfig_carries : (expired failure : Bool) (a : Shown) (now : ℕ)
       → Carries T a
-      (if expired then (if failure then gives_up (reconfig_expired a now) else asks_again (reconfig_expired a now) now)
-      else a)
+      (if expired then
+      (if failure then gives_up (reconfig_expired a now) now else asks_again (reconfig_expired a now) now) else a)
   reconfig_carries false failure a now = nothing_carries a
   reconfig_carries true true a now =
       let b : Shown = reconfig_expired a now in then_carries
-      (same_carries a b refl refl refl) (gives_up_carries b)
+      (same_carries a b refl refl refl) (gives_up_carries b now)
   reconfig_carries true false a now = same_carries a _ refl refl refl
 
   ack_delay_carries : (expired : Bool) (a : Shown) (now : ℕ) → (expiry_of names.Ack now a.timers).expired ≡ expired

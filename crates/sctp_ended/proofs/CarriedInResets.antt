@@ -1,8 +1,9 @@
 -- What happens to resets carries what each of the rules carries: kept skips are applied, requests of this side end, and
 -- requests of the peer come and are performed.
-use Rattle.std.proofs.Common.{◌≡◌, ◌++◌, refl, ap, ℕ, ◌&&◌, Bool, true, false, if◌then◌else◌, cond}
+use Rattle.std.proofs.Common.{◌≡◌, ◌++◌, refl, ap, ℕ, ◌&&◌, Bool, true, false, if◌then◌else◌, cond, not}
 use Rattle.std.proofs.Common.{List, [], ◌∷◌, fold, Option, Some, None, is_some, Result, Ok, Err}
 use Rattle.std.proofs.lemmas.Bool.{false≢true}
+use Rattle.sctp_wire_types.specs.Config.{is_rfc}
 use Rattle.sctp_wire_types.specs.declared.event.StreamResetError.{StreamResetError}
 use Rattle.sctp_wire_types.specs.declared.event.StreamResetError.TheVariants as reasons
 use Rattle.sctp_wire_types.specs.declared.param.ParamOutgoingResetRequest.{ParamOutgoingResetRequest}
@@ -31,9 +32,9 @@ use Rattle.sctp_resets.specs.Answers.{Answering, answering, complete_told, compl
 use Rattle.sctp_resets.specs.Answers.{ended_or_restarted, is_read_half_closed}
 use Rattle.sctp_resets.specs.Channels.{Channels}
 use Rattle.sctp_resets.specs.Resets.{Beside, ResetsView, Resetting, arrived_with, confirmed_by, confirmed_where}
-use Rattle.sctp_resets.specs.Resets.{ended_as_answered, given_up, given_up_where, handled, handled_after, performed}
-use Rattle.sctp_resets.specs.Resets.{request_over, responded, settled, settled_where, skips_done, skips_done_in}
-use Rattle.sctp_resets.specs.Resets.{skips_done_of, with_channels}
+use Rattle.sctp_resets.specs.Resets.{ended_as_answered, given_up, given_up_for_now, given_up_where, handled}
+use Rattle.sctp_resets.specs.Resets.{handled_after, performed, request_over, responded, settled, settled_where}
+use Rattle.sctp_resets.specs.Resets.{skips_done, skips_done_in, skips_done_of, with_channels}
 use Rattle.sctp_resets.specs.Skips.{Skipping, end_of_skip, reaches_its_ssn, skip_tried, skips_applied, skips_applied_of}
 use Rattle.sctp_resets.proofs.ListsOver.{of_chosen}
 use Rattle.sctp_ended.proofs.Carried.{IsCarried, IsCarriedByStreams, ResettingIs, restarted_is_mild, skipped_is_mild}
@@ -87,29 +88,31 @@ module _ {T : GenerationsView → PeerView → StreamMap → Type 0} (rules : Is
   -- A request of this side ends
 
   module _ (g : GenerationsView) (p : PeerView) where
-    completed_carries : (owed : Bool) (d : DebtsView) (a : Answering) (k : ℕ) → T g p a.streams
-        → T g p (completed_with (d, owed) a k).streams
-    completed_carries owed d a k h = by owed
+    completed_carries : (by_rfcs owed : Bool) (d : DebtsView) (a : Answering) (k : ℕ) → T g p a.streams
+        → T g p (completed_with by_rfcs (d, owed) a k).streams
+    completed_carries by_rfcs owed d a k h = by owed
       where
         changed : (b : Bool) → T g p (ended_or_restarted b (record a { debts = d }) k).streams
         changed b =
             of_chosen (λ (n : Answering). T g p n.streams) (b && is_read_half_closed a.streams k) _ _
             (rules.ends g p a.streams k h) (rules.changes g p a.streams with_restarted_ssn k restarted_is_mild h)
 
-        by : (b : Bool) → T g p (complete_told b (ended_or_restarted b (record a { debts = d }) k) k).streams
-        by true = changed true
-        by false = changed false
+        by : (b : Bool)
+            → T g p (complete_told b (ended_or_restarted (b && not by_rfcs) (record a { debts = d }) k) k).streams
+        by true = changed (true && not by_rfcs)
+        by false = changed (false && not by_rfcs)
 
-    all_completed_carry : (ids : List ℕ) (a : Answering) → T g p a.streams → T g p (fold completed_one a ids).streams
-    all_completed_carry [] a h = h
-    all_completed_carry (k ∷ ids) a h =
-        all_completed_carry ids (completed_one a k)
-        (completed_carries (debts.settled a.debts k).1 (debts.settled a.debts k).0 a k h)
+    all_completed_carry : (by_rfcs : Bool) (ids : List ℕ) (a : Answering) → T g p a.streams
+        → T g p (fold (completed_one by_rfcs) a ids).streams
+    all_completed_carry by_rfcs [] a h = h
+    all_completed_carry by_rfcs (k ∷ ids) a h =
+        all_completed_carry by_rfcs ids (completed_one by_rfcs a k)
+        (completed_carries by_rfcs (debts.settled a.debts k).1 (debts.settled a.debts k).0 a k h)
 
   over_carries : (outcome : Result (Unit {0}) StreamResetError) (q : OwnRequest) (r : ResetsView) (m : StreamMap)
       (told : List Event) → T r.generations r.peer m → BesideIs (request_over outcome q r m told)
   over_carries (Ok done) q r m told h =
-      all_completed_carry r.generations r.peer q.ids (answering r.debts m told) h
+      all_completed_carry r.generations r.peer (is_rfc r.own.profile) q.ids (answering r.debts m told) h
   over_carries (Err reason) q r m told h = h
 
   as_answered_carries : (o : OwnView) (a : Answered) (r : ResetsView) (m : StreamMap) (told : List Event)
@@ -126,7 +129,9 @@ module _ {T : GenerationsView → PeerView → StreamMap → Type 0} (rules : Is
 
   pub given_up_carries : (r : ResetsView) (m : StreamMap) (told : List Event) → T r.generations r.peer m
       → BesideIs (given_up r m told)
-  given_up_carries r m told h = by (own.ended r.own).1
+  given_up_carries r m told h =
+      of_chosen BesideIs (is_rfc r.own.profile) (given_up_for_now r m told)
+      (given_up_where (own.ended r.own) r m told) h (by (own.ended r.own).1)
     where
       by : (q : Option OwnRequest) → BesideIs (given_up_where ((own.ended r.own).0, q) r m told)
       by None = h

@@ -18,13 +18,12 @@ use Rattle.sctp_generations.specs.Generations.{GenerationsView, given_to_all}
 use Rattle.sctp_generations.specs.Generations.{retired_by, retirement_of, retires, with_boundary}
 use Rattle.sctp_generations.specs.Generations.{without_newest_of}
 use Rattle.sctp_generations.specs.Retiring.{RetiringMap, boundaries_at, is_retiring, retired_at, retired_with}
-use Rattle.sctp_reset_requests.specs.Own as own
 use Rattle.sctp_reset_requests.specs.Request.{PeerRequestView}
 use Rattle.sctp_resets.specs.Channels.{Channels, channels, delivered, given_unless, given_where, opened}
 use Rattle.sctp_resets.specs.Channels.{with_new_stream}
-use Rattle.sctp_resets.specs.Performing.{Performing, is_drained, named_live, performing, retired_as, retired_each}
-use Rattle.sctp_resets.specs.Performing.{retired_next, retired_one, with_retired}
-use Rattle.sctp_resets.specs.Resets.{ResetsView, Resetting, all_released}
+use Rattle.sctp_resets.specs.Performing.{Performing, answered_in, is_drained, named_in, named_live, performing}
+use Rattle.sctp_resets.specs.Performing.{retired_as, retired_each, retired_next, retired_one, with_retired}
+use Rattle.sctp_resets.specs.Resets.{ResetsView, Resetting, all_released, own_answered}
 use Rattle.sctp_resets.specs.Resets.{performed, performed_with}
 use Rattle.sctp_resets.proofs.ListsOver.{of_chosen}
 use Rattle.sctp_reset_fit.proofs.Once.{inserted_apart}
@@ -199,12 +198,12 @@ module _ (P : ChunkPayloadData → Type 0) (id generation : ℕ) where
       all_delivered_closed (retires r.generations id ≡ true) first limit (given_to_all r.generations) c
       (apart_of_given id r.generations.retiring r.generations.deferred) h
 
-  performed_with_closed : (q : PeerRequestView) (first limit : ℕ) (r : ResetsView) (to_accept : List ℕ)
+  performed_with_closed : (q : PeerRequestView) (first limit : ℕ) (r : ResetsView) (to_accept named : List ℕ)
       (p : Performing × List ℕ) → IsPerformingClosed p.0
-      → IsResettingClosed (performed_with q first limit r to_accept p).0
-  performed_with_closed q first limit r to_accept (p, ids) h =
+      → IsResettingClosed (performed_with q first limit r to_accept named p).0
+  performed_with_closed q first limit r to_accept named (p, ids) h =
       all_released_closed first limit (record r {
-        own = own.reciprocated r.own q ids;
+        own = own_answered q named ids r.own;
         debts = p.debts;
         generations = without_newest_of p.generations q.ids;
       }) (channels p.streams p.events to_accept) h
@@ -213,7 +212,8 @@ module _ (P : ChunkPayloadData → Type 0) (id generation : ℕ) where
       → IsClosedBeside P id generation r.generations c.streams → IsResettingClosed (performed q first limit r c).0
   unfolding performed
   performed_closed q first limit r c h =
-      performed_with_closed q first limit r c.to_accept
-      (retired_each q (performing r.generations r.debts c.streams c.events))
+      let named : List ℕ = named_in r.own c.streams q in
+      performed_with_closed q first limit r c.to_accept named
+      (answered_in r.own named (retired_each q (performing r.generations r.debts c.streams c.events)))
       (all_retired_closed q.last_tsn (named_live c.streams q)
       (performing r.generations r.debts c.streams c.events, []) h)

@@ -12,15 +12,14 @@ use Rattle.sctp_generations.specs.Generations.{GenerationsView, after_given_to, 
 use Rattle.sctp_generations.specs.Generations.{given_to}
 use Rattle.sctp_generations.specs.Generations.{is_hidden, readable_end, retires, without_newest_of}
 use Rattle.sctp_generations.specs.Retiring.{boundaries_at, count_at, first_of, forgotten, is_retiring, passed}
-use Rattle.sctp_reset_requests.specs.Own as own
 use Rattle.sctp_reset_requests.specs.Peer as peer
 use Rattle.sctp_reset_requests.specs.Peer.{PeerView, boundary_for, boundary_of, is_deferred}
 use Rattle.sctp_reset_requests.specs.Request.{PeerRequestView}
 use Rattle.sctp_resets.specs.Channels.{Channels, channels, delivered, is_write_half_closed}
 use Rattle.sctp_resets.specs.Draining.{Reading, ended, next_generation_read, passed_once, passed_times, passed_where}
 use Rattle.sctp_resets.specs.Draining.{with_write_half}
-use Rattle.sctp_resets.specs.Performing.{Performing, performing, retired_each}
-use Rattle.sctp_resets.specs.Resets.{ResetsView, all_released, performed, performed_with}
+use Rattle.sctp_resets.specs.Performing.{Performing, answered_in, named_in, performing, retired_each}
+use Rattle.sctp_resets.specs.Resets.{ResetsView, all_released, own_answered, performed, performed_with}
 use Rattle.sctp_resets.proofs.ListsOver.{all_filtered, all_inserted, of_chosen}
 use Rattle.sctp_resets.proofs.StreamsBeside.{removed_apart}
 use Rattle.sctp_reset_fit.proofs.Elsewhere.{passed_stays}
@@ -105,11 +104,11 @@ released_apart : (first limit : ℕ) (r : ResetsView) (c : Channels)
     → ResettingIs OnlyHidden (all_released first limit r c)
 released_apart first limit r c = waiting_are_hidden r.generations r.peer r.generations.deferred
 
-with_apart : (q : PeerRequestView) (first limit : ℕ) (r : ResetsView) (to_accept : List ℕ) (p : Performing × List ℕ)
-    → ResettingIs OnlyHidden (performed_with q first limit r to_accept p).0
-with_apart q first limit r to_accept (p, ids) =
+with_apart : (q : PeerRequestView) (first limit : ℕ) (r : ResetsView) (to_accept named : List ℕ)
+    (p : Performing × List ℕ) → ResettingIs OnlyHidden (performed_with q first limit r to_accept named p).0
+with_apart q first limit r to_accept named (p, ids) =
     released_apart first limit (record r {
-      own = own.reciprocated r.own q ids;
+      own = own_answered q named ids r.own;
       debts = p.debts;
       generations = without_newest_of p.generations q.ids;
     }) (channels p.streams p.events to_accept)
@@ -118,7 +117,9 @@ performed_apart : (q : PeerRequestView) (first limit : ℕ) (r : ResetsView) (c 
     → ResettingIs OnlyHidden (performed q first limit r c).0
 unfolding performed
 performed_apart q first limit r c =
-    with_apart q first limit r c.to_accept (retired_each q (performing r.generations r.debts c.streams c.events))
+    let named : List ℕ = named_in r.own c.streams q in
+    with_apart q first limit r c.to_accept named
+    (answered_in r.own named (retired_each q (performing r.generations r.debts c.streams c.events)))
 
 -- A stream is read out: what is left of it is of a generation behind
 

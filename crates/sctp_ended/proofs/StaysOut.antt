@@ -9,7 +9,7 @@ use Rattle.sctp_reset_requests.specs.Peer as peer
 use Rattle.sctp_reset_requests.specs.Peer.{PeerView, is_current}
 use Rattle.sctp_reset_requests.specs.Request.{PeerRequestView}
 use Rattle.sctp_resets.specs.Channels.{Channels}
-use Rattle.sctp_resets.specs.Performing.{Performing, performing, retired_each}
+use Rattle.sctp_resets.specs.Performing.{Performing, answered_in, named_in, performing, retired_each}
 use Rattle.sctp_resets.specs.Resets.{ResetsView, performed, performed_with}
 use Rattle.sctp_reset_fit.specs.Laws.{Passes}
 use Rattle.sctp_reset_fit.proofs.Weaker.{stream_weaker}
@@ -68,16 +68,18 @@ module _ (q : PeerRequestView) where
   abbrev IsThisOne : GenerationsView → PeerView → StreamMap → Type 0
   IsThisOne g p m = is_current p.in_progress q.number ≡ true → p.in_progress ≡ Some q
 
-  over_with : (r : PeerRequestView) (first limit : ℕ) (s : ResetsView) (to_accept : List ℕ) (p : Performing × List ℕ)
-      → s.peer.in_progress ≡ None
-      → (performed_with r first limit s to_accept p).0.0.peer.in_progress ≡ None
-  over_with r first limit s to_accept (p, ids) none = none
+  over_with : (r : PeerRequestView) (first limit : ℕ) (s : ResetsView) (to_accept named : List ℕ)
+      (p : Performing × List ℕ) → s.peer.in_progress ≡ None
+      → (performed_with r first limit s to_accept named p).0.0.peer.in_progress ≡ None
+  over_with r first limit s to_accept named (p, ids) none = none
 
   over : (r : PeerRequestView) (first limit : ℕ) (s : ResetsView) (c : Channels) → s.peer.in_progress ≡ None
       → (performed r first limit s c).0.0.peer.in_progress ≡ None
   unfolding performed
   over r first limit s c none =
-      over_with r first limit s c.to_accept (retired_each r (performing s.generations s.debts c.streams c.events)) none
+      let named : List ℕ = named_in s.own c.streams r in
+      over_with r first limit s c.to_accept named
+      (answered_in s.own named (retired_each r (performing s.generations s.debts c.streams c.events))) none
 
   this_one_is_carried : IsCarried (HasNumber q.number) IsThisOne
   this_one_is_carried = record {

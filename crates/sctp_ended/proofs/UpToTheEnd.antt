@@ -25,16 +25,15 @@ use Rattle.sctp_generations.specs.Generations.{retirement_of, retires, without_n
 use Rattle.sctp_generations.specs.Retiring.{RetiringMap, boundaries_at, count_at, first_of, is_retiring, passed}
 use Rattle.sctp_generations.specs.Retiring.{readable_boundary, retired_at, retired_with}
 use Rattle.sctp_reset_requests.specs.Ids.{has_id}
-use Rattle.sctp_reset_requests.specs.Own as own
 use Rattle.sctp_reset_requests.specs.Peer as peer
 use Rattle.sctp_reset_requests.specs.Peer.{PeerView, boundary_for, boundary_of}
 use Rattle.sctp_reset_requests.specs.Request.{PeerRequestView, names, names_all}
 use Rattle.sctp_resets.specs.Channels.{Channels, channels, delivered, is_write_half_closed}
 use Rattle.sctp_resets.specs.Draining.{Reading, ended, next_generation_read, passed_once, passed_times, passed_where}
 use Rattle.sctp_resets.specs.Draining.{with_write_half}
-use Rattle.sctp_resets.specs.Performing.{Performing, is_drained, named_live, performing, retired_as, retired_each}
-use Rattle.sctp_resets.specs.Performing.{retired_next, retired_one, with_retired}
-use Rattle.sctp_resets.specs.Resets.{ResetsView, all_released, performed, performed_with, read_out}
+use Rattle.sctp_resets.specs.Performing.{Performing, answered_in, is_drained, named_in, named_live, performing}
+use Rattle.sctp_resets.specs.Performing.{retired_as, retired_each, retired_next, retired_one, with_retired}
+use Rattle.sctp_resets.specs.Resets.{ResetsView, all_released, own_answered, performed, performed_with, read_out}
 use Rattle.sctp_resets.proofs.ListsOver.{all_filtered, of_chosen}
 use Rattle.sctp_resets.proofs.StreamsBeside.{removed_apart, set_apart}
 use Rattle.sctp_reset_fit.specs.Laws.{Passes}
@@ -271,12 +270,12 @@ module _ (test : ChunkPayloadData → Bool) (id : ℕ) where
         (more_within (end_with r.generations) (readable_end r.generations id None)
         (within_still (first_of (boundaries_at r.generations.retiring id)) (boundary_for (Some q) id))) h))
 
-    with_within : (first limit : ℕ) (r : ResetsView) (to_accept : List ℕ) (p : Performing × List ℕ)
+    with_within : (first limit : ℕ) (r : ResetsView) (to_accept named : List ℕ) (p : Performing × List ℕ)
         → boundary_of r.peer id ≡ None → PerformingIsWithin p.0
-        → ResettingIs StreamIsWithin (performed_with q first limit r to_accept p).0
-    with_within first limit r to_accept (p, ids) none h =
+        → ResettingIs StreamIsWithin (performed_with q first limit r to_accept named p).0
+    with_within first limit r to_accept named (p, ids) none h =
         released_within first limit (record r {
-          own = own.reciprocated r.own q ids;
+          own = own_answered q named ids r.own;
           debts = p.debts;
           generations = without_newest_of p.generations q.ids;
         }) (channels p.streams p.events to_accept) none h
@@ -286,8 +285,9 @@ module _ (test : ChunkPayloadData → Bool) (id : ℕ) where
         → ResettingIs StreamIsWithin (performed q first limit r c).0
     unfolding performed
     performed_within first limit r c none h =
-        with_within first limit r c.to_accept
-        (retired_each q (performing r.generations r.debts c.streams c.events)) none
+        let named : List ℕ = named_in r.own c.streams q in
+        with_within first limit r c.to_accept named
+        (answered_in r.own named (retired_each q (performing r.generations r.debts c.streams c.events))) none
         (each_within (named_live c.streams q) (performing r.generations r.debts c.streams c.events, [])
         (named_each id c.streams q) h)
 

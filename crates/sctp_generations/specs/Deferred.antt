@@ -40,6 +40,10 @@ is_between id after upto d = is_of id d && is_above after d.tsn && tsn_lte d.tsn
 abbrev pub has_between : ℕ → Option ℕ → ℕ → List ChunkPayloadData → Bool
 has_between id after upto ds = list_any (is_between id after upto) ds
 
+-- DATA of a stream that is past a boundary
+abbrev pub is_past : ℕ → Option ℕ → ChunkPayloadData → Bool
+is_past id boundary d = is_of id d && is_above boundary d.tsn
+
 -- DATA of the generation that is read now
 abbrev pub is_due : Due → RetiringMap → ChunkPayloadData → Bool
 is_due due.NoneRetires m d = not (is_retiring m d.stream_identifier)

@@ -1,6 +1,7 @@
 -- What is kept of the generations of streams beside the live ones (RFC 6525 section 5.2.2, RFC 8831 section 6.7).
 use Rattle.std.specs.Prelude.{ℕ, Bool, true, false, ◌==◌, ◌&&◌, ◌||◌, if◌then◌else◌, List, [], ◌∷◌, ◌++◌}
 use Rattle.std.specs.Prelude.{Option, Some, None, not, length}
+use Rattle.std.specs.List.{list_any}
 use Rattle.sctp_wire_types.specs.declared.chunk.ChunkPayloadData.{ChunkPayloadData}
 use Rattle.sctp_generations.specs.declared.skips.KeptSkip.{KeptSkip}
 use Rattle.sctp_generations.specs.declared.deferred.Due.{Due}
@@ -15,9 +16,9 @@ use Rattle.sctp_generations.specs.Kept.{kept_of}
 use Rattle.sctp_generations.specs.Refusals.{refusal_in}
 use Rattle.sctp_generations.specs.Retiring.{RetiringMap, is_retiring, newest_boundary, readable_boundary, retired_with}
 use Rattle.sctp_generations.specs.Retiring.{passed, forgotten}
-use Rattle.sctp_generations.specs.Deferred.{deferred_with, has_between, is_above, released, still_deferred}
+use Rattle.sctp_generations.specs.Deferred.{deferred_with, has_between, is_above, is_past, released, still_deferred}
 use Rattle.sctp_generations.specs.Deferred.{without_stream}
-use Rattle.sctp_generations.specs.Skips.{skips_of, skips_of_others, skips_ended, skips_of_other_streams}
+use Rattle.sctp_generations.specs.Skips.{is_skip_of, skips_of, skips_of_others, skips_ended, skips_of_other_streams}
 use Rattle.sctp_generations.specs.Skips.{skips_without_newest_of}
 
 pub record GenerationsView : Type 0 where
@@ -156,6 +157,11 @@ skips_given_to g id = skips_of id (readable_boundary g.retiring id) g.skips
 
 abbrev pub after_skips_given_to : GenerationsView → ℕ → GenerationsView
 after_skips_given_to g id = record g { skips = skips_of_others id (readable_boundary g.retiring id) g.skips }
+
+-- something came for the generation of a stream that did not end: DATA past its newest boundary, or a skip
+abbrev pub has_newest : GenerationsView → ℕ → Bool
+has_newest g id =
+    list_any (is_past id (newest_boundary g.retiring id)) g.deferred || list_any (is_skip_of id None) g.skips
 
 -- nothing of a stream is left
 abbrev pub discarded : GenerationsView → ℕ → GenerationsView

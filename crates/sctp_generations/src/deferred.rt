@@ -2,7 +2,9 @@
 ghost use Rattle.std.specs.Prelude.{◌≡◌, ◌+◌, ◌-◌, ◌^◌, ◌<◌, ◌≤◌, ◌++◌, [], length, min, fold};
 ghost use Rattle.sctp_receive_queues.specs.Pieces.{bytes_of, index_of, last_of};
 ghost use Rattle.sctp_generations.specs.Deferred.{is_up_to, is_of, is_before, place_of, deferred_with, is_between};
-ghost use Rattle.sctp_generations.specs.Deferred.{has_between, is_due, released, still_deferred, without_stream};
+ghost use Rattle.sctp_generations.specs.Deferred.{has_between, is_due, is_past, released, still_deferred};
+ghost use Rattle.sctp_generations.specs.Deferred.{without_stream};
+ghost use Rattle.std.specs.List.{list_any};
 ghost use Rattle.std.specs.Prelude.{◌==◌, OnOk, OnErr, IfOk, IfSome, position, not, filter};
 ghost use Rattle.sctp_generations.specs.Kept.{kept_of};
 ghost use Rattle.sctp_generations.specs.Later.{AreWithLater};
@@ -83,6 +85,13 @@ impl Deferred {
         ensures { result ≡ has_between id after upto self.now }
     {
         any_between(&self.chunks, id, after, upto)
+    }
+
+    // Whether DATA of a stream waits that is past a boundary.
+    pub(crate) fn has_past(&self, id: StreamId, boundary: Option<u32>) -> bool
+        ensures { result ≡ list_any (is_past id boundary) self.now }
+    {
+        any_past(&self.chunks, id, boundary)
     }
 
     // The streams of which DATA waits that is past their newest boundary and at or below a TSN.
@@ -203,6 +212,18 @@ fn any_between(
     chunks
         .iter()
         .any(|chunk| is_between(chunk, id, after, upto))
+}
+
+fn any_past(chunks: &VecDeque<ChunkPayloadData>, id: StreamId, boundary: Option<u32>) -> bool
+    ensures { result ≡ list_any (is_past id boundary) chunks.now.items }
+{
+    chunks.iter().any(|chunk| is_past(chunk, id, boundary))
+}
+
+fn is_past(chunk: &ChunkPayloadData, id: StreamId, boundary: Option<u32>) -> bool
+    ensures { result ≡ is_past id boundary chunk.now }
+{
+    chunk.stream_identifier == id && !is_up_to(boundary, chunk.tsn)
 }
 
 pub(crate) fn is_between(

@@ -6,6 +6,7 @@ ghost use Rattle.sctp_generations.specs.Generations.{retirement_of, retired, wit
 ghost use Rattle.sctp_generations.specs.Generations.{given_to, after_given_to, given_to_all, after_given_to_all};
 ghost use Rattle.sctp_generations.specs.Generations.{skips_given_to, after_skips_given_to, discarded, with_boundary};
 ghost use Rattle.sctp_generations.specs.Generations.{with_kept_skip, has_skips, has_retiring, without_newest_of};
+ghost use Rattle.sctp_generations.specs.Generations.{has_newest};
 ghost use Rattle.sctp_generations.specs.Retiring.{count_at};
 ghost use Rattle.sctp_generations.specs.Later.{AreWithLater, has_later};
 ghost use Rattle.sctp_generations.specs.declared.retirement.Retirement.TheVariants.{Ended, Retires, Unchanged};
@@ -390,6 +391,16 @@ impl Generations {
         self.retiring.clear();
         self.deferred.clear();
         self.skips.clear();
+    }
+
+    /// Whether something came for the generation of a stream that did not end: DATA past its newest boundary, or a
+    /// skip. Goes over what waits of all streams.
+    pub fn has_newest(&self, id: StreamId) -> bool
+        ensures { result ≡ has_newest self.now id }
+    {
+        self.deferred
+            .has_past(id, self.retiring.newest_boundary(id))
+            || self.skips.has_of(id, None)
     }
 
     /// The application reads no more of a stream: its generations, and what came for those behind, are dropped.

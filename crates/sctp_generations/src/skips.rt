@@ -3,6 +3,7 @@ ghost use Rattle.std.specs.Prelude.{◌≡◌, ◌++◌, ◌∷◌, ◌==◌, []
 ghost use Rattle.sctp_generations.specs.Skips.{is_same, is_skip_of, skips_of, skips_of_others, with_boundary};
 ghost use Rattle.sctp_generations.specs.Skips.{skips_ended, skips_of_other_streams, is_newest_of};
 ghost use Rattle.sctp_generations.specs.Skips.{skips_without_newest_of, skip_ids};
+ghost use Rattle.std.specs.List.{list_any};
 
 use sctp_wire_types::StreamId;
 use std::alloc::{AllocError, Global};
@@ -75,6 +76,14 @@ impl KeptSkips {
         let given = copy_of(alloc, &self.list, id, boundary)?;
         self.drop_of(id, boundary);
         Ok(given)
+    }
+
+    // Whether there is a skip of the generation of a stream that ends with this boundary, or of the one that did not
+    // end.
+    pub(crate) fn has_of(&self, id: StreamId, boundary: Option<u32>) -> bool
+        ensures { result ≡ list_any (is_skip_of id boundary) self.now }
+    {
+        any_of(self.list.as_slice(), id, boundary)
     }
 
     // Drops the skips of the generation of a stream that ends with this boundary, or of the one that did not end.
@@ -152,6 +161,12 @@ fn is_same(a: Option<u32>, b: Option<u32>) -> bool
         },
         None => b.is_none(),
     }
+}
+
+fn any_of(skips: &[KeptSkip], id: StreamId, boundary: Option<u32>) -> bool
+    ensures { result ≡ list_any (is_skip_of id boundary) skips.now }
+{
+    skips.iter().any(|skip| skip.is_of(id, boundary))
 }
 
 fn end_each(skips: &mut [KeptSkip], id: StreamId, boundary: u32)

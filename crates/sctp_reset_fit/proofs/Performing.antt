@@ -20,8 +20,8 @@ use Rattle.sctp_generations.specs.Generations.{retirement_of, without_newest_of}
 use Rattle.sctp_generations.specs.Retiring.{RetiringMap, boundaries_at, is_retiring, retired_at, retired_with}
 use Rattle.sctp_reset_requests.specs.Request.{PeerRequestView, names}
 use Rattle.sctp_resets.specs.Channels.{Channels, channels, delivered}
-use Rattle.sctp_resets.specs.Performing.{Performing, is_drained, named_live, performing, retired_as}
-use Rattle.sctp_resets.specs.Performing.{retired_next, retired_one, with_retired}
+use Rattle.sctp_resets.specs.Performing.{Performing, ends_told, is_drained, named_in, named_live, performing}
+use Rattle.sctp_resets.specs.Performing.{retired_as, retired_next, retired_one, with_retired}
 use Rattle.sctp_resets.specs.Resets.{ResetsView, performed}
 use Rattle.sctp_resets.proofs.StreamsBeside.{ended_apart, set_apart}
 use Rattle.sctp_courses.specs.Course.{Course, Live, boundary_at, is_readable, times}
@@ -343,6 +343,10 @@ module _ (initial id : ℕ) (P : ChunkPayloadData → Type 0) (IsHeld : Reassemb
       after : Performing
       after = each_of initial id P IsHeld q.last_tsn (p, []) ks
 
+      -- and the ends that it brings are told
+      answered : Performing
+      answered = ends_told r.own (named_in r.own x.streams q) after
+
       is_due_now : b ≤ c.point → nat_le b c.point ≡ true
       is_due_now l = grind arith
 
@@ -464,7 +468,7 @@ module _ (initial id : ℕ) (P : ChunkPayloadData → Type 0) (IsHeld : Reassemb
           (performed q first limit r x).0.1.streams None ended.0) × IsReadOn l.after
       last =
           releases_all first limit (without_newest_of after.generations q.ids)
-          (channels after.streams after.events x.to_accept) ended.0 ended.3 ended.5 (record {
+          (channels after.streams answered.events x.to_accept) ended.0 ended.3 ended.5 (record {
             live = ended.2.live;
             next = ended.2.next;
             marks = ended.2.marks;

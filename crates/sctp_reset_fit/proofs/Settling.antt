@@ -11,7 +11,7 @@ use Rattle.sctp_reset_requests.specs.Laws.{HasNumber, IsCompletedUpTo}
 use Rattle.sctp_reset_requests.specs.Peer.{PeerView, advanced_with, completed, number_before}
 use Rattle.sctp_reset_requests.specs.Request.{PeerRequestView, is_due}
 use Rattle.sctp_resets.specs.Channels.{Channels}
-use Rattle.sctp_resets.specs.Performing.{Performing, performing, retired_each}
+use Rattle.sctp_resets.specs.Performing.{Performing, answered_in, named_in, performing, retired_each}
 use Rattle.sctp_resets.specs.Resets.{ResetsView, Resetting, performed, performed_with, settled, settled_where}
 use Rattle.sctp_resets.specs.Resets.{skips_done}
 use Rattle.sctp_courses.specs.Course.{Course, boundary_at}
@@ -68,16 +68,17 @@ skips_behind P initial id r m told c g =
 -- The request that waits is performed
 
 -- what is known of the peer's requests is not touched
-released_peer : (q : PeerRequestView) (first limit : ℕ) (r : ResetsView) (to_accept : List ℕ)
-    (x : Performing × List ℕ) → (performed_with q first limit r to_accept x).0.0.peer ≡ r.peer
-released_peer q first limit r to_accept (p, ids) = refl
+released_peer : (q : PeerRequestView) (first limit : ℕ) (r : ResetsView) (to_accept named : List ℕ)
+    (x : Performing × List ℕ) → (performed_with q first limit r to_accept named x).0.0.peer ≡ r.peer
+released_peer q first limit r to_accept named (p, ids) = refl
 
 pub performed_peer : (q : PeerRequestView) (first limit : ℕ) (r : ResetsView) (x : Channels)
     → (performed q first limit r x).0.0.peer ≡ r.peer
 unfolding performed
 performed_peer q first limit r x =
-    released_peer q first limit r x.to_accept
-    (retired_each q (performing r.generations r.debts x.streams x.events))
+    released_peer q first limit r x.to_accept (named_in r.own x.streams q)
+    (answered_in r.own (named_in r.own x.streams q)
+    (retired_each q (performing r.generations r.debts x.streams x.events)))
 
 -- the number of a completed request is the one before the next
 last_then : (initial n : ℕ) → tsn initial n ≡ number_before (tsn initial (suc n))

@@ -5,11 +5,13 @@ use Rattle.std.specs.List.{AllByRecursion}
 use Rattle.std.specs.BTreeMap.{is_at}
 use Rattle.std.proofs.lemmas.Bool.{and_from, cond-true, eq-eqb, eqb-true, true≢false}
 use Rattle.sctp_model.proofs.Lists.{all_filter}
+use Rattle.sctp_wire_types.specs.Config.{is_rfc}
 use Rattle.sctp_wire_types.specs.declared.chunk.ChunkPayloadData.{ChunkPayloadData}
 use Rattle.sctp_receive_queues.specs.Reassembly.{empty_reassembly}
 use Rattle.sctp_streams.specs.declared.event.Event.{Event as AssociationEvent}
 use Rattle.sctp_streams.specs.declared.halves.RecvSendState.{RecvSendState}
 use Rattle.sctp_streams.specs.declared.halves.RecvSendState.TheVariants as halves
+use Rattle.sctp_streams.specs.Events.{is_told_of}
 use Rattle.sctp_streams.specs.Stream.{StreamView, is_read_half_open, with_halves, without_read_half, without_unread}
 use Rattle.sctp_streams.specs.Streams.{StreamMap, change_at, changed_stream, stream_at, without_stream}
 use Rattle.sctp_streams.proofs.LowMarks.{at_with, found_as}
@@ -18,8 +20,8 @@ use Rattle.sctp_generations.specs.Generations as generations
 use Rattle.sctp_generations.specs.Generations.{GenerationsView}
 use Rattle.sctp_generations.specs.Retiring.{boundaries_at}
 use Rattle.sctp_reset_requests.specs.Request.{PeerRequestView}
-use Rattle.sctp_resets.specs.Resets.{Beside, ResetsView, ended_unless, is_blocked, is_retiring, stopped_reading}
-use Rattle.sctp_resets.specs.Resets.{waiting_for, with_generations}
+use Rattle.sctp_resets.specs.Resets.{Beside, ResetsView, ended_unless, is_blocked, is_retiring, reset_or_ended}
+use Rattle.sctp_resets.specs.Resets.{stopped_reading, waiting_for, with_generations}
 use Rattle.sctp_resets.proofs.StreamsBeside.{changed_apart, ended_apart, removed_apart}
 use Rattle.sctp_courses.specs.Course.{Course, Live, is_readable, times}
 use Rattle.sctp_courses.specs.Events.{Event, closed_to_reads, is_idle}
@@ -262,7 +264,7 @@ itself_keeps P initial id r m n live leads lives next once c inv h read = (
 
 -- An application reads a stream no more
 
--- it ends, unless it is blocked
+-- by the rules of the port it ends, unless it is blocked
 abbrev left_unless : Bool → ResetsView → StreamMap → List AssociationEvent → ℕ → Beside
 left_unless blocked r m told k =
     ended_unless blocked (with_generations r (generations.discarded r.generations k)) k (with_unread_dropped m k) told
@@ -305,13 +307,30 @@ left_keeps P initial id r m told k blocked = by (eqb id k) refl
         (eqb-true id k e) (itself_left P initial id r m told blocked)
     by false e = others_left P initial id r m told k e blocked
 
+-- by the rules of the RFCs it ends, unless more of it came; then it is to be reset
+abbrev pub left_by : Bool → Bool → Bool → ResetsView → StreamMap → List AssociationEvent → ℕ → Beside
+left_by by_rfcs more blocked r m told k =
+    if by_rfcs then
+    reset_or_ended more (with_generations r (generations.discarded r.generations k)) k (with_unread_dropped m k) told
+    else left_unless blocked r m told k
+
+left_by_keeps : (P : ChunkPayloadData → Type 0) (initial id : ℕ) (r : ResetsView) (m : StreamMap)
+    (told : List AssociationEvent) (k : ℕ) (by_rfcs more blocked : Bool)
+    → KeepsCourse P initial id r m (left_by by_rfcs more blocked r m told k).0
+    (left_by by_rfcs more blocked r m told k).1
+left_by_keeps P initial id r m told k false more blocked = left_keeps P initial id r m told k blocked
+left_by_keeps P initial id r m told k true false blocked = left_keeps P initial id r m told k false
+left_by_keeps P initial id r m told k true true blocked = left_keeps P initial id r m told k true
+
 -- No more is read of a stream whose generation ended, and its read half closes with it.
 pub stopped_keeps : (P : ChunkPayloadData → Type 0) (initial id : ℕ) (r : ResetsView) (m : StreamMap)
     (told : List AssociationEvent) (k : ℕ)
     → KeepsCourse P initial id r m (stopped_reading k r (with_read_half_closed m k) told).0
     (stopped_reading k r (with_read_half_closed m k) told).1
 stopped_keeps P initial id r m told k =
-    left_keeps P initial id r m _ k (is_blocked (with_generations r (generations.discarded r.generations k)) k)
+    left_by_keeps P initial id r m (filter (λ e. not (is_told_of k e)) told) k (is_rfc r.own.profile)
+    (generations.has_newest r.generations k)
+    (is_blocked (with_generations r (generations.discarded r.generations k)) k)
 
 -- What waits to be read of a stream is dropped: the course has no less than is held.
 pub unread_dropped_keeps : (P : ChunkPayloadData → Type 0) (initial id : ℕ) (r : ResetsView) (m : StreamMap) (k : ℕ)

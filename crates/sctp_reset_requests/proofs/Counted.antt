@@ -7,9 +7,9 @@ use Rattle.std.proofs.lemmas.Bool.Decides.{nat_tests}
 use Rattle.std.proofs.lemmas.List.Sums.{sum_by-cons, sum_by_push}
 use Rattle.sctp_serial.specs.Serial.{tsn_after}
 use Rattle.sctp_reset_requests.specs.Ids.{has_id}
-use Rattle.sctp_reset_requests.specs.Named.{NamedView, count_at, is_named}
+use Rattle.sctp_reset_requests.specs.Named.{NamedView, count_at, is_named, is_twice}
 use Rattle.sctp_reset_requests.specs.Own.{AreCounted, AreKept, AreNumbered, open_with, resets}
-use Rattle.sctp_reset_requests.specs.Own.{times_named}
+use Rattle.sctp_reset_requests.specs.Own.{are_to_reset_twice, times_named}
 use Rattle.sctp_reset_requests.specs.declared.own_request.OwnRequest.{OwnRequest}
 use Rattle.sctp_reset_requests.specs.declared.own_request.SentRequest.{SentRequest}
 
@@ -107,3 +107,8 @@ module _ (n m : NamedView) (queued : List OwnRequest) (active : Option SentReque
     fits = k.fits;
     numbered = rw (same_end active queued r) (numbered_more (open_with active queued) r next k.numbered number);
   }
+
+-- the counts tell where two of the requests reset a stream
+pub counted_twice : (n : NamedView) (rs : List OwnRequest) (id : ℕ) → AreCounted n rs
+    → is_twice n.all (count_at n id) ≡ are_to_reset_twice rs id
+counted_twice n rs id (counts, all) = rw (all, counts id) refl

@@ -11,7 +11,7 @@ use Rattle.sctp_reset_requests.specs.Peer.{PeerView, advanced, advanced_with, ar
 use Rattle.sctp_reset_requests.specs.Peer.{is_completed, is_current, is_next, number_before, standing_of, taken_up}
 use Rattle.sctp_reset_requests.specs.Laws.{PeerEvent, Comes, Moves, after, after_all, HasNumber, IsCompletedUpTo}
 use Rattle.sctp_outbound_queue.specs.Outbound.{Outbound}
-use Rattle.sctp_reset_requests.specs.Own.{OwnView, asked, asked_for, quiet_ids, with_request}
+use Rattle.sctp_reset_requests.specs.Own.{OwnView, asked, asked_for, put_ahead, quiet_ids, with_request}
 use Rattle.sctp_reset_requests.specs.Laws.{CompletedStayCompleted, CompletedAreKnown, AskedEndsNone, NamesTheCompleted}
 use Rattle.sctp_reset_requests.specs.declared.answer.Standing.{Standing}
 use Rattle.sctp_reset_requests.specs.declared.answer.Standing.TheVariants as standings
@@ -177,7 +177,7 @@ names_the_completed : (first n : ℕ) (p : PeerView) → IsCompletedUpTo first n
     → NamesTheCompleted p o (asked_for ids last o).0
 names_the_completed first n p h ids None o e answered = absurd (false≢true answered)
 names_the_completed first n p h ids (Some last) o e answered =
-    let follows = follows_the_test (length ids == 0) o (with_request o last false ids, true) answered in
+    let follows = follows_the_test (length ids == 0) o (with_request (put_ahead o ids) last false ids, true) answered in
     let named : number_before (tsn first n) ≡ last = some_same _ _ (sym h.last ∙ e) in
     subst (λ (x : OwnView × Bool). NamesTheCompleted p o x.0) (sym follows.0) (
       record { number = o.next_number; response_number = last; names_all = false; ids = ids },

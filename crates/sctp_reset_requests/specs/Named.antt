@@ -18,5 +18,9 @@ none_named = record { by_id = []; all = 0 }
 abbrev pub count_at : NamedView → ℕ → ℕ
 count_at n id = unwrap_or (lookup (is_at (nat_cmp id)) n.by_id) 0
 
+-- two requests at least are for all streams, or name one by itself; one that is for all may name it, too
+abbrev pub is_twice : ℕ → ℕ → Bool
+is_twice all named = nat_lt 1 all || nat_lt 1 named
+
 abbrev pub is_named : NamedView → ℕ → Bool
 is_named n id = nat_lt 0 n.all || nat_lt 0 (count_at n id)

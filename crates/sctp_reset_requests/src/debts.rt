@@ -123,7 +123,8 @@ impl Debts {
         self.debt(id).told > 0
     }
 
-    fn is_owed(&self, id: StreamId) -> bool
+    /// Whether the end of a reset is owed for a stream.
+    pub fn is_owed(&self, id: StreamId) -> bool
         ensures { result ≡ is_owed self.now id }
     {
         self.debt(id).owed > 0
@@ -180,6 +181,17 @@ impl Debts {
         let owed = self.is_owed(id);
         self.pay(id);
         self.failed.remove(&id);
+        owed
+    }
+
+    /// The peer ended a reset that this side began: one end less is owed. Answers whether the application is to be told
+    /// (ResetComplete).
+    pub fn end(&mut self, id: StreamId) -> bool
+        ensures paid { self.new ≡ paid self.old id }
+        ensures told { result ≡ is_owed self.old id }
+    {
+        let owed = self.is_owed(id);
+        self.pay(id);
         owed
     }
 

@@ -3,7 +3,7 @@ ghost use Rattle.std.specs.Prelude.{◌≡◌, ℕ, ◌+◌, ◌-◌, ◌<◌, �
 ghost use Rattle.std.specs.List.{count_by};
 ghost use Rattle.std.specs.Ordering.{nat_cmp};
 ghost use Rattle.std.specs.BTreeMap.{is_at};
-ghost use Rattle.sctp_reset_requests.specs.Named.{none_named, count_at, is_named};
+ghost use Rattle.sctp_reset_requests.specs.Named.{none_named, count_at, is_named, is_twice};
 
 use sctp_wire_types::StreamId;
 use std::alloc::{AllocError, Global};
@@ -42,6 +42,13 @@ impl NamedIds {
         ensures { result ≡ is_named self.now id }
     {
         self.all > 0 || self.count(id) > 0
+    }
+
+    /// Whether two of the requests at least are for all streams, or name this one.
+    pub(crate) fn contains_twice(&self, id: StreamId) -> bool
+        ensures { result ≡ is_twice self.now.all (count_at self.now id) }
+    {
+        self.all > 1 || self.count(id) > 1
     }
 
     fn count(&self, id: StreamId) -> u64

@@ -1,18 +1,24 @@
 // This side's requests to reset its outgoing streams (RFC 6525 section 5.1).
-ghost use Rattle.std.specs.Prelude.{◌≡◌, IfOk, OnOk, OnErr, not, filter, is_some, length, nat_lt, true};
+ghost use Rattle.std.specs.Prelude.{◌≡◌, IfOk, OnOk, OnErr, not, filter, fold, is_some, length, nat_lt, true};
+ghost use Rattle.std.specs.List.{list_any};
+ghost use Rattle.std.specs.Ordering.{nat_cmp};
+ghost use Rattle.std.specs.BTreeSet.{insert_key};
+ghost use Rattle.sctp_wire_types.specs.Config.{is_rfc};
 ghost use Rattle.sctp_outbound_queue.specs.Outbound.{has_stream};
 ghost use Rattle.sctp_reset_requests.specs.Ids.{without};
 ghost use Rattle.sctp_reset_requests.specs.Own.{no_own_request, is_asked_for, with_waiting, with_request};
 ghost use Rattle.sctp_reset_requests.specs.Own.{reciprocated, quiet_ids, asked, sent_first, expired};
 ghost use Rattle.sctp_reset_requests.specs.Own.{repeated, ended, confirmed, answered, own_closed, has_number};
 ghost use Rattle.sctp_reset_requests.specs.Own.{with_active, with_repeat, param_again, ended_as, HasRoom};
-ghost use Rattle.sctp_reset_requests.specs.Own.{IsFollowed};
+ghost use Rattle.sctp_reset_requests.specs.Own.{IsFollowed, answers_all, ends_here, failing_ids, is_confirmed_by};
+ghost use Rattle.sctp_reset_requests.specs.Own.{is_reset_here, marked_given_up, open_requests, put_ahead, put_off};
+ghost use Rattle.sctp_reset_requests.specs.Own.{resets, to_reset, with_performed, behind_after, are_to_reset_twice};
 
 use crate::named::NamedIds;
 use crate::{Answered, MOST_IDS, OwnRequest, PeerRequest, PeerRequests, SentRequest, outcome_of};
 use sctp_outbound_queue::OutboundQueue;
 use sctp_wire_types::{
-    List, ParamOutgoingResetRequest, ParamReconfigResponse, StreamId, StreamResetError,
+    List, ParamOutgoingResetRequest, ParamReconfigResponse, Profile, StreamId, StreamResetError,
 };
 use std::alloc::{AllocError, Global};
 use std::collections::{BTreeSet, VecDeque};
@@ -21,6 +27,7 @@ use std::marker::Model;
 /// The streams that are to be reset and the requests for them. At most one request is sent and not answered.
 #[derive(Debug, Drop)]
 pub struct OwnRequests {
+    profile: Profile,
     // The number that the next request gets (RFC 6525 section 4.1).
     next_number: u32,
     // The streams that are to be reset and are in no request yet.
@@ -30,6 +37,8 @@ pub struct OwnRequests {
     active: Option<SentRequest>,
     // How many of the requests, queued or active, name each stream.
     named: NamedIds,
+    // The streams that this side reset first, and the peer did not since (`Profile::Rfc`).
+    ahead: BTreeSet<StreamId>,
 }
 
 impl Model for OwnRequests {
@@ -38,10 +47,12 @@ impl Model for OwnRequests {
     ghost Value = { OwnView };
 
     ghost view = { λ o. record {
+      profile = o.profile;
       next_number = o.next_number;
       waiting = o.waiting.keys;
       queued = o.queued.items;
       active = o.active;
+      ahead = o.ahead.keys;
     } };
 
     ghost invariant = { λ o. AreKept o.named o.queued.items o.active o.next_number };
@@ -50,24 +61,95 @@ impl Model for OwnRequests {
 impl OwnRequests {
     /// Nothing is to be reset, and the first request gets the own initial TSN as its number (RFC 6525 section 4.1).
     /// Takes no memory.
-    pub fn new(alloc: Global, initial_tsn: u32) -> Self
-        ensures { result ≡ no_own_request initial_tsn }
+    pub fn new(alloc: Global, profile: Profile, initial_tsn: u32) -> Self
+        ensures { result ≡ no_own_request profile initial_tsn }
     {
         OwnRequests {
+            profile,
             next_number: initial_tsn,
             waiting: BTreeSet::new(alloc),
             queued: VecDeque::new(alloc),
             active: None,
             named: NamedIds::new(alloc),
+            ahead: BTreeSet::new(alloc),
         }
     }
 
-    /// Whether a stream is to be reset: it waits, or a request that is not answered names it. Costs the logarithm of
-    /// the streams of which that is so.
+    /// Whether the rules of the RFCs are kept.
+    pub fn is_by_rfcs(&self) -> bool
+        ensures { result ≡ is_rfc self.now.profile }
+    {
+        matches!(self.profile, Profile::Rfc)
+    }
+
+    /// Whether a stream is to be reset: it waits, a request that is not answered names it, or the peer did not reset
+    /// its half yet. Costs the logarithm of the streams of which that is so.
     pub fn is_asked_for(&self, id: StreamId) -> bool
         ensures { result ≡ is_asked_for self.now id }
     {
-        self.waiting.contains(&id) || self.named.contains(id)
+        self.waiting.contains(&id) || self.is_open(id) || self.ahead.contains(&id)
+    }
+
+    // Whether a request that is not answered names a stream.
+    fn is_open(&self, id: StreamId) -> bool
+        ensures { result ≡ list_any (resets id) (open_requests self.now) }
+    {
+        self.named.contains(id)
+    }
+
+    // Whether two requests that are not answered name a stream, or two are for all of them.
+    fn is_open_twice(&self, id: StreamId) -> bool
+        ensures { result ≡ are_to_reset_twice (open_requests self.now) id }
+    {
+        self.named.contains_twice(id)
+    }
+
+    /// Whether the peer's request that names a stream is the answer to a reset that this side began and that ended: it
+    /// resets the other half, and no request of this side is open that names it.
+    pub fn ends_here(&self, id: StreamId) -> bool
+        ensures { result ≡ ends_here self.now id }
+    {
+        self.ahead.contains(&id) && !self.is_open(id)
+    }
+
+    fn is_reset_here(&self, id: StreamId) -> bool
+        ensures { result ≡ is_reset_here self.now id }
+    {
+        self.ahead.contains(&id) || self.is_open_twice(id)
+    }
+
+    /// The streams that this side resets in answer to a request of the peer that was performed: of those that it names,
+    /// by the rules of the RFCs, those that this side does not reset by itself; by those of the port the ones of which
+    /// a generation ended.
+    pub fn to_reset(
+        &self,
+        alloc: Global,
+        named: &[StreamId],
+        retired: Vec<StreamId>,
+    ) -> Result<Vec<StreamId>, AllocError>
+        ensures { IfOk result (λ ids. ids.items ≡ to_reset self.now named.now retired.items) }
+    {
+        if self.is_by_rfcs() {
+            self.not_reset_here(alloc, named)
+        } else {
+            Ok(retired)
+        }
+    }
+
+    fn not_reset_here(&self, alloc: Global, ids: &[StreamId]) -> Result<Vec<StreamId>, AllocError>
+        ensures { IfOk result (λ others. others.items ≡ filter (λ id. not (is_reset_here self.now id)) ids.now) }
+    {
+        ids.iter()
+            .copied()
+            .filter(|id| !self.is_reset_here(*id))
+            .collect(alloc)
+    }
+
+    /// A request of the peer that names these streams was performed: of them this side is ahead no longer.
+    pub fn perform(&mut self, named: &[StreamId])
+        ensures { self.new ≡ with_performed self.old named.now }
+    {
+        remove_each(&mut self.ahead, named);
     }
 
     /// The number of requests that were never sent.
@@ -93,8 +175,8 @@ impl OwnRequests {
         Ok(())
     }
 
-    /// The peer's request was performed and reset these streams of this side's reading. Makes the request that resets
-    /// them in the other direction (RFC 8831 section 6.7). Where memory is refused nothing changes.
+    /// The peer's request was performed. Makes the request that resets these streams in the other direction (RFC 8831
+    /// section 6.7). Where memory is refused nothing changes.
     pub fn reciprocate(
         &mut self,
         request: &PeerRequest,
@@ -106,7 +188,14 @@ impl OwnRequests {
         if ids.is_empty() {
             return Ok(());
         }
-        self.add_request(request.number(), request.names_all(), ids)
+        let names_all = self.answers_all(request, &ids);
+        self.add_request(request.number(), names_all, ids)
+    }
+
+    fn answers_all(&self, request: &PeerRequest, ids: &List<StreamId>) -> bool
+        ensures { result ≡ answers_all self.now request.now ids.now }
+    {
+        request.names_all() && (self.ahead.is_empty() || !(ids.len() <= MOST_IDS))
     }
 
     // Makes a request behind those that are queued.
@@ -133,8 +222,9 @@ impl OwnRequests {
     }
 
     /// Makes a request for the streams that wait and of which no DATA waits to be sent or is unacknowledged, where no
-    /// request is queued or active. Its response number is that of the last request of the peer that was completed, so
-    /// that it ends none that is in progress. Answers whether it made one; where memory is refused nothing changes.
+    /// request is queued or active; by the rules of the RFCs this side is ahead of them then. Its response number is
+    /// that of the last request of the peer that was completed, so that it ends none that is in progress. Answers
+    /// whether it made one. Where memory is refused no request is made, and some of the streams may count as ahead.
     /// Goes over what waits and is in flight, once for each stream that waits.
     pub fn ask(
         &mut self,
@@ -143,7 +233,6 @@ impl OwnRequests {
         peer: &PeerRequests,
     ) -> Result<bool, AllocError>
         ensures ok { IfOk result (λ made. asked self.old queue.now peer.now ≡ (self.new, made)) }
-        ensures err { OnErr result (self.new ≡ self.old) }
         ensures grows { OnErr result (nat_lt 0 (length self.old.waiting) ≡ true) }
         ensures made { IfOk result (λ made. made ≡ true → nat_lt 0 (length self.old.waiting) ≡ true) }
     {
@@ -160,8 +249,18 @@ impl OwnRequests {
         if ids.is_empty() {
             return Ok(false);
         }
+        self.put_ahead(ids.as_slice())?;
         self.add_request(last_completed, false, ids)?;
         Ok(true)
+    }
+
+    fn put_ahead(&mut self, ids: &[StreamId]) -> Result<(), AllocError>
+        ensures { OnOk result (self.new ≡ put_ahead self.old ids.now) }
+    {
+        if self.is_by_rfcs() {
+            insert_each(&mut self.ahead, ids)?;
+        }
+        Ok(())
     }
 
     fn quiet_ids(&self, alloc: Global, queue: &OutboundQueue) -> Result<List<StreamId>, AllocError>
@@ -200,6 +299,8 @@ impl OwnRequests {
                 request,
                 last_tsn,
                 repeat_due: false,
+                is_put_off: false,
+                is_given_up: false,
             });
         }
         Ok(Some(param))
@@ -247,14 +348,24 @@ impl OwnRequests {
     }
 
     /// A request of the peer names this response number: where it is the active request's, that one was performed (RFC
-    /// 6525 section 5.2.2, E1). Gives the request that ended by it.
+    /// 6525 section 5.2.2, E1); by the rules of the RFCs only where the peer did not answer it as in progress. Gives
+    /// the request that ended by it.
     pub fn confirm(&mut self, number: u32) -> Option<OwnRequest>
         ensures { confirmed self.old number ≡ (self.new, result) }
     {
-        if !self.is_active(number) {
+        if !self.is_confirmed_by(number) {
             return None;
         }
         self.end()
+    }
+
+    fn is_confirmed_by(&self, number: u32) -> bool
+        ensures { result ≡ is_confirmed_by self.now.active number }
+    {
+        match &self.active {
+            Some(active) => active.request.number == number && !active.is_put_off,
+            None => false,
+        }
     }
 
     /// A response came (RFC 6525 section 5.2.7). One that does not name the active request is ignored.
@@ -267,9 +378,20 @@ impl OwnRequests {
         match outcome_of(response.result) {
             Some(outcome) => self.end_as(outcome),
             None => {
-                self.set_repeat(false);
+                self.put_off();
                 Answered::InProgress
             }
+        }
+    }
+
+    // The peer answered that the active request is in progress.
+    fn put_off(&mut self)
+        ensures { self.new ≡ with_active self.old (put_off (is_rfc self.old.profile) self.old.active) }
+    {
+        let marks = self.is_by_rfcs();
+        if let Some(active) = &mut self.active {
+            active.repeat_due = false;
+            active.is_put_off = active.is_put_off || marks;
         }
     }
 
@@ -277,7 +399,12 @@ impl OwnRequests {
         ensures { ended_as (ended self.old) outcome ≡ (self.new, result) }
     {
         match self.end() {
-            Some(request) => Answered::Ended(request, outcome),
+            Some(request) => {
+                if outcome.is_err() {
+                    self.perform(request.ids.as_slice());
+                }
+                Answered::Ended(request, outcome)
+            }
             None => Answered::Ignored,
         }
     }
@@ -291,8 +418,28 @@ impl OwnRequests {
         }
     }
 
-    /// Ends the active request, as where its timer expired too often, and gives it. The request that is to go out next
-    /// has the number after it.
+    /// The streams of which it is told that their reset failed where the active request is given up and is to go on:
+    /// its own at the first time, and none behind that.
+    pub fn failing_ids(&self) -> &[StreamId]
+        ensures { result.now ≡ failing_ids self.now.active }
+    {
+        match &self.active {
+            Some(active) if !active.is_given_up => active.request.ids.as_slice(),
+            _ => &[],
+        }
+    }
+
+    /// The active request is given up, and goes out again all the same (`Profile::Rfc`): its number is spent.
+    pub fn mark_given_up(&mut self)
+        ensures { self.new ≡ marked_given_up self.old }
+    {
+        if let Some(active) = &mut self.active {
+            active.is_given_up = true;
+        }
+    }
+
+    /// Ends the active request, as by the rules of the port where its timer expired too often, and gives it. The
+    /// request that is to go out next has the number after it.
     pub fn end(&mut self) -> Option<OwnRequest>
         ensures ended { ended self.old ≡ (self.new, result) }
         ensures numbered { IsFollowed result self.new }
@@ -310,6 +457,7 @@ impl OwnRequests {
         self.queued.clear();
         self.active = None;
         self.named.clear();
+        self.ahead.clear();
     }
 }
 
@@ -322,6 +470,16 @@ fn remove_each(waiting: &mut BTreeSet<StreamId>, ids: &[StreamId])
     for id in ids {
         waiting.remove(id);
     }
+}
+
+// Puts the identifiers into a set.
+fn insert_each(ahead: &mut BTreeSet<StreamId>, ids: &[StreamId]) -> Result<(), AllocError>
+    ensures { OnOk result (ahead.new.keys ≡ fold (insert_key nat_cmp) ahead.old.keys ids.now) }
+{
+    for id in ids {
+        ahead.insert(*id)?;
+    }
+    Ok(())
 }
 
 // Of the streams of a set, ascending, those of which no DATA waits or is unacknowledged.

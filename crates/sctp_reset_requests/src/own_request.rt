@@ -27,6 +27,10 @@ pub struct SentRequest {
     pub last_tsn: u32,
     /// The timer expired since it was last sent.
     pub repeat_due: bool,
+    /// The peer answered that it is in progress, so that no response number ends it (`Profile::Rfc`).
+    pub is_put_off: bool,
+    /// Its timer expired too often, which was told; it goes out again all the same (`Profile::Rfc`).
+    pub is_given_up: bool,
 }
 
 /// The most streams that one request names: more of them have no room in a chunk, whose length is told in 16 bits.

@@ -1,10 +1,11 @@
 -- The end of a request of this side, and a request of the peer, change only the streams that they are for.
-use Rattle.std.proofs.Common.{◌≡◌, refl, sym, ap, ◌∙◌, subst, ℕ, Bool, true, false, ◌||◌, ◌&&◌, cond}
+use Rattle.std.proofs.Common.{◌≡◌, refl, sym, ap, ◌∙◌, subst, ℕ, Bool, true, false, ◌||◌, ◌&&◌, not, cond}
 use Rattle.std.proofs.Common.{List, [], ◌∷◌, ◌++◌, fold, filter, Option, Some, None, is_some, is_eq, nat_cmp}
 use Rattle.std.proofs.Common.{Result, Ok, Err}
 use Rattle.std.proofs.lemmas.Bool.{or_parts}
 use Rattle.std.proofs.lemmas.Map.Made.{is_some-lookup}
 use Rattle.std.specs.BTreeMap.{is_at}
+use Rattle.sctp_wire_types.specs.Config.{is_rfc}
 use Rattle.sctp_wire_types.specs.declared.event.StreamResetError.{StreamResetError}
 use Rattle.sctp_wire_types.specs.declared.param.ParamOutgoingResetRequest.{ParamOutgoingResetRequest}
 use Rattle.sctp_wire_types.specs.declared.param.ParamReconfigResponse.{ParamReconfigResponse}
@@ -19,8 +20,8 @@ use Rattle.sctp_reset_requests.specs.declared.own_request.SentRequest.{SentReque
 use Rattle.sctp_reset_requests.specs.Debts.{DebtsView}
 use Rattle.sctp_reset_requests.specs.Debts as debts
 use Rattle.sctp_reset_requests.specs.Ids.{has_id}
-use Rattle.sctp_reset_requests.specs.Own.{OwnView, answered_with, ended_as, has_number, outcome_of, request_sent}
-use Rattle.sctp_reset_requests.specs.Own.{with_active}
+use Rattle.sctp_reset_requests.specs.Own.{OwnView, answered_with, behind_after, ended_as, has_number, is_confirmed_by}
+use Rattle.sctp_reset_requests.specs.Own.{outcome_of, request_sent, with_active}
 use Rattle.sctp_reset_requests.specs.declared.outcome.Answered.TheVariants as answers
 use Rattle.sctp_reset_requests.specs.Peer.{PeerView, advanced_with, arrived_as, standing_of, taken_up}
 use Rattle.sctp_reset_requests.specs.Peer as peer
@@ -41,9 +42,9 @@ use Rattle.sctp_resets.proofs.StreamsBeside.{changed_apart, ended_apart, named_b
 module _ (t : ℕ) where
   -- The end of a request of this side
 
-  completed_apart : (owed : Bool) (d : DebtsView) (a : Answering) (id : ℕ) → is_eq (nat_cmp t id) ≡ false
-      → stream_at (completed_with (d, owed) a id).streams t ≡ stream_at a.streams t
-  completed_apart owed d a id apart = by owed
+  completed_apart : (by_rfcs owed : Bool) (d : DebtsView) (a : Answering) (id : ℕ) → is_eq (nat_cmp t id) ≡ false
+      → stream_at (completed_with by_rfcs (d, owed) a id).streams t ≡ stream_at a.streams t
+  completed_apart by_rfcs owed d a id apart = by owed
     where
       ends : (b : Bool)
           → stream_at (cond b (without_stream a.streams id) (changed_stream with_restarted_ssn a.streams id)) t
@@ -61,22 +62,24 @@ module _ (t : ℕ) where
       changed b = either (b && is_read_half_closed a.streams id) _ _ (ends true) (ends false)
 
       by : (b : Bool)
-          → stream_at (complete_told b (ended_or_restarted b (record a { debts = d }) id) id).streams t
+          → stream_at
+          (complete_told b (ended_or_restarted (owed && not by_rfcs) (record a { debts = d }) id) id).streams t
           ≡ stream_at a.streams t
-      by true = changed true
-      by false = changed false
+      by true = changed (owed && not by_rfcs)
+      by false = changed (owed && not by_rfcs)
 
-  all_completed_apart : (ids : List ℕ) (a : Answering) → has_id t ids ≡ false
-      → stream_at (fold completed_one a ids).streams t ≡ stream_at a.streams t
-  all_completed_apart [] a e = refl
-  all_completed_apart (id ∷ ids) a e =
+  all_completed_apart : (by_rfcs : Bool) (ids : List ℕ) (a : Answering) → has_id t ids ≡ false
+      → stream_at (fold (completed_one by_rfcs) a ids).streams t ≡ stream_at a.streams t
+  all_completed_apart by_rfcs [] a e = refl
+  all_completed_apart by_rfcs (id ∷ ids) a e =
       let parts = or_parts (is_eq (nat_cmp t id)) (has_id t ids) e in
-      all_completed_apart ids (completed_one a id) parts.1
-      ∙ completed_apart (debts.settled a.debts id).1 (debts.settled a.debts id).0 a id parts.0
+      all_completed_apart by_rfcs ids (completed_one by_rfcs a id) parts.1
+      ∙ completed_apart by_rfcs (debts.settled a.debts id).1 (debts.settled a.debts id).0 a id parts.0
 
   over_apart : (outcome : Result (Unit {0}) StreamResetError) (q : OwnRequest) (r : ResetsView) (m : StreamMap)
       (told : List Event) → has_id t q.ids ≡ false → stream_at (request_over outcome q r m told).1 t ≡ stream_at m t
-  over_apart (Ok done) q r m told e = all_completed_apart q.ids (answering r.debts m told) e
+  over_apart (Ok done) q r m told e =
+      all_completed_apart (is_rfc r.own.profile) q.ids (answering r.debts m told) e
   over_apart (Err reason) q r m told e = refl
 
   module _ (r : ResetsView) (m : StreamMap) (told : List Event) where
@@ -84,7 +87,8 @@ module _ (t : ℕ) where
         → has_id t (sent_ids s) ≡ false
         → stream_at (ended_as_answered (ended_as (o, request_sent s) outcome) r m told).0.1 t ≡ stream_at m t
     ended_beside o None outcome e = refl
-    ended_beside o (Some s) outcome e = over_apart outcome s.request (record r { own = o }) m told e
+    ended_beside o (Some s) outcome e =
+        over_apart outcome s.request (record r { own = behind_after outcome o s.request.ids }) m told e
 
     answered_beside : (names_it : Bool) (outcome : Option (Result (Unit {0}) StreamResetError))
         → has_id t (active_ids r) ≡ false
@@ -238,7 +242,7 @@ handled_stays param cumulative_tsn first limit r c t beside =
     let request = named_by_neither t (named_live c.streams (request_of param)) (in_reset r c.streams) active.1 in
     let kept = kept_parts r c t request.1 in
     let left = confirmed_beside t r c.streams c.events r.own.active
-    (has_number r.own.active param.reconfig_response_sequence_number) active.0 in
+    (is_confirmed_by r.own.active param.reconfig_response_sequence_number) active.0 in
     handled_beside param cumulative_tsn first limit r c t request.0 kept.0 kept.1 kept.2
     (confirmed_by param.reconfig_response_sequence_number r c.streams c.events).1
     (with_channels c (confirmed_by param.reconfig_response_sequence_number r c.streams c.events).0) left.0 left.1 left.2

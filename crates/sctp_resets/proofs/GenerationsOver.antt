@@ -1,23 +1,24 @@
 -- What is kept of generations stays of streams past their span.
-use Rattle.std.proofs.Common.{◌≡◌, refl, ℕ, ◌==◌, Bool, true, false, ◌&&◌, not, cond, ap, ◌∙◌}
+use Rattle.std.proofs.Common.{◌≡◌, refl, sym, ℕ, ◌==◌, Bool, true, false, ◌&&◌, ◌||◌, not, cond, ap, ◌∙◌}
 use Rattle.std.proofs.Common.{List, [], ◌∷◌, ◌++◌, fold, map, filter, Option, Some, None, is_some, is_eq, nat_cmp}
-use Rattle.std.proofs.lemmas.Bool.{false≢true}
+use Rattle.std.proofs.lemmas.Bool.{eqb-true, false≢true}
 use Rattle.std.specs.BTreeMap.{is_at}
-use Rattle.std.specs.List.{AllByRecursion}
+use Rattle.std.specs.List.{AllByRecursion, list_any}
 use Rattle.std.specs.Map.{lookup}
 use Rattle.sctp_wire_types.specs.declared.chunk.ChunkPayloadData.{ChunkPayloadData}
 use Rattle.sctp_streams.specs.Streams.{stream_at}
 use Rattle.sctp_generations.specs.declared.skips.KeptSkip.{KeptSkip}
 use Rattle.sctp_generations.specs.declared.retirement.Retirement.{Retirement}
 use Rattle.sctp_generations.specs.declared.retirement.Retirement.TheVariants as retirements
-use Rattle.sctp_generations.specs.Deferred.{place_of}
+use Rattle.sctp_generations.specs.Deferred.{is_above, is_past, place_of}
 use Rattle.sctp_generations.specs.Generations.{GenerationsView, after_given_to, after_given_to_all}
-use Rattle.sctp_generations.specs.Generations.{after_skips_given_to, discarded, drained, has_skips, new_skip}
-use Rattle.sctp_generations.specs.Generations.{retired_by, retires, skipped, skips_given_to}
+use Rattle.sctp_generations.specs.Generations.{after_skips_given_to, discarded, drained, has_newest, has_skips}
+use Rattle.sctp_generations.specs.Generations.{new_skip, retired_by, retires, skipped, skips_given_to}
 use Rattle.sctp_generations.specs.Generations.{unordered_skipped, with_deferred, with_kept_skip, without_newest_of}
 use Rattle.sctp_generations.specs.Retiring.{RetiringMap, behind_first, boundaries_at, first_passed, first_passed_at}
-use Rattle.sctp_generations.specs.Retiring.{forgotten, is_single, passed, readable_boundary, retired_at, retired_with}
-use Rattle.sctp_generations.specs.Skips.{is_newest_of, is_skip_of, skip_ids, with_boundary}
+use Rattle.sctp_generations.specs.Retiring.{forgotten, is_single, newest_boundary, passed, readable_boundary}
+use Rattle.sctp_generations.specs.Retiring.{retired_at, retired_with}
+use Rattle.sctp_generations.specs.Skips.{is_newest_of, is_same, is_skip_of, skip_ids, with_boundary}
 use Rattle.sctp_resets.specs.Skips.{Skipping, reaches_its_ssn, skip_tried, skips_applied, skips_applied_of}
 use Rattle.sctp_resets.specs.Within.{KeptOver}
 use Rattle.sctp_resets.proofs.ListsOver.{IsPast, all_appended, all_filtered, all_inserted, keys_with_entry}
@@ -187,6 +188,34 @@ module _ (over : ℕ → Bool) where
               → (is_some (lookup (is_at (nat_cmp id)) xs) ≡ true → over id ≡ true) → over id ≡ true
           by true same is others = ap over (same_identifier id x.0 same) ∙ each.0
           by false apart is others = others is
+
+  -- where one of a list is of a stream, that one is past its span
+  found_over : {X : Type 0} (f : X → ℕ) (more : X → Bool) (id : ℕ) (xs : List X)
+      → AllByRecursion (λ (x : X). over (f x) ≡ true) xs → list_any (λ x. (f x == id) && more x) xs ≡ true
+      → over id ≡ true
+  found_over f more id [] each is = absurd (false≢true is)
+  found_over f more id (x ∷ xs) each is = by (f x == id) refl is (found_over f more id xs each.1)
+    where
+      by : (same : Bool) → (f x == id) ≡ same
+          → ((same && more x) || list_any (λ y. (f y == id) && more y) xs) ≡ true
+          → (list_any (λ y. (f y == id) && more y) xs ≡ true → over id ≡ true) → over id ≡ true
+      by true e is others = ap over (sym (eqb-true (f x) id e)) ∙ each.0
+      by false e is others = others is
+
+  -- a stream of which something came for the generation that did not end
+  pub newest_over : (g : GenerationsView) (id : ℕ) → EachOver g → has_newest g id ≡ true → over id ≡ true
+  newest_over g id e is = by (list_any (is_past id (newest_boundary g.retiring id)) g.deferred) waits is
+    where
+      waits : list_any (is_past id (newest_boundary g.retiring id)) g.deferred ≡ true → over id ≡ true
+      waits =
+          found_over (λ (d : ChunkPayloadData). d.stream_identifier)
+          (λ (d : ChunkPayloadData). is_above (newest_boundary g.retiring id) d.tsn) id g.deferred e.deferred
+
+      by : (some : Bool) → (some ≡ true → over id ≡ true) → (some || list_any (is_skip_of id None) g.skips) ≡ true
+          → over id ≡ true
+      by true data_waits is = data_waits refl
+      by false data_waits is =
+          found_over (λ (s : KeptSkip). s.id) (λ (s : KeptSkip). is_same s.boundary None) id g.skips e.skips is
 
   -- Skips that were kept are applied
 

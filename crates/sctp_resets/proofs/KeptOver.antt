@@ -2,7 +2,9 @@
 use Rattle.std.proofs.Common.{◌≡◌, refl, sym, ℕ, zero, suc, ◌||◌, Bool, true, false, not, cond}
 use Rattle.std.proofs.Common.{List, [], ◌∷◌, fold, filter, Option, Some, None, is_some, remove, slice_get}
 use Rattle.std.proofs.lemmas.Bool.{false≢true}
+use Rattle.sctp_wire_types.specs.Config.{is_rfc}
 use Rattle.sctp_wire_types.specs.declared.chunk.ChunkPayloadData.{ChunkPayloadData}
+use Rattle.sctp_wire_types.specs.declared.config.Profile.{Profile}
 use Rattle.sctp_wire_types.specs.declared.param.ParamOutgoingResetRequest.{ParamOutgoingResetRequest}
 use Rattle.sctp_wire_types.specs.declared.param.ParamReconfigResponse.{ParamReconfigResponse}
 use Rattle.sctp_outbound_queue.specs.Outbound.{Outbound}
@@ -14,7 +16,7 @@ use Rattle.sctp_generations.specs.declared.retirement.Retirement.{Retirement}
 use Rattle.sctp_generations.specs.declared.retirement.Retirement.TheVariants as retirements
 use Rattle.sctp_generations.specs.Deferred.{is_above}
 use Rattle.sctp_generations.specs.Generations.{GenerationsView, after_given_to, discarded, drained, given_to}
-use Rattle.sctp_generations.specs.Generations.{retired_by, retirement_of, retires, without_newest_of}
+use Rattle.sctp_generations.specs.Generations.{has_newest, retired_by, retirement_of, retires, without_newest_of}
 use Rattle.sctp_generations.specs.Retiring.{count_at}
 use Rattle.sctp_reset_requests.specs.declared.answer.Standing.{Standing}
 use Rattle.sctp_reset_requests.specs.declared.answer.Standing.TheVariants as standings
@@ -33,26 +35,28 @@ use Rattle.sctp_resets.specs.Concerned.{active_ids, deferred_ids, ids_of_request
 use Rattle.sctp_resets.specs.Concerned.{retiring_ids, skipped_ids}
 use Rattle.sctp_resets.specs.Draining.{Reading, ended, next_generation_read, passed_once, passed_times, passed_where}
 use Rattle.sctp_resets.specs.Draining.{skipped_over, write_half_kept}
-use Rattle.sctp_resets.specs.Performing.{Performing, is_drained, named_live, performing, retired_as, retired_each}
-use Rattle.sctp_resets.specs.Performing.{retired_next, retired_one, with_retired}
-use Rattle.sctp_resets.specs.Resets.{ResetsView, Resetting, all_closed, arrived_with, confirmed_by}
+use Rattle.sctp_resets.specs.Performing.{Performing, answered_in, is_drained, named_in, named_live, performing}
+use Rattle.sctp_resets.specs.Performing.{retired_as, retired_each, retired_next, retired_one, with_retired}
+use Rattle.sctp_resets.specs.Resets.{Beside, ResetsView, Resetting, all_closed, arrived_with, confirmed_by}
 use Rattle.sctp_resets.specs.Resets.{confirmed_where, ended_as_answered, ended_unless, event_told, event_told_at}
-use Rattle.sctp_resets.specs.Resets.{given_up, given_up_where, handled, handled_after, is_blocked, is_hidden}
-use Rattle.sctp_resets.specs.Resets.{is_retiring, met_peer, no_resets, performed, performed_with, read_out}
-use Rattle.sctp_resets.specs.Resets.{request_again, request_asked, request_sent, responded, settled, settled_where}
-use Rattle.sctp_resets.specs.Resets.{skips_done, skips_done_in, skips_done_of, stopped_reading, timer_expired}
-use Rattle.sctp_resets.specs.Resets.{waiting_for, with_channels, with_deferred, with_event, with_generations, with_skip}
-use Rattle.sctp_resets.specs.Resets.{without_unordered}
+use Rattle.sctp_resets.specs.Resets.{given_up, given_up_for_now, given_up_where, handled, handled_after, is_blocked}
+use Rattle.sctp_resets.specs.Resets.{is_hidden, is_retiring, met_peer, no_resets, own_answered, performed}
+use Rattle.sctp_resets.specs.Resets.{performed_with, read_out, request_again, request_asked, request_sent}
+use Rattle.sctp_resets.specs.Resets.{reset_or_ended, responded, settled, settled_where, skips_done, skips_done_in}
+use Rattle.sctp_resets.specs.Resets.{skips_done_of, stopped_reading, timer_expired, waiting_for, with_channels}
+use Rattle.sctp_resets.specs.Resets.{with_deferred, with_event, with_generations, with_skip, without_unordered}
 use Rattle.sctp_resets.specs.Telling.{next_told}
 use Rattle.sctp_resets.specs.Within.{AreOver, InProgressOver, NamesOver, OwnOver, ParamOver, ParamOverIf, ResetsOver}
+use Rattle.sctp_resets.proofs.EndsTold.{each_to_reset}
 use Rattle.sctp_resets.proofs.GenerationsOver.{EachOver, all_given_each, applied_each, applied_of_each, discarded_each}
-use Rattle.sctp_resets.proofs.GenerationsOver.{drained_each, each_of_kept, given_to_each, kept_of_each}
+use Rattle.sctp_resets.proofs.GenerationsOver.{drained_each, each_of_kept, given_to_each, kept_of_each, newest_over}
 use Rattle.sctp_resets.proofs.GenerationsOver.{one_more_deferred, retired_each_over, retires_over, skipped_each}
 use Rattle.sctp_resets.proofs.GenerationsOver.{unordered_skipped_each, without_newest_each}
 use Rattle.sctp_resets.proofs.ListsOver.{IsPast, all_appended, all_filtered, of_chosen}
 use Rattle.sctp_resets.proofs.OwnOver.{answered_over, confirmed_over, named_is_over, not_for_all, own_asked_over}
-use Rattle.sctp_resets.proofs.OwnOver.{own_expired_over, own_given_up_over, own_waiting_over, reciprocated_over}
-use Rattle.sctp_resets.proofs.OwnOver.{repeated_over, sent_first_over, sent_ids_over, set_over}
+use Rattle.sctp_resets.proofs.OwnOver.{own_expired_over, own_given_up_over, own_marked_over, own_performed_over}
+use Rattle.sctp_resets.proofs.OwnOver.{own_waiting_over, reciprocated_over, repeated_over, sent_first_over}
+use Rattle.sctp_resets.proofs.OwnOver.{sent_ids_over, set_over}
 
 -- The streams that are past their span.
 module _ (over : ℕ → Bool) where
@@ -82,8 +86,8 @@ module _ (over : ℕ → Bool) where
 
   -- The simple changes
 
-  pub nothing_over : (first_number : ℕ) → ResetsOver over (no_resets first_number)
-  nothing_over first_number = record {
+  pub nothing_over : (profile : Profile) (first_number : ℕ) → ResetsOver over (no_resets profile first_number)
+  nothing_over profile first_number = record {
     own = record { waiting = tt; queued = tt; active = tt };
     in_progress = tt;
     kept = record { retiring = tt; deferred = tt; skipped = tt };
@@ -161,6 +165,16 @@ module _ (over : ℕ → Bool) where
       by true none = absurd (false≢true (sym none))
       by false none = all_filtered (IsPast over) (λ id. is_some (stream_at m id)) q.ids n.each
 
+  -- the streams that a request resets by the rules of the RFCs
+  named_in_over : (o : OwnView) (m : StreamMap) (q : PeerRequestView) → NamesOver over q.ids
+      → AreOver over (named_in o m q)
+  named_in_over o m q n = by (is_rfc o.profile) (names_all q) (not_for_all over q n)
+    where
+      by : (by_rfcs all : Bool) → all ≡ false → AreOver over (cond by_rfcs (cond all (live_ids m) q.ids) [])
+      by true true none = absurd (false≢true (sym none))
+      by true false none = n.each
+      by false all none = tt
+
   in_progress_over : (m : StreamMap) (o : Option PeerRequestView) → InProgressOver over o
       → AreOver over (named_in_progress m o)
   in_progress_over m None i = tt
@@ -219,11 +233,21 @@ module _ (over : ℕ → Bool) where
       (listed_over (retired_one boundary p.0 id).0 (retired_one boundary p.0 id).1 p.1 id each.0
       (retired_one_over boundary p.0 id each.0 h.0) h.1)
 
-  performed_with_over : (q : PeerRequestView) (first limit : ℕ) (r : ResetsView) (to_accept : List ℕ)
+  -- the ends that a request brings are told, and this side resets streams in answer
+  answered_in_over : (o : OwnView) (named : List ℕ) (p : Performing × List ℕ) → AreOver over named → PerformingOver p
+      → PerformingOver (answered_in o named p)
+  answered_in_over o named (p, retired) each e = (e.0, each_to_reset (IsPast over) o named retired each e.1)
+
+  own_answered_over : (q : PeerRequestView) (named ids : List ℕ) (o : OwnView) → NamesOver over q.ids
+      → AreOver over ids → OwnOver over o → OwnOver over (own_answered q named ids o)
+  own_answered_over q named ids o n each w =
+      own_performed_over over (own.reciprocated o q ids) named (reciprocated_over over o q ids n each w)
+
+  performed_with_over : (q : PeerRequestView) (first limit : ℕ) (r : ResetsView) (to_accept named : List ℕ)
       (p : Performing × List ℕ) → NamesOver over q.ids → PerformingOver p → ResetsOver over r
-      → ResetsOver over (performed_with q first limit r to_accept p).0.0
-  performed_with_over q first limit r to_accept (p, ids) named e h = record {
-    own = reciprocated_over over r.own q ids named e.1 h.own;
+      → ResetsOver over (performed_with q first limit r to_accept named p).0.0
+  performed_with_over q first limit r to_accept named (p, ids) n e h = record {
+    own = own_answered_over q named ids r.own n e.1 h.own;
     in_progress = h.in_progress;
     kept =
         kept_of_each over _
@@ -234,12 +258,13 @@ module _ (over : ℕ → Bool) where
   performed_over : (q : PeerRequestView) (first limit : ℕ) (r : ResetsView) (c : Channels) → NamesOver over q.ids
       → ResetsOver over r → ResetsOver over (performed q first limit r c).0.0
   unfolding performed
-  performed_over q first limit r c named h =
-      performed_with_over q first limit r c.to_accept
-      (retired_each q (performing r.generations r.debts c.streams c.events)) named
+  performed_over q first limit r c n h =
+      let named = named_in r.own c.streams q in
+      let retired = retired_each q (performing r.generations r.debts c.streams c.events) in
+      performed_with_over q first limit r c.to_accept named (answered_in r.own named retired) n
+      (answered_in_over r.own named retired (named_in_over r.own c.streams q n)
       (all_retired_over q.last_tsn (named_live c.streams q)
-      (performing r.generations r.debts c.streams c.events, []) (named_live_over c.streams q named) (each_of r h, tt))
-      h
+      (performing r.generations r.debts c.streams c.events, []) (named_live_over c.streams q n) (each_of r h, tt))) h
 
   pub settled_over : (cumulative_tsn first limit : ℕ) (r : ResetsView) (c : Channels) → ResetsOver over r
       → ResetsOver over (settled cumulative_tsn first limit r c).0.0
@@ -287,7 +312,10 @@ module _ (over : ℕ → Bool) where
 
   pub given_up_over : (r : ResetsView) (m : StreamMap) (told : List Event) → ResetsOver over r
       → ResetsOver over (given_up r m told).0
-  given_up_over r m told h = by (own.ended r.own).1
+  given_up_over r m told h =
+      of_chosen (λ (b : Beside). ResetsOver over b.0) (is_rfc r.own.profile) (given_up_for_now r m told)
+      (given_up_where (own.ended r.own) r m told)
+      (with_own_over r (own.marked_given_up r.own) (own_marked_over over r.own h.own) h) (by (own.ended r.own).1)
     where
       w : OwnOver over (own.ended r.own).0
       w = own_given_up_over over r.own h.own
@@ -406,13 +434,23 @@ module _ (over : ℕ → Bool) where
   pub stopped_reading_over : (id : ℕ) (r : ResetsView) (m : StreamMap) (told : List Event) → ResetsOver over r
       → ResetsOver over (stopped_reading id r m told).0
   stopped_reading_over id r m told h =
-      by (is_blocked (with_generations r (discarded r.generations id)) id)
+      of_chosen (λ (b : Beside). ResetsOver over b.0) (is_rfc r.own.profile) _ _
+      (reset (has_newest r.generations id) (newest_over over r.generations id (each_of r h)))
+      (by (is_blocked (with_generations r (discarded r.generations id)) id))
     where
       left : ResetsView
       left = with_generations r (discarded r.generations id)
 
       is_left : ResetsOver over left
       is_left = with_generations_over r _ (discarded_each over r.generations id (each_of r h)) h
+
+      -- the stream is reset where something of it was kept
+      reset : (more : Bool) → (more ≡ true → over id ≡ true)
+          → ResetsOver over
+          (reset_or_ended more left id (changed_stream without_unread m id)
+          (filter (λ e. not (is_told_of id e)) told)).0
+      reset true is_over = waiting_over left id (is_over refl) is_left
+      reset false is_over = is_left
 
       by : (blocked : Bool)
           → ResetsOver over

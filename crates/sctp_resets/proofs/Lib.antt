@@ -3,9 +3,11 @@ pub mod StreamsBeside
 pub mod SkipsBeside
 pub mod PerformedBeside
 pub mod ReadBeside
+pub mod Stopped
 pub mod AnsweredBeside
 pub mod OthersStay
 pub mod ListsOver
+pub mod EndsTold
 pub mod GenerationsOver
 pub mod OwnOver
 pub mod KeptOver

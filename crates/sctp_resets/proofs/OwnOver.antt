@@ -1,8 +1,11 @@
 -- This side's requests stay for streams past their span.
 use Rattle.std.proofs.Common.{◌≡◌, refl, sym, ◌∙◌, ap, arith, ℕ, ◌==◌, ◌<◌, ◌||◌, Bool, true, false, not, cond}
-use Rattle.std.proofs.Common.{List, [], ◌∷◌, length, filter, Option, Some, None, is_some, Result, is_eq, nat_cmp}
+use Rattle.std.proofs.Common.{◌&&◌, List, [], ◌∷◌, length, filter, fold, Option, Some, None, is_some, Result, Ok, Err}
+use Rattle.std.proofs.Common.{is_eq, nat_cmp, nat_le}
 use Rattle.std.proofs.lemmas.Bool.{false≢true}
+use Rattle.std.specs.BTreeSet.{insert_key}
 use Rattle.std.specs.List.{AllByRecursion}
+use Rattle.sctp_wire_types.specs.Config.{is_rfc}
 use Rattle.sctp_wire_types.specs.declared.event.StreamResetError.{StreamResetError}
 use Rattle.sctp_wire_types.specs.declared.param.ParamOutgoingResetRequest.{ParamOutgoingResetRequest}
 use Rattle.sctp_wire_types.specs.declared.param.ParamReconfigResponse.{ParamReconfigResponse}
@@ -12,10 +15,12 @@ use Rattle.sctp_reset_requests.specs.declared.own_request.SentRequest.{SentReque
 use Rattle.sctp_reset_requests.specs.declared.outcome.Answered.{Answered}
 use Rattle.sctp_reset_requests.specs.declared.outcome.Answered.TheVariants as answers
 use Rattle.sctp_reset_requests.specs.Ids.{has_id, set_of}
-use Rattle.sctp_reset_requests.specs.Own.{OwnView, answered, answered_with, asked, asked_for, confirmed, ended}
-use Rattle.sctp_reset_requests.specs.Own.{ended_as, expired, has_number, may_go, most_ids, outcome_of, param_again}
-use Rattle.sctp_reset_requests.specs.Own.{quiet_ids, reciprocated, repeated, request_sent, sent_first, sent_from}
-use Rattle.sctp_reset_requests.specs.Own.{sent_of, sent_param, with_active, with_repeat, with_request, with_waiting}
+use Rattle.sctp_reset_requests.specs.Own.{OwnView, answered, answered_with, answers_all, asked, asked_for, confirmed}
+use Rattle.sctp_reset_requests.specs.Own.{ended, ended_as, expired, has_number, is_confirmed_by, marked_given_up}
+use Rattle.sctp_reset_requests.specs.Own.{may_go, most_ids, outcome_of, param_again, put_ahead, put_off, quiet_ids}
+use Rattle.sctp_reset_requests.specs.Own.{reciprocated, repeated, request_sent, sent_first, sent_from, sent_of}
+use Rattle.sctp_reset_requests.specs.Own.{sent_param, with_active, with_given_up, with_performed, with_repeat}
+use Rattle.sctp_reset_requests.specs.Own.{with_request, with_waiting}
 use Rattle.sctp_reset_requests.specs.Peer.{PeerView}
 use Rattle.sctp_reset_requests.specs.Request.{PeerRequestView, names, names_all}
 use Rattle.sctp_resets.specs.Concerned.{sent_ids}
@@ -49,6 +54,16 @@ module _ (over : ℕ → Bool) where
       by true none is = absurd (false≢true (sym none))
       by false none is = has_over id q.ids n.each is
 
+  -- its answer is not for all either
+  not_all_answered : (o : OwnView) (q : PeerRequestView) (ids : List ℕ) → NamesOver over q.ids
+      → answers_all o q ids ≡ false
+  not_all_answered o q ids n =
+      by (names_all q) (length o.ahead == 0 || not (nat_le (length ids) most_ids)) (not_for_all q n)
+    where
+      by : (all more : Bool) → all ≡ false → (all && more) ≡ false
+      by true more none = absurd (false≢true (sym none))
+      by false more none = refl
+
   -- the set of what is listed
   pub set_over : (ids : List ℕ) → NamesOver over ids → NamesOver over (set_of ids)
   set_over [] n = n
@@ -66,6 +81,14 @@ module _ (over : ℕ → Bool) where
   repeat_over due None sent = tt
   repeat_over due (Some s) sent = sent
 
+  put_off_over : (marks : Bool) (s : Option SentRequest) → SentOver over s → SentOver over (put_off marks s)
+  put_off_over marks None sent = tt
+  put_off_over marks (Some s) sent = sent
+
+  given_up_sent_over : (s : Option SentRequest) → SentOver over s → SentOver over (with_given_up s)
+  given_up_sent_over None sent = tt
+  given_up_sent_over (Some s) sent = sent
+
   pub sent_ids_over : (s : Option SentRequest) → SentOver over s → AreOver over (sent_ids s)
   sent_ids_over None sent = tt
   sent_ids_over (Some s) sent = sent.names.each
@@ -76,6 +99,9 @@ module _ (over : ℕ → Bool) where
 
   pub own_expired_over : (o : OwnView) → OwnOver over o → OwnOver over (expired o)
   own_expired_over o w = with_active_over o _ w (repeat_over true o.active w.active)
+
+  pub own_marked_over : (o : OwnView) → OwnOver over o → OwnOver over (marked_given_up o)
+  own_marked_over o w = with_active_over o _ w (given_up_sent_over o.active w.active)
 
   -- the request as it goes over the wire
   param_over : (s : SentRequest) → AsksOver over s.request → NamesOver over (sent_param s).stream_identifiers
@@ -105,17 +131,22 @@ module _ (over : ℕ → Bool) where
 
   pub confirmed_over : (o : OwnView) (number : ℕ) → OwnOver over o → OwnOver over (confirmed o number).0
   confirmed_over o number w =
-      of_chosen (λ (c : OwnView × Option OwnRequest). OwnOver over c.0) (has_number o.active number) (ended o) (o, None)
-      (own_ended_over o w) w
+      of_chosen (λ (c : OwnView × Option OwnRequest). OwnOver over c.0) (is_confirmed_by o.active number) (ended o)
+      (o, None) (own_ended_over o w) w
+
+  -- this side is ahead of fewer streams
+  pub own_performed_over : (o : OwnView) (named : List ℕ) → OwnOver over o → OwnOver over (with_performed o named)
+  own_performed_over o named w = record { waiting = w.waiting; queued = w.queued; active = w.active }
 
   ended_as_over : (o : OwnView) (r : Option OwnRequest) (outcome : Result (Unit {0}) StreamResetError)
       → OwnOver over o → OwnOver over (ended_as (o, r) outcome).0
   ended_as_over o None outcome w = w
-  ended_as_over o (Some r) outcome w = w
+  ended_as_over o (Some r) (Ok done) w = w
+  ended_as_over o (Some r) (Err reason) w = own_performed_over o r.ids w
 
   answered_with_over : (outcome : Option (Result (Unit {0}) StreamResetError)) (o : OwnView) → OwnOver over o
       → OwnOver over (answered_with outcome o).0
-  answered_with_over None o w = with_active_over o _ w (repeat_over false o.active w.active)
+  answered_with_over None o w = with_active_over o _ w (put_off_over (is_rfc o.profile) o.active w.active)
   answered_with_over (Some outcome) o w =
       ended_as_over (with_active o None) (request_sent o.active) outcome (own_ended_over o w)
 
@@ -151,11 +182,14 @@ module _ (over : ℕ → Bool) where
   reciprocated_over o q ids named each w = by (length ids == 0) refl
     where
       by : (none : Bool) → (length ids == 0) ≡ none
-          → OwnOver over (cond none o (with_request o q.number (names_all q) ids))
+          → OwnOver over (cond none o (with_request o q.number (answers_all o q ids) ids))
       by true e = w
       by false e =
-          with_request_over o q.number (names_all q) ids (not_for_all q named)
+          with_request_over o q.number (answers_all o q ids) ids (not_all_answered o q ids named)
           (record { some = some_where (length ids) e; each = each }) w
+
+  put_ahead_over : (o : OwnView) (ids : List ℕ) → OwnOver over o → OwnOver over (put_ahead o ids)
+  put_ahead_over o ids w = record { waiting = w.waiting; queued = w.queued; active = w.active }
 
   asked_for_over : (o : OwnView) (ids : List ℕ) (last : Option ℕ) → AreOver over ids → OwnOver over o
       → OwnOver over (asked_for ids last o).0
@@ -163,10 +197,12 @@ module _ (over : ℕ → Bool) where
   asked_for_over o ids (Some last) each w = by (length ids == 0) refl
     where
       by : (none : Bool) → (length ids == 0) ≡ none
-          → OwnOver over (cond {A = OwnView × Bool} none (o, false) (with_request o last false ids, true)).0
+          → OwnOver over
+          (cond {A = OwnView × Bool} none (o, false) (with_request (put_ahead o ids) last false ids, true)).0
       by true e = w
       by false e =
-          with_request_over o last false ids refl (record { some = some_where (length ids) e; each = each }) w
+          with_request_over (put_ahead o ids) last false ids refl
+          (record { some = some_where (length ids) e; each = each }) (put_ahead_over o ids w)
 
   pub own_asked_over : (o : OwnView) (q : Outbound) (p : PeerView) → OwnOver over o → OwnOver over (asked o q p).0
   own_asked_over o q p w =

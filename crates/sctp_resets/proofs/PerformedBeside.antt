@@ -18,8 +18,8 @@ use Rattle.sctp_resets.specs.declared.performing.Settled.{Settled}
 use Rattle.sctp_resets.specs.Channels.{Channels, channels, delivered}
 use Rattle.sctp_resets.specs.Concerned.{StayBeside, deferred_ids, in_reset, named_in_progress, retiring_ids}
 use Rattle.sctp_resets.specs.Concerned.{skipped_ids}
-use Rattle.sctp_resets.specs.Performing.{Performing, is_drained, named_live, performing, retired_as, retired_each}
-use Rattle.sctp_resets.specs.Performing.{retired_next, retired_one, with_retired}
+use Rattle.sctp_resets.specs.Performing.{Performing, ends_told, is_drained, named_in, named_live, performing}
+use Rattle.sctp_resets.specs.Performing.{retired_as, retired_each, retired_next, retired_one, with_retired}
 use Rattle.sctp_resets.specs.Resets.{ResetsView, Resetting, performed, settled, settled_where}
 use Rattle.sctp_resets.proofs.SkipsBeside.{ids_of_skips}
 use Rattle.sctp_resets.proofs.StreamsBeside.{all_delivered_apart, both_false, ended_apart, filtered_apart}
@@ -114,7 +114,7 @@ module _ (t : ℕ) where
       × (has_id t (skipped_ids (performed q first limit r c).0.0.generations) ≡ false)
   unfolding performed
   performed_beside q first limit r c named waits none =
-      by (retired_from q r c)
+      by (ends_told r.own (named_in r.own c.streams q) (retired_from q r c))
       (all_retired_beside q.last_tsn (named_live c.streams q) (performing r.generations r.debts c.streams c.events, [])
       named none)
     where

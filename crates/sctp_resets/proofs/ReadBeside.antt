@@ -3,15 +3,17 @@ use Rattle.std.proofs.Common.{◌≡◌, refl, ◌∙◌, ℕ, zero, suc, ◌==�
 use Rattle.std.proofs.Common.{cond, List, [], ◌∷◌, fold, map, filter, Option, is_eq, nat_cmp, arith}
 use Rattle.std.proofs.lemmas.Bool.{or_parts}
 use Rattle.std.proofs.lemmas.Bool.Decides.{nat_tests}
+use Rattle.sctp_wire_types.specs.Config.{is_rfc}
 use Rattle.sctp_wire_types.specs.declared.chunk.ChunkPayloadData.{ChunkPayloadData}
 use Rattle.sctp_streams.specs.declared.event.Event.{Event}
 use Rattle.sctp_streams.specs.declared.setting.Setting.TheVariants as settings
 use Rattle.sctp_streams.specs.Events.{is_told_of}
 use Rattle.sctp_streams.specs.Stream.{with_setting, without_unread}
-use Rattle.sctp_streams.specs.Streams.{StreamMap, changed_stream, stream_at, waiting_of}
+use Rattle.sctp_streams.specs.Streams.{StreamMap, changed_stream, stream_at, waiting_of, without_stream}
 use Rattle.sctp_generations.specs.declared.skips.KeptSkip.{KeptSkip}
 use Rattle.sctp_generations.specs.Generations as generations
-use Rattle.sctp_generations.specs.Generations.{GenerationsView, after_given_to, drained, given_to, readable_end}
+use Rattle.sctp_generations.specs.Generations.{GenerationsView, after_given_to, drained, given_to, has_newest}
+use Rattle.sctp_generations.specs.Generations.{readable_end}
 use Rattle.sctp_generations.specs.Deferred.{is_up_to}
 use Rattle.sctp_generations.specs.Retiring.{count_at, readable_boundary}
 use Rattle.sctp_generations.specs.Skips.{is_same}
@@ -21,7 +23,8 @@ use Rattle.sctp_resets.specs.Channels.{Channels, delivered, is_write_half_closed
 use Rattle.sctp_resets.specs.Concerned.{StayBeside}
 use Rattle.sctp_resets.specs.Draining.{Reading, ended, next_generation_read, passed_once, passed_times, passed_where}
 use Rattle.sctp_resets.specs.Draining.{skipped_over, with_write_half, write_half_kept}
-use Rattle.sctp_resets.specs.Resets.{ResetsView, ended_unless, is_blocked, read_out, stopped_reading, with_generations}
+use Rattle.sctp_resets.specs.Resets.{Beside, ResetsView, ended_unless, is_blocked, read_out, reset_or_ended}
+use Rattle.sctp_resets.specs.Resets.{stopped_reading, with_generations}
 use Rattle.sctp_resets.proofs.SkipsBeside.{applied_apart}
 use Rattle.sctp_resets.proofs.StreamsBeside.{all_delivered_apart, both_false, changed_apart, ended_apart, ids_of_data}
 
@@ -115,14 +118,25 @@ read_out_stays first limit id r c t beside =
 pub stopped_reading_stays : (id : ℕ) (r : ResetsView) (m : StreamMap) (told : List Event)
     → StayBeside (id ∷ []) m (stopped_reading id r m told).1
 stopped_reading_stays id r m told t beside =
-    by (with_generations r (generations.discarded r.generations id))
-    (is_blocked (with_generations r (generations.discarded r.generations id)) id) (named_alone t id beside)
+    by (with_generations r (generations.discarded r.generations id)) (is_rfc r.own.profile)
+    (has_newest r.generations id) (is_blocked (with_generations r (generations.discarded r.generations id)) id)
+    (named_alone t id beside)
   where
-    by : (left : ResetsView) (blocked : Bool) → is_eq (nat_cmp t id) ≡ false
+    changed : is_eq (nat_cmp t id) ≡ false → stream_at (changed_stream without_unread m id) t ≡ stream_at m t
+    changed apart = changed_apart t id apart without_unread m
+
+    ends : is_eq (nat_cmp t id) ≡ false
+        → stream_at (without_stream (changed_stream without_unread m id) id) t ≡ stream_at m t
+    ends apart = ended_apart t id apart (changed_stream without_unread m id) ∙ changed apart
+
+    by : (left : ResetsView) (by_rfcs more blocked : Bool) → is_eq (nat_cmp t id) ≡ false
         → stream_at
+        (cond {A = Beside} by_rfcs
+        (reset_or_ended more left id (changed_stream without_unread m id) (filter (λ e. not (is_told_of id e)) told))
         (ended_unless blocked left id (changed_stream without_unread m id)
-        (filter (λ e. not (is_told_of id e)) told)).1 t
+        (filter (λ e. not (is_told_of id e)) told))).1 t
         ≡ stream_at m t
-    by left true apart = changed_apart t id apart without_unread m
-    by left false apart =
-        ended_apart t id apart (changed_stream without_unread m id) ∙ changed_apart t id apart without_unread m
+    by left true true blocked apart = changed apart
+    by left true false blocked apart = ends apart
+    by left false more true apart = changed apart
+    by left false more false apart = ends apart

@@ -1,8 +1,10 @@
 -- The resets of an association (RFC 6525 section 5, RFC 8831 section 6.7).
-use Rattle.std.specs.Prelude.{ℕ, Bool, true, false, ◌≡◌, ◌==◌, ◌||◌, not, fold}
+use Rattle.std.specs.Prelude.{ℕ, Bool, true, false, ◌≡◌, ◌==◌, ◌||◌, not, fold, if◌then◌else◌}
 use Rattle.std.specs.Prelude.{List, length, remove, slice_get, Option, Some, None, Result, Ok, Err}
 use Rattle.std.specs.List.{filter}
 use Rattle.sctp_wire_types.specs.declared.chunk.ChunkPayloadData.{ChunkPayloadData}
+use Rattle.sctp_wire_types.specs.Config.{is_rfc}
+use Rattle.sctp_wire_types.specs.declared.config.Profile.{Profile}
 use Rattle.sctp_wire_types.specs.declared.error.Error.{Error}
 use Rattle.sctp_wire_types.specs.declared.event.StreamResetError.{StreamResetError}
 use Rattle.sctp_wire_types.specs.declared.event.StreamResetError.TheVariants as reasons
@@ -14,7 +16,7 @@ use Rattle.sctp_streams.specs.Events.{is_told_of}
 use Rattle.sctp_streams.specs.Stream.{without_unread}
 use Rattle.sctp_streams.specs.Streams.{StreamMap, changed_stream, without_stream}
 use Rattle.sctp_generations.specs.Generations as generations
-use Rattle.sctp_generations.specs.Generations.{GenerationsView, no_generations, retires}
+use Rattle.sctp_generations.specs.Generations.{GenerationsView, has_newest, no_generations, retires}
 use Rattle.sctp_reset_requests.specs.declared.answer.Arrival.{Arrival}
 use Rattle.sctp_reset_requests.specs.declared.answer.Arrival.TheVariants as arrivals
 use Rattle.sctp_reset_requests.specs.declared.outcome.Answered.{Answered}
@@ -30,10 +32,10 @@ use Rattle.sctp_resets.specs.declared.answers.TimerChange.{TimerChange}
 use Rattle.sctp_resets.specs.declared.answers.TimerChange.TheVariants as changes
 use Rattle.sctp_resets.specs.declared.performing.Handled.{Handled}
 use Rattle.sctp_resets.specs.declared.performing.Settled.{Settled}
-use Rattle.sctp_resets.specs.Answers.{Answering, answering, request_ended}
+use Rattle.sctp_resets.specs.Answers.{Answering, answering, failures_told, request_ended}
 use Rattle.sctp_resets.specs.Channels.{Channels, channels, delivered, final_told}
 use Rattle.sctp_resets.specs.Draining.{Reading, drained_out}
-use Rattle.sctp_resets.specs.Performing.{Performing, performing, retired_each}
+use Rattle.sctp_resets.specs.Performing.{Performing, answered_in, named_in, performing, retired_each}
 use Rattle.sctp_resets.specs.Skips.{Skipping, skips_applied, skips_applied_of}
 use Rattle.sctp_resets.specs.Telling.{debts_told, next_told}
 
@@ -47,9 +49,9 @@ pub record ResetsView : Type 0 where
   -- the generations that ended and are still read, and what came for those behind
   pub generations : GenerationsView
 
-abbrev pub no_resets : ℕ → ResetsView
-no_resets first_number = record {
-  own = no_own_request first_number;
+abbrev pub no_resets : Profile → ℕ → ResetsView
+no_resets profile first_number = record {
+  own = no_own_request profile first_number;
   peer = no_peer_request;
   debts = no_debt;
   generations = no_generations;
@@ -120,10 +122,19 @@ all_released first limit r c = (
   fold (delivered first limit) c (generations.given_to_all r.generations),
 )
 
-abbrev pub performed_with : PeerRequestView → ℕ → ℕ → ResetsView → List ℕ → Performing × List ℕ → Resetting × Bool
-performed_with q first limit r to_accept (p, ids) = (
+-- a request that names these streams was performed, and this side resets those in answer
+abbrev pub own_answered : PeerRequestView → List ℕ → List ℕ → OwnView → OwnView
+own_answered q named ids o = own.with_performed (own.reciprocated o q ids) named
+
+-- whether a request was made for it
+abbrev pub with_answers : PeerRequestView → List ℕ → List ℕ → ResetsView → ResetsView × Bool
+with_answers q named ids r = (record r { own = own_answered q named ids r.own }, not (length ids == 0))
+
+abbrev pub performed_with : PeerRequestView → ℕ → ℕ → ResetsView → List ℕ → List ℕ → Performing × List ℕ
+    → Resetting × Bool
+performed_with q first limit r to_accept named (p, ids) = (
   all_released first limit (record r {
-    own = own.reciprocated r.own q ids;
+    own = own_answered q named ids r.own;
     debts = p.debts;
     generations = generations.without_newest_of p.generations q.ids;
   }) (channels p.streams p.events to_accept),
@@ -131,11 +142,12 @@ performed_with q first limit r to_accept (p, ids) = (
 )
 
 -- A request of the peer is performed: the streams that it names end or retire, DATA that waited goes to its streams,
--- and a request of this side resets the other direction; whether one was made.
+-- and a request of this side resets the other direction, where this side did not begin to; whether one was made.
 unfoldable pub performed : PeerRequestView → ℕ → ℕ → ResetsView → Channels → Resetting × Bool
 performed q first limit r c =
-    performed_with q first limit r c.to_accept
-    (retired_each q (performing r.generations r.debts c.streams c.events))
+    performed_with q first limit r c.to_accept (named_in r.own c.streams q)
+    (answered_in r.own (named_in r.own c.streams q)
+    (retired_each q (performing r.generations r.debts c.streams c.events)))
 
 abbrev pub settled_by : PeerRequestView → Resetting × Bool → Resetting × Option Settled
 settled_by q (s, asks) = (s, Some (record { number = q.number; asks = asks }))
@@ -156,7 +168,8 @@ abbrev pub with_ended : ResetsView → Answering → Beside
 with_ended r a = (record r { debts = a.debts }, a.streams, a.events)
 
 abbrev pub request_over : Result (Unit {0}) StreamResetError → OwnRequest → ResetsView → StreamMap → List Event → Beside
-request_over outcome q r m told = with_ended r (request_ended outcome q.ids (answering r.debts m told))
+request_over outcome q r m told =
+    with_ended r (request_ended (is_rfc r.own.profile) outcome q.ids (answering r.debts m told))
 
 abbrev pub confirmed_where : OwnView × Option OwnRequest → ResetsView → StreamMap → List Event → Beside × Bool
 confirmed_where (o, None) r m told = ((record r { own = o }, m, told), false)
@@ -180,9 +193,19 @@ abbrev pub given_up_where : OwnView × Option OwnRequest → ResetsView → Stre
 given_up_where (o, None) r m told = (record r { own = o }, m, told)
 given_up_where (o, Some q) r m told = request_over (Err reasons.Failed) q (record r { own = o }) m told
 
--- the timer of the active request expired too often: it failed
+-- it failed, which is told once, and stays active: its number is spent, so that the peer takes up no other one before
+-- it
+abbrev pub given_up_for_now : ResetsView → StreamMap → List Event → Beside
+given_up_for_now r m told = (
+  record r { own = own.marked_given_up r.own },
+  m,
+  failures_told r.debts m (own.failing_ids r.own.active) told,
+)
+
+-- the timer of the active request expired too often: by the rules of the port it ends
 abbrev pub given_up : ResetsView → StreamMap → List Event → Beside
-given_up r m told = given_up_where (own.ended r.own) r m told
+given_up r m told =
+    if is_rfc r.own.profile then given_up_for_now r m told else given_up_where (own.ended r.own) r m told
 
 -- A request of the peer.
 
@@ -254,14 +277,21 @@ abbrev pub ended_unless : Bool → ResetsView → ℕ → StreamMap → List Eve
 ended_unless true r id m told = (r, m, told)
 ended_unless false r id m told = (r, without_stream m id, final_told m id told)
 
-abbrev pub dropped : ResetsView → ℕ → StreamMap → List Event → Beside
-dropped r id m told = ended_unless (is_blocked r id) r id m told
+-- the stream is to be reset; else it ends
+abbrev pub reset_or_ended : Bool → ResetsView → ℕ → StreamMap → List Event → Beside
+reset_or_ended true r id m told = (waiting_for r id, m, told)
+reset_or_ended false r id m told = (r, without_stream m id, final_told m id told)
 
--- No more is read of a stream that retires: what waits of it is dropped, and the stream ends, unless a reset of it is
--- open in the other direction.
+-- By the rules of the RFCs a stream of which more came than the peer ended is to be reset, and else it ends. By those
+-- of the port it ends, unless a reset of it is open in the other direction.
+abbrev pub dropped : Bool → ResetsView → ℕ → StreamMap → List Event → Beside
+dropped more r id m told =
+    if is_rfc r.own.profile then reset_or_ended more r id m told else ended_unless (is_blocked r id) r id m told
+
+-- no more is read of a stream that retires: what waits of it is dropped
 abbrev pub stopped_reading : ℕ → ResetsView → StreamMap → List Event → Beside
 stopped_reading id r m told =
-    dropped (with_generations r (generations.discarded r.generations id)) id
+    dropped (has_newest r.generations id) (with_generations r (generations.discarded r.generations id)) id
     (changed_stream without_unread m id) (filter (λ e. not (is_told_of id e)) told)
 
 abbrev pub with_event : Option Event → ResetsView → List Event → ResetsView × List Event × Option Event

@@ -1,7 +1,7 @@
 // The end of a request of this side (RFC 6525 section 5.2.7, RFC 8831 section 6.7).
-ghost use Rattle.std.specs.Prelude.{◌≡◌, OnOk, fold};
+ghost use Rattle.std.specs.Prelude.{◌≡◌, OnOk, OnErr, fold, length, nat_lt, true};
 ghost use Rattle.sctp_resets.specs.Answers.{answering, completed_one, failed_one, request_ended, is_read_half_closed};
-ghost use Rattle.sctp_resets.specs.Answers.{failed_each};
+ghost use Rattle.sctp_resets.specs.Answers.{failed_each, failure_told, failures_told};
 
 use crate::channels::end_stream;
 use sctp_reset_requests::Debts;
@@ -30,19 +30,21 @@ fn is_read_half_closed(streams: &Streams, id: StreamId) -> bool
     }
 }
 
-// A stream was reset in success. Where the end of a reset is owed it is told, and the stream ends if its read half is
-// closed; else its SSNs begin at 0 again.
+// A stream was reset in success. Where the end of a reset is owed it is told, and by the rules of the port the stream
+// ends if its read half is closed; else its SSNs begin at 0 again.
 fn complete(
     debts: &mut Debts,
     streams: &mut Streams,
     events: &mut Events,
     id: StreamId,
+    by_rfcs: bool,
 ) -> Result<(), AllocError>
     ensures { OnOk result (answering debts.new streams.new events.new
-        ≡ completed_one (answering debts.old streams.old events.old) id) }
+        ≡ completed_one by_rfcs (answering debts.old streams.old events.old) id) }
 {
     let owed = debts.settle(id);
-    if owed && is_read_half_closed(streams, id) {
+    let ends = owed && !by_rfcs;
+    if ends && is_read_half_closed(streams, id) {
         end_stream(streams, events, id)?;
     } else {
         streams.restart_ssn(id);
@@ -58,12 +60,13 @@ fn complete_each(
     streams: &mut Streams,
     events: &mut Events,
     ids: &[StreamId],
+    by_rfcs: bool,
 ) -> Result<(), AllocError>
     ensures { OnOk result (answering debts.new streams.new events.new
-        ≡ fold completed_one (answering debts.old streams.old events.old) ids.now) }
+        ≡ fold (completed_one by_rfcs) (answering debts.old streams.old events.old) ids.now) }
 {
     for id in ids {
-        complete(debts, streams, events, *id)?;
+        complete(debts, streams, events, *id, by_rfcs)?;
     }
     Ok(())
 }
@@ -102,12 +105,45 @@ pub(crate) fn end_request(
     events: &mut Events,
     ids: &[StreamId],
     outcome: Result<(), StreamResetError>,
+    by_rfcs: bool,
 ) -> Result<(), AllocError>
     ensures { OnOk result (answering debts.new streams.new events.new
-        ≡ request_ended outcome ids.now (answering debts.old streams.old events.old)) }
+        ≡ request_ended by_rfcs outcome ids.now (answering debts.old streams.old events.old)) }
 {
     match outcome {
-        Ok(()) => complete_each(debts, streams, events, ids),
+        Ok(()) => complete_each(debts, streams, events, ids, by_rfcs),
         Err(reason) => fail_each(debts, events, ids, reason),
     }
+}
+
+// A request for these streams is given up and goes on, which is told of those that are live or of which the end of a
+// reset is owed.
+pub(crate) fn tell_failures(
+    debts: &Debts,
+    streams: &Streams,
+    events: &mut Events,
+    ids: &[StreamId],
+) -> Result<(), AllocError>
+    ensures exact { OnOk result (events.new ≡ failures_told debts.now streams.now ids.now events.old) }
+    ensures grows { OnErr result (nat_lt 0 (length ids.now) ≡ true) }
+{
+    for id in ids {
+        tell_failure(debts, streams, events, *id)?;
+    }
+    Ok(())
+}
+
+fn tell_failure(
+    debts: &Debts,
+    streams: &Streams,
+    events: &mut Events,
+    id: StreamId,
+) -> Result<(), AllocError>
+    ensures { OnOk result (events.new ≡ failure_told debts.now streams.now events.old id) }
+{
+    if streams.contains(id) || debts.is_owed(id) {
+        let reason = StreamResetError::Failed;
+        events.push(Event::Stream(StreamEvent::ResetFailed { id, reason }))?;
+    }
+    Ok(())
 }

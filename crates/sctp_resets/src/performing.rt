@@ -5,10 +5,11 @@ ghost use Rattle.sctp_resets.specs.Later.{AreRight};
 ghost use Rattle.sctp_streams.specs.Streams.{stream_at};
 ghost use Rattle.sctp_resets.specs.Channels.{channels};
 ghost use Rattle.sctp_resets.specs.Performing.{performing, is_drained, retired_one, named_live, retired_each};
+ghost use Rattle.sctp_resets.specs.Performing.{named_in, each_end_told, end_told};
 
 use crate::channels::end_stream;
 use sctp_generations::{Generations, Retirement};
-use sctp_reset_requests::{Debts, PeerRequest};
+use sctp_reset_requests::{Debts, OwnRequests, PeerRequest};
 use sctp_streams::{Event, Events, Streams};
 use sctp_wire_types::{ReconfigResult, StreamEvent, StreamId};
 use std::alloc::{AllocError, Global};
@@ -19,7 +20,7 @@ use std::collections::BTreeSet;
 pub struct Settled {
     /// Its number, which the response names.
     pub number: u32,
-    /// A request of this side was made, which resets the same streams in the other direction.
+    /// A request of this side was made, which resets streams of it in the other direction.
     pub asks: bool,
 }
 
@@ -28,7 +29,7 @@ pub struct Settled {
 pub struct Handled {
     /// It named the active request of this side, which ended by that.
     pub confirms: bool,
-    /// A request of this side was made, which resets the same streams in the other direction.
+    /// A request of this side was made, which resets streams of it in the other direction.
     pub asks: bool,
     /// What is answered.
     pub answer: ReconfigResult,
@@ -167,4 +168,59 @@ pub(crate) fn retire_each(
         }
     }
     Ok(retired)
+}
+
+// The streams that a request resets by the rules of the RFCs: those that it names, live or not, and where it is for all
+// the live ones. By the rules of the port none is noted, and no memory is taken.
+pub(crate) fn named_in(
+    alloc: Global,
+    own: &OwnRequests,
+    streams: &Streams,
+    request: &PeerRequest,
+) -> Result<Vec<StreamId>, AllocError>
+    ensures { IfOk result (λ ids. ids.items ≡ named_in own.now streams.now request.now) }
+{
+    if !own.is_by_rfcs() {
+        return Ok(Vec::new(alloc));
+    }
+    if request.names_all() {
+        streams.ids(alloc)
+    } else {
+        all_of(alloc, request.ids())
+    }
+}
+
+fn all_of(alloc: Global, ids: &BTreeSet<StreamId>) -> Result<Vec<StreamId>, AllocError>
+    ensures { IfOk result (λ all. all.items ≡ ids.now.keys) }
+{
+    ids.iter().copied().collect(alloc)
+}
+
+// A performed request ends resets of these streams that this side began: the ends that are owed are told.
+pub(crate) fn tell_ends(
+    own: &OwnRequests,
+    debts: &mut Debts,
+    events: &mut Events,
+    named: &[StreamId],
+) -> Result<(), AllocError>
+    ensures { OnOk result ((debts.new, events.new) ≡ each_end_told own.now named.now (debts.old, events.old)) }
+{
+    for id in named {
+        tell_end(own, debts, events, *id)?;
+    }
+    Ok(())
+}
+
+fn tell_end(
+    own: &OwnRequests,
+    debts: &mut Debts,
+    events: &mut Events,
+    id: StreamId,
+) -> Result<(), AllocError>
+    ensures { OnOk result ((debts.new, events.new) ≡ end_told own.now (debts.old, events.old) id) }
+{
+    if own.ends_here(id) && debts.end(id) {
+        events.push(Event::Stream(StreamEvent::ResetComplete { id }))?;
+    }
+    Ok(())
 }

@@ -2,7 +2,7 @@
 ghost use Rattle.std.specs.Prelude.{◌≡◌, ◌||◌, true, OnOk, OnErr, IfOk, is_some, length, nat_lt};
 ghost use Rattle.sctp_receive_queues.specs.Pieces.{bytes_of};
 ghost use Rattle.sctp_generations.specs.Generations.{has_skips};
-ghost use Rattle.sctp_reset_requests.specs.Own.{HasRoom};
+ghost use Rattle.sctp_reset_requests.specs.Own.{HasRoom, failing_ids, is_given_up_anew, to_reset};
 ghost use Rattle.sctp_reset_requests.specs.Peer.{is_one_due};
 ghost use Rattle.sctp_resets.specs.Channels.{channels};
 ghost use Rattle.sctp_resets.specs.Telling.{FrontWaits};
@@ -10,12 +10,13 @@ ghost use Rattle.sctp_resets.specs.Resets.{no_resets, met_peer, is_blocked, is_r
 ghost use Rattle.sctp_resets.specs.Resets.{with_deferred, with_skip, without_unordered, waiting_for, skips_done};
 ghost use Rattle.sctp_resets.specs.Resets.{skips_done_of, performed, settled, handled, responded, given_up, confirmed_by};
 ghost use Rattle.sctp_resets.specs.Resets.{read_out, stopped_reading, event_told, request_asked, request_sent};
-ghost use Rattle.sctp_resets.specs.Resets.{request_again, timer_expired, all_closed, OwnAlone};
+ghost use Rattle.sctp_resets.specs.Resets.{request_again, timer_expired, all_closed, OwnAlone, given_up_for_now};
+ghost use Rattle.sctp_resets.specs.Resets.{dropped, ended_unless, reset_or_ended, with_answers};
 
-use crate::answers::end_request;
+use crate::answers::{end_request, tell_failures};
 use crate::channels::{deliver_each, end_stream};
 use crate::draining::drain;
-use crate::performing::retire_each;
+use crate::performing::{named_in, retire_each, tell_ends};
 use crate::skips::{apply_skips, apply_skips_of};
 use crate::telling::{next_told, note_told};
 use crate::{Handled, Settled, TimerChange};
@@ -24,8 +25,8 @@ use sctp_outbound_queue::OutboundQueue;
 use sctp_reset_requests::{Answered, Arrival, Debts, OwnRequests, PeerRequest, PeerRequests};
 use sctp_streams::{Event, Events, Streams};
 use sctp_wire_types::{
-    ChunkPayloadData, Error, List, ParamOutgoingResetRequest, ParamReconfigResponse, StreamId,
-    StreamResetError,
+    ChunkPayloadData, Error, List, ParamOutgoingResetRequest, ParamReconfigResponse, Profile,
+    StreamId, StreamResetError,
 };
 use std::alloc::{AllocError, Global};
 use std::collections::VecDeque;
@@ -53,12 +54,12 @@ impl Model for Resets {
 
 impl Resets {
     /// Nothing is reset; the first own request gets the own initial TSN as its number. Takes no memory.
-    pub fn new(alloc: Global, initial_tsn: u32) -> Self
-        ensures { result ≡ no_resets initial_tsn }
+    pub fn new(alloc: Global, profile: Profile, initial_tsn: u32) -> Self
+        ensures { result ≡ no_resets profile initial_tsn }
     {
         Resets {
             alloc,
-            own: OwnRequests::new(alloc, initial_tsn),
+            own: OwnRequests::new(alloc, profile, initial_tsn),
             peer: PeerRequests::new(),
             debts: Debts::new(alloc),
             generations: Generations::new(alloc),
@@ -189,7 +190,8 @@ impl Resets {
     }
 
     // Performs a request of the peer: the streams that it names end or retire, DATA that waited for that goes to its
-    // streams, and a request of this side is made for those that ended or retired; answers whether it was.
+    // streams, and a request of this side is made for those that it does not reset by itself, by the rules of the port
+    // for those that ended or retired; answers whether it was.
     #[tactic(auto, unfolding(crate::specs::Resets::performed))]
     fn perform(
         &mut self,
@@ -205,7 +207,8 @@ impl Resets {
             (channels streams.old events.old to_accept.old.items)
             ≡ ((self.new, channels streams.new events.new to_accept.new.items), asks)) }
     {
-        let ids = retire_each(
+        let named = named_in(self.alloc, &self.own, streams, request)?;
+        let retired = retire_each(
             self.alloc,
             &mut self.generations,
             &mut self.debts,
@@ -214,8 +217,8 @@ impl Resets {
             request,
         )?;
         self.generations.end_newest_of(request.ids());
-        let asks = !ids.is_empty();
-        self.own.reciprocate(request, List::from_vec(ids))?;
+        tell_ends(&self.own, &mut self.debts, events, named.as_slice())?;
+        let asks = self.answer(request, named.as_slice(), retired)?;
         let given = self.generations.release_all()?;
         deliver_each(
             streams,
@@ -226,6 +229,24 @@ impl Resets {
             limit,
             given,
         )?;
+        Ok(asks)
+    }
+
+    // Makes the request that answers a performed one; answers whether one was made.
+    fn answer(
+        &mut self,
+        request: &PeerRequest,
+        named: &[StreamId],
+        retired: Vec<StreamId>,
+    ) -> Result<bool, AllocError>
+        ensures { IfOk result (λ asks.
+            with_answers request.now named.now (to_reset self.old.own named.now retired.items) self.old
+            ≡ (self.new, asks)) }
+    {
+        let ids = self.own.to_reset(self.alloc, named, retired)?;
+        let asks = !ids.is_empty();
+        self.own.reciprocate(request, List::from_vec(ids))?;
+        self.own.perform(named);
         Ok(asks)
     }
 
@@ -320,12 +341,14 @@ impl Resets {
         let Some(request) = self.own.confirm(number) else {
             return Ok(false);
         };
+        let by_rfcs = self.own.is_by_rfcs();
         end_request(
             &mut self.debts,
             streams,
             events,
             request.ids.as_slice(),
             Ok(()),
+            by_rfcs,
         )?;
         Ok(true)
     }
@@ -346,28 +369,38 @@ impl Resets {
             Answered::InProgress => Ok(TimerChange::Exempted),
             Answered::Ended(request, outcome) => {
                 let ids = request.ids.as_slice();
-                end_request(&mut self.debts, streams, events, ids, outcome)?;
+                let by_rfcs = self.own.is_by_rfcs();
+                end_request(&mut self.debts, streams, events, ids, outcome, by_rfcs)?;
                 Ok(TimerChange::Stopped)
             }
         }
     }
 
-    /// The timer of the active request expired too often: its resets failed, which is told.
+    /// The timer of the active request expired too often: its resets failed, which is told. By the rules of the RFCs
+    /// that is told once, and the request stays active: its number is spent, and the peer takes up none before it.
     pub fn give_up(&mut self, streams: &mut Streams, events: &mut Events) -> Result<(), AllocError>
         ensures exact { OnOk result ((self.new, streams.new, events.new) ≡ given_up self.old streams.old events.old) }
-        ensures grows { OnErr result (is_some self.old.own.active ≡ true) }
+        ensures grows { OnErr result (is_given_up_anew self.old.own ≡ true) }
     {
+        if self.own.is_by_rfcs() {
+            return self.give_up_for_now(streams, events);
+        }
         let Some(request) = self.own.end() else {
             return Ok(());
         };
+        let ids = request.ids.as_slice();
         let outcome = Err(StreamResetError::Failed);
-        end_request(
-            &mut self.debts,
-            streams,
-            events,
-            request.ids.as_slice(),
-            outcome,
-        )
+        end_request(&mut self.debts, streams, events, ids, outcome, false)
+    }
+
+    fn give_up_for_now(&mut self, streams: &Streams, events: &mut Events) -> Result<(), AllocError>
+        ensures exact { OnOk result
+            ((self.new, streams.now, events.new) ≡ given_up_for_now self.old streams.now events.old) }
+        ensures grows { OnErr result (nat_lt 0 (length (failing_ids self.old.own.active)) ≡ true) }
+    {
+        tell_failures(&self.debts, streams, events, self.own.failing_ids())?;
+        self.own.mark_given_up();
+        Ok(())
     }
 
     /// The timer expired and may go on: the active request is to go out again.
@@ -458,7 +491,8 @@ impl Resets {
     }
 
     /// The application reads no more of a stream that retires: its generations are over, and what waits of it is
-    /// dropped. The stream ends, unless a reset of it is open in the other direction.
+    /// dropped. By the rules of the RFCs the stream is to be reset where something came behind what the peer ended, and
+    /// else it ends. By those of the port it ends, unless a reset of it is open in the other direction.
     pub fn stop_reading(
         &mut self,
         id: StreamId,
@@ -468,13 +502,60 @@ impl Resets {
         ensures { OnOk result ((self.new, streams.new, events.new)
             ≡ stopped_reading id self.old streams.old events.old) }
     {
+        let more = self.generations.has_newest(id);
         self.generations.discard(id);
         streams.drop_unread(self.alloc, id);
         events.untell(id);
+        self.drop_stream(more, id, streams, events)
+    }
+
+    fn drop_stream(
+        &mut self,
+        more: bool,
+        id: StreamId,
+        streams: &mut Streams,
+        events: &mut Events,
+    ) -> Result<(), AllocError>
+        ensures { OnOk result ((self.new, streams.new, events.new)
+            ≡ dropped more self.old id streams.old events.old) }
+    {
+        if self.own.is_by_rfcs() {
+            self.reset_or_end(more, id, streams, events)
+        } else {
+            self.end_unless_blocked(id, streams, events)
+        }
+    }
+
+    fn end_unless_blocked(
+        &self,
+        id: StreamId,
+        streams: &mut Streams,
+        events: &mut Events,
+    ) -> Result<(), AllocError>
+        ensures { OnOk result ((self.now, streams.new, events.new)
+            ≡ ended_unless (is_blocked self.now id) self.now id streams.old events.old) }
+    {
         if self.is_blocked(id) {
             return Ok(());
         }
         end_stream(streams, events, id)
+    }
+
+    fn reset_or_end(
+        &mut self,
+        resets: bool,
+        id: StreamId,
+        streams: &mut Streams,
+        events: &mut Events,
+    ) -> Result<(), AllocError>
+        ensures { OnOk result ((self.new, streams.new, events.new)
+            ≡ reset_or_ended resets self.old id streams.old events.old) }
+    {
+        if resets {
+            self.wait_for(id)
+        } else {
+            end_stream(streams, events, id)
+        }
     }
 
     /// Takes out the event that is told next. `waiting` of the oldest events are known to wait, and are not looked at

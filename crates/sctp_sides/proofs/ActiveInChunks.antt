@@ -18,11 +18,12 @@ use Rattle.sctp_wire_types.specs.declared.param.Param.TheVariants as params
 use Rattle.sctp_wire_types.specs.declared.param.ParamOutgoingResetRequest.{ParamOutgoingResetRequest}
 use Rattle.sctp_wire_types.specs.declared.param.ParamReconfigResponse.{ParamReconfigResponse}
 use Rattle.sctp_wire_types.specs.Checks.{checked_chunk}
+use Rattle.sctp_wire_types.specs.Config.{is_rfc}
 use Rattle.sctp_streams.specs.declared.event.Event.{Event}
 use Rattle.sctp_streams.specs.Streams.{StreamMap, generation_left, is_readable_in, pushed_in, refusal_in, stream_at}
 use Rattle.sctp_inbound.specs.declared.receiver.AckTrigger.{AckTrigger}
 use Rattle.sctp_inbound.specs.Greeting.{first_cookie, information_of}
-use Rattle.sctp_inbound.specs.Handshake.{comes_back, has_issued, learned_by_init_ack}
+use Rattle.sctp_inbound.specs.Handshake.{comes_back, has_issued, learned_by_init, learned_by_init_ack}
 use Rattle.sctp_inbound.specs.Receiver.{admits, is_new_to, taken_to}
 use Rattle.sctp_outbound.specs.declared.sender.SackOutcome.{SackOutcome}
 use Rattle.sctp_outbound.specs.declared.sender.SackOutcome.TheVariants as outcomes
@@ -33,16 +34,17 @@ use Rattle.sctp_reset_requests.specs.declared.outcome.Answered.{Answered}
 use Rattle.sctp_reset_requests.specs.declared.outcome.Answered.TheVariants as answers
 use Rattle.sctp_reset_requests.specs.declared.own_request.OwnRequest.{OwnRequest}
 use Rattle.sctp_reset_requests.specs.declared.own_request.SentRequest.{SentRequest}
-use Rattle.sctp_reset_requests.specs.Own.{OwnView, answered_with, ended, ended_as, has_number, outcome_of}
-use Rattle.sctp_reset_requests.specs.Own.{with_repeat, with_request}
+use Rattle.sctp_reset_requests.specs.Own.{OwnView, answered_with, answers_all, ended, ended_as, has_number}
+use Rattle.sctp_reset_requests.specs.Own.{is_confirmed_by, outcome_of, put_off, with_given_up, with_repeat}
+use Rattle.sctp_reset_requests.specs.Own.{with_request}
 use Rattle.sctp_reset_requests.specs.Own as own
 use Rattle.sctp_reset_requests.specs.Peer.{PeerView, advanced, arrived}
-use Rattle.sctp_reset_requests.specs.Request.{PeerRequestView, names_all, request_of}
+use Rattle.sctp_reset_requests.specs.Request.{PeerRequestView, request_of}
 use Rattle.sctp_resets.specs.declared.answers.TimerChange.{TimerChange}
 use Rattle.sctp_resets.specs.declared.performing.Handled.{Handled}
 use Rattle.sctp_resets.specs.declared.performing.Settled.{Settled}
 use Rattle.sctp_resets.specs.Channels.{Channels}
-use Rattle.sctp_resets.specs.Performing.{Performing, performing, retired_each}
+use Rattle.sctp_resets.specs.Performing.{Performing, answered_in, named_in, performing, retired_each}
 use Rattle.sctp_resets.specs.Resets.{Beside, ResetsView, Resetting, arrived_with, confirmed_by, confirmed_where}
 use Rattle.sctp_resets.specs.Resets.{ended_as_answered, handled, handled_behind, performed, performed_with, responded}
 use Rattle.sctp_resets.specs.Resets.{settled_by, settled_where, skips_done, skips_done_of, with_channels}
@@ -52,7 +54,7 @@ use Rattle.sctp_resets.specs.Skips.{Skipping}
 use Rattle.sctp_resets.specs.Skips as skips
 use Rattle.sctp_parts.specs.declared.state.AssociationState.TheVariants as states
 use Rattle.sctp_assoc.specs.declared.inbound.Flow.TheVariants as flows
-use Rattle.sctp_assoc.specs.Calls.{is_beginning, is_cookie_echoed, is_cookie_wait, is_established, sends_data}
+use Rattle.sctp_assoc.specs.Calls.{is_beginning, is_cookie_echoed, is_cookie_wait, sends_data}
 use Rattle.sctp_assoc.specs.Chunks.{asks, asks_or_faults, checked_first, counted_data, counted_sack, deferred_unless}
 use Rattle.sctp_assoc.specs.Chunks.{deferred_where_admitted, dispatched, on_chunk, on_counted_sack, on_data}
 use Rattle.sctp_assoc.specs.Chunks.{after_sack, goes_unread, left_or_handed_over, on_new_data}
@@ -60,8 +62,9 @@ use Rattle.sctp_assoc.specs.Chunks.{on_sack, stream_found, taken_in, taken_unles
 use Rattle.sctp_assoc.specs.Chunks.{told, with_message}
 use Rattle.sctp_assoc.specs.Closing.{is_exhausted}
 use Rattle.sctp_assoc.specs.Finding.{found_for}
-use Rattle.sctp_assoc.specs.Handshake.{cookie_queued, echoed, information_returned, learned_back, on_cookie_ack}
-use Rattle.sctp_assoc.specs.Handshake.{on_cookie_echo, on_heartbeat, on_init, on_init_ack, sends_cookie}
+use Rattle.sctp_assoc.specs.Handshake.{acknowledges_again, answered, cookie_queued, echoed, information_returned}
+use Rattle.sctp_assoc.specs.Handshake.{keeps_peer, learned_back, learned_unless, on_cookie_ack, on_cookie_echo}
+use Rattle.sctp_assoc.specs.Handshake.{on_heartbeat, on_init, on_init_ack, sends_cookie}
 use Rattle.sctp_assoc.specs.Probes.{is_probing}
 use Rattle.sctp_assoc.specs.Resets.{after_param, asking_if, behind_first, behind_params, channels_of, handled_with}
 use Rattle.sctp_assoc.specs.Resets.{on_reconfig, on_request, on_response, responded_with, settled, settled_with}
@@ -97,6 +100,16 @@ pub active_repeated : (due : Bool) (o : Option SentRequest) → ActiveFrom o (wi
 active_repeated due None = active_same None None refl
 active_repeated due (Some s) = record { from = λ id names. names }
 
+-- nor does whether the peer put it off
+active_put_off : (marks : Bool) (o : Option SentRequest) → ActiveFrom o (put_off marks o)
+active_put_off marks None = active_same None None refl
+active_put_off marks (Some s) = record { from = λ id names. names }
+
+-- nor whether it was given up
+pub active_given_up : (o : Option SentRequest) → ActiveFrom o (with_given_up o)
+active_given_up None = active_same None None refl
+active_given_up (Some s) = record { from = λ id names. names }
+
 -- The end of the active request
 
 pub ending_if : (ends : Bool) (o : OwnView)
@@ -112,11 +125,12 @@ confirmed_active (o, Some q) r m told = refl
 ended_as_active : (x : OwnView × Option OwnRequest) (outcome : Result (Unit {0}) StreamResetError)
     → (ended_as x outcome).0.active ≡ x.0.active
 ended_as_active (o, None) outcome = refl
-ended_as_active (o, Some q) outcome = refl
+ended_as_active (o, Some q) (Ok done) = refl
+ended_as_active (o, Some q) (Err reason) = refl
 
 answered_from : (outcome : Option (Result (Unit {0}) StreamResetError)) (o : OwnView)
     → ActiveFrom o.active (answered_with outcome o).0.active
-answered_from None o = active_repeated false o.active
+answered_from None o = active_put_off (is_rfc o.profile) o.active
 answered_from (Some outcome) o =
     active_ended o.active (ended_as (ended o) outcome).0.active (ended_as_active (ended o) outcome)
 
@@ -140,17 +154,18 @@ made_if : (none all : Bool) (o : OwnView) (number : ℕ) (ids : List ℕ)
 made_if true all o number ids = refl
 made_if false all o number ids = refl
 
-released_active : (q : PeerRequestView) (first limit : ℕ) (r : ResetsView) (to_accept : List ℕ)
-    (x : Performing × List ℕ) → (performed_with q first limit r to_accept x).0.0.own.active ≡ r.own.active
-released_active q first limit r to_accept (p, ids) =
-    made_if (length ids == 0) (names_all q) r.own q.number ids
+released_active : (q : PeerRequestView) (first limit : ℕ) (r : ResetsView) (to_accept named : List ℕ)
+    (x : Performing × List ℕ) → (performed_with q first limit r to_accept named x).0.0.own.active ≡ r.own.active
+released_active q first limit r to_accept named (p, ids) =
+    made_if (length ids == 0) (answers_all r.own q ids) r.own q.number ids
 
 performed_active : (q : PeerRequestView) (first limit : ℕ) (r : ResetsView) (c : Channels)
     → (performed q first limit r c).0.0.own.active ≡ r.own.active
 unfolding performed
 performed_active q first limit r c =
-    released_active q first limit r c.to_accept
-    (retired_each q (performing r.generations r.debts c.streams c.events))
+    let named = named_in r.own c.streams q in
+    released_active q first limit r c.to_accept named
+    (answered_in r.own named (retired_each q (performing r.generations r.debts c.streams c.events)))
 
 settled_by_active : (q : PeerRequestView) (x : Resetting × Bool)
     → (settled_by q x).0.0.own.active ≡ x.0.0.own.active
@@ -277,7 +292,7 @@ request_leaves a param =
     let o = a.resets.own in
     let c = own.confirmed o number in
     handled_leaves a param.reconfig_request_sequence_number y
-    (active_then o.active c.0.active y.0.0.own.active (ending_if (has_number o.active number) o)
+    (active_then o.active c.0.active y.0.0.own.active (ending_if (is_confirmed_by o.active number) o)
     (active_same c.0.active y.0.0.own.active
     (handled_active param t first limit (channels_of a) x ∙ confirmed_active c a.resets a.streams a.events)))
 
@@ -500,10 +515,16 @@ forward_leaves a tsn es trigger now =
 
 -- The handshake
 
+answered_leaves : (keeps : Bool) (a : Shown) (header : CommonHeader) (init : ChunkInit)
+    → LeavesActive a
+    (answered (learned_unless keeps (record a { handshake = learned_by_init a.handshake header init }) init))
+answered_leaves true a header init = by_active a _ refl
+answered_leaves false a header init = by_active a _ refl
+
 init_leaves : (begins : Bool) (a : Shown) (header : CommonHeader) (init : ChunkInit) (trigger : AckTrigger)
     → is_beginning a.state ≡ begins → LeavesActive a (on_init a header init trigger).0
 unfolding on_init
-init_leaves true a header init trigger e = rw e (by_active a _ refl)
+init_leaves true a header init trigger e = rw e (answered_leaves (keeps_peer a init) a header init)
 init_leaves false a header init trigger e = rw e (by_active a _ refl)
 
 queued_leaves : (o : Option (List ℕ)) (a : Shown) → LeavesActive a (cookie_queued o a)
@@ -543,12 +564,12 @@ unfolding on_init_ack
 init_ack_leaves a header init trigger now =
     init_ack_if (is_cookie_wait a.state) (comes_back a.handshake header) a header init trigger now
 
-cookie_echo_leaves : (issued begins established : Bool) (a : Shown) (cookie : List ℕ) (trigger : AckTrigger)
-    → has_issued a.handshake cookie ≡ issued → is_beginning a.state ≡ begins → is_established a.state ≡ established
+cookie_echo_leaves : (issued begins again : Bool) (a : Shown) (cookie : List ℕ) (trigger : AckTrigger)
+    → has_issued a.handshake cookie ≡ issued → is_beginning a.state ≡ begins → acknowledges_again a ≡ again
     → LeavesActive a (on_cookie_echo a cookie trigger).0
 unfolding on_cookie_echo
-cookie_echo_leaves false begins established a cookie trigger e f g = rw e (by_active a _ refl)
-cookie_echo_leaves true true established a cookie trigger e f g = rw (e, f) (by_active a _ refl)
+cookie_echo_leaves false begins again a cookie trigger e f g = rw e (by_active a _ refl)
+cookie_echo_leaves true true again a cookie trigger e f g = rw (e, f) (by_active a _ refl)
 cookie_echo_leaves true false true a cookie trigger e f g = rw (e, f, g) (by_active a _ refl)
 cookie_echo_leaves true false false a cookie trigger e f g = rw (e, f, g) (by_active a _ refl)
 
@@ -584,7 +605,7 @@ kind_leaves header (chunks.Shutdown x) a trigger now = by_active a _ refl
 kind_leaves header chunks.ShutdownAck a trigger now = by_active a _ refl
 kind_leaves header (chunks.Error x) a trigger now = by_active a _ refl
 kind_leaves header (chunks.CookieEcho x) a trigger now =
-    cookie_echo_leaves (has_issued a.handshake x) (is_beginning a.state) (is_established a.state) a x trigger refl refl
+    cookie_echo_leaves (has_issued a.handshake x) (is_beginning a.state) (acknowledges_again a) a x trigger refl refl
     refl
 kind_leaves header chunks.CookieAck a trigger now = cookie_ack_leaves (is_cookie_echoed a.state) a trigger refl
 kind_leaves header chunks.ShutdownComplete a trigger now = by_active a _ refl

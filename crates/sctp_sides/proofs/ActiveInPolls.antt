@@ -10,8 +10,8 @@ use Rattle.sctp_outbound_queue.specs.Outbound.{Outbound, has_stream}
 use Rattle.sctp_reset_requests.specs.declared.own_request.OwnRequest.{OwnRequest}
 use Rattle.sctp_reset_requests.specs.declared.own_request.SentRequest.{SentRequest}
 use Rattle.sctp_reset_requests.specs.Laws.{DataHoldsBack}
-use Rattle.sctp_reset_requests.specs.Own.{OwnView, asked, asked_for, may_go, quiet_ids, repeated, sent_first}
-use Rattle.sctp_reset_requests.specs.Own.{sent_of, sent_param, with_request}
+use Rattle.sctp_reset_requests.specs.Own.{OwnView, asked, asked_for, may_go, put_ahead, quiet_ids, repeated}
+use Rattle.sctp_reset_requests.specs.Own.{sent_first, sent_of, sent_param, with_request}
 use Rattle.sctp_reset_requests.specs.Peer.{PeerView}
 use Rattle.sctp_resets.specs.Resets.{with_asked, with_own}
 use Rattle.sctp_assoc.specs.declared.control.Control.{Control}
@@ -40,14 +40,15 @@ IsQuietOf o q = (id : ℕ) → is_reset_by o id ≡ true → has_stream q id ≡
 repeated_quiet : (o : OwnView) (q : Outbound) → IsQuietOf o.active q → IsQuietOf (repeated o).0.active q
 repeated_quiet o q h = λ id named. h id ((active_repeated false o.active).from id named)
 
-asked_if : (none : Bool) (o : OwnView) (last : ℕ) (ids : List ℕ)
-    → (if◌then◌else◌ {A = OwnView × Bool} none (o, false) (with_request o last false ids, true)).0.active ≡ o.active
-asked_if true o last ids = refl
-asked_if false o last ids = refl
+asked_if : (none : Bool) (o made : OwnView) (last : ℕ) (ids : List ℕ) → made.active ≡ o.active
+    → (if◌then◌else◌ {A = OwnView × Bool} none (o, false) (with_request made last false ids, true)).0.active
+    ≡ o.active
+asked_if true o made last ids e = refl
+asked_if false o made last ids e = e
 
 asked_for_active : (ids : List ℕ) (last : Option ℕ) (o : OwnView) → (asked_for ids last o).0.active ≡ o.active
 asked_for_active ids None o = refl
-asked_for_active ids (Some last) o = asked_if (length ids == 0) o last ids
+asked_for_active ids (Some last) o = asked_if (length ids == 0) o (put_ahead o ids) last ids refl
 
 open_if : (open_still : Bool) (x : OwnView × Bool) (o : OwnView) → x.0.active ≡ o.active
     → (if open_still then (o, false) else x).0.active ≡ o.active

@@ -13,7 +13,7 @@ use Rattle.sctp_wire_types.specs.declared.ids.PayloadProtocolIdentifier.{Payload
 use Rattle.sctp_wire_types.specs.declared.packet.CommonHeader.{CommonHeader}
 use Rattle.sctp_wire.specs.declared.packet.Packet.{Packet}
 use Rattle.sctp_parts.specs.declared.timer.Timer.TheVariants as names
-use Rattle.sctp_parts.specs.Timers.{expiry_of}
+use Rattle.sctp_parts.specs.Timers.{expiry_of, with_stopped}
 use Rattle.sctp_receive_queues.specs.Messages.{ReceivedMessage}
 use Rattle.sctp_outbound_queue.specs.Outbound.{has_stream}
 use Rattle.sctp_streams.specs.declared.event.AssociationError.{AssociationError}
@@ -30,13 +30,12 @@ use Rattle.sctp_reset_requests.specs.declared.own_request.SentRequest.{SentReque
 use Rattle.sctp_reset_requests.specs.Debts.{bars}
 use Rattle.sctp_reset_requests.specs.Ids.{has_id}
 use Rattle.sctp_reset_requests.specs.Laws.{DataHoldsBack}
-use Rattle.sctp_reset_requests.specs.Own.{OwnView, ended, is_asked_for, open_with, resets}
-use Rattle.sctp_reset_requests.specs.Peer.{boundary_of}
+use Rattle.sctp_reset_requests.specs.Own.{OwnView, is_asked_for, open_with, resets}
+use Rattle.sctp_reset_requests.specs.Peer.{PeerView, boundary_of}
 use Rattle.sctp_resets.specs.Channels.{channels}
 use Rattle.sctp_resets.specs.Draining.{Reading, drained_out}
-use Rattle.sctp_resets.specs.Resets.{ResetsView, ended_unless, event_told, event_told_at, given_up}
-use Rattle.sctp_resets.specs.Resets.{given_up_where, is_blocked, is_retiring, read_out, stopped_reading, with_event}
-use Rattle.sctp_resets.specs.Resets.{waiting_for, with_read}
+use Rattle.sctp_resets.specs.Resets.{ResetsView, event_told, event_told_at, given_up, is_blocked, is_retiring}
+use Rattle.sctp_resets.specs.Resets.{read_out, stopped_reading, waiting_for, with_event, with_read}
 use Rattle.sctp_resets.specs.Telling.{next_told}
 use Rattle.sctp_directions.specs.Acts.{Act, History, Parts, done_all, message_of, type_on}
 use Rattle.sctp_assoc.specs.declared.inbound.Flow.{Flow}
@@ -60,8 +59,9 @@ use Rattle.sctp_sides.specs.OneSide.{Call, FailsInside, IsCarriedOut, IsUnchange
 use Rattle.sctp_sides.specs.OneSide.{with_told}
 use Rattle.sctp_sides.specs.Restarts.{ActiveIsQuiet, CallsRestartQuietly, ChunksRestartQuietly}
 use Rattle.sctp_sides.specs.Restarts.{CreatedSidesAreQuiet, WritesWaitForResets, is_reset_by}
-use Rattle.sctp_sides.proofs.ActiveInChunks.{LeavesActive, active_ended, active_repeated, active_same, beside_leaves}
-use Rattle.sctp_sides.proofs.ActiveInChunks.{by_active, chunk_leaves, cookie_leaves, resetting_leaves, then_on}
+use Rattle.sctp_sides.proofs.ActiveInChunks.{ActiveFrom, LeavesActive, active_ended, active_given_up, active_repeated}
+use Rattle.sctp_sides.proofs.ActiveInChunks.{active_same, beside_leaves, by_active, chunk_leaves, cookie_leaves}
+use Rattle.sctp_sides.proofs.ActiveInChunks.{resetting_leaves, then_on}
 use Rattle.sctp_sides.proofs.ActiveInPolls.{poll_quiet}
 use Rattle.sctp_sides.proofs.ActsWithoutWrites.{AreNoWrites, chunk_writes_nothing, close_stream_writes_nothing}
 use Rattle.sctp_sides.proofs.ActsWithoutWrites.{close_writes_nothing, packet_writes_nothing, poll_writes_nothing}
@@ -69,6 +69,7 @@ use Rattle.sctp_sides.proofs.ActsWithoutWrites.{read_writes_nothing, stop_writes
 use Rattle.sctp_sides.proofs.FirstBegunRuns.{carried_out_fails}
 use Rattle.sctp_sides.proofs.PacketLaws.{chunks_lead_on}
 use Rattle.sctp_sides.proofs.QuietQueues.{acts_add_none, message_adds_none}
+use Rattle.sctp_sides.proofs.RequestsLeft.{given_up_leaves, stopped_reading_leaves}
 use Rattle.sctp_sides.proofs.RestartedStreams.{quiet_restarts}
 use Rattle.sctp_sides.proofs.TimersOverRuns.{accepted_works}
 
@@ -116,10 +117,10 @@ draining_leaves a id streams =
     (active_same a.resets.own.active x.0.own.active
     (read_active a.resets (drained_out first limit id (boundary_of a.resets.peer id) (a.resets.generations, c))))
 
-dropped_active : (blocked : Bool) (r : ResetsView) (id : ℕ) (m : StreamMap) (told : List Event)
-    → (ended_unless blocked r id m told).0.own.active ≡ r.own.active
-dropped_active true r id m told = refl
-dropped_active false r id m told = refl
+unread_active : (id : ℕ) (r : ResetsView) (m : StreamMap) (told : List Event)
+    → (stopped_reading id r m told).0.own.active ≡ r.own.active
+unread_active id r m told =
+    stopped_reading_leaves (λ (z : ResetsView). z.own.active ≡ r.own.active) id r m told refl refl
 
 stopped_leaves : (retires : Bool) (a : Shown) (id : ℕ)
     → LeavesActive a
@@ -130,7 +131,8 @@ stopped_leaves true a id =
     let b : Shown = without_read_half_of a id in
     let x = stopped_reading id b.resets b.streams b.events in
     record {
-      from = (beside_leaves b x (active_same b.resets.own.active x.0.own.active (dropped_active _ _ id _ _))).from;
+      from = (beside_leaves b x
+          (active_same b.resets.own.active x.0.own.active (unread_active id b.resets b.streams b.events))).from;
     }
 stopped_leaves false a id = by_active a _ refl
 
@@ -212,26 +214,30 @@ t3_leaves false failure a now = by_active a _ refl
 t3_leaves true true a now = by_active a _ refl
 t3_leaves true false a now = by_active a _ refl
 
-given_up_active : (x : OwnView × Option OwnRequest) (r : ResetsView) (m : StreamMap) (told : List Event)
-    → (given_up_where x r m told).0.own.active ≡ x.0.active
-given_up_active (o, None) r m told = refl
-given_up_active (o, Some q) r m told = refl
+-- a request that is given up is over, or it goes out again
+going_on_leaves : (active : Bool) (a : Shown) (now : ℕ)
+    → LeavesActive a
+    (if active then asks_again a now else record a { timers = with_stopped names.Reconfig a.timers })
+going_on_leaves true a now = record { from = active_repeated true a.resets.own.active }
+going_on_leaves false a now = by_active a _ refl
 
-giving_up_leaves : (a : Shown) → LeavesActive a (gives_up a)
-giving_up_leaves a =
+giving_up_leaves : (a : Shown) (now : ℕ) → LeavesActive a (gives_up a now)
+giving_up_leaves a now =
+    let active = a.resets.own.active in
     let x = given_up a.resets a.streams a.events in
-    record {
-      from = (beside_leaves a x
-          (active_ended a.resets.own.active x.0.own.active
-          (given_up_active (ended a.resets.own) a.resets a.streams a.events))).from;
-    }
+    let b : Shown = with_beside a x in
+    then_on a b (gives_up a now)
+    (beside_leaves a x
+    (given_up_leaves (λ (o : OwnView) (p : PeerView). ActiveFrom active o.active) a.resets a.streams a.events
+    (active_given_up active) (active_ended active None refl)))
+    (going_on_leaves (is_some b.resets.own.active) b now)
 
 reconfig_leaves : (expired failure : Bool) (a : Shown) (now : ℕ)
     → LeavesActive a
-    (if expired then (if failure then gives_up (reconfig_expired a now) else asks_again (reconfig_expired a now) now)
-    else a)
+    (if expired then
+    (if failure then gives_up (reconfig_expired a now) now else asks_again (reconfig_expired a now) now) else a)
 reconfig_leaves false failure a now = by_active a _ refl
-reconfig_leaves true true a now = record { from = (giving_up_leaves (reconfig_expired a now)).from }
+reconfig_leaves true true a now = record { from = (giving_up_leaves (reconfig_expired a now) now).from }
 reconfig_leaves true false a now = record { from = active_repeated true a.resets.own.active }
 
 ack_delay_leaves : (expired : Bool) (a : Shown) (now : ℕ) → (expiry_of names.Ack now a.timers).expired ≡ expired
@@ -299,11 +305,16 @@ not_refused_else true e o h = h
 not_refused_else false e o h = absurd (true≢false (ap (λ (z : Option Error). is_some z) h))
 
 -- a stream that is being reset is blocked
-asked_active : (active : Option SentRequest) (waits : Bool) (queued : List OwnRequest) (id : ℕ)
-    → is_reset_by active id ≡ true → (waits || list_any (resets id) (open_with active queued)) ≡ true
-asked_active None waits queued id e = absurd (false≢true e)
-asked_active (Some s) true queued id e = refl
-asked_active (Some s) false queued id e = rw e refl
+asked_if : (waits first later ahead : Bool) → first ≡ true → (waits || ((first || later) || ahead)) ≡ true
+asked_if true first later ahead e = refl
+asked_if false true later ahead e = refl
+asked_if false false later ahead e = absurd (false≢true e)
+
+asked_active : (active : Option SentRequest) (waits ahead : Bool) (queued : List OwnRequest) (id : ℕ)
+    → is_reset_by active id ≡ true → (waits || (list_any (resets id) (open_with active queued) || ahead)) ≡ true
+asked_active None waits ahead queued id e = absurd (false≢true e)
+asked_active (Some s) waits ahead queued id e =
+    asked_if waits (resets id s.request) (list_any (resets id) queued) ahead e
 
 blocked_if : (asked barred retires : Bool) → asked ≡ true → (asked || barred || retires) ≡ true
 blocked_if true barred retires e = refl
@@ -312,7 +323,7 @@ blocked_if false barred retires e = absurd (false≢true e)
 reset_is_blocked : (r : ResetsView) (id : ℕ) → is_reset_by r.own.active id ≡ true → is_blocked r id ≡ true
 reset_is_blocked r id e =
     blocked_if (is_asked_for r.own id) (bars r.debts id) (is_retiring r id)
-    (asked_active r.own.active (has_id id r.own.waiting) r.own.queued id e)
+    (asked_active r.own.active (has_id id r.own.waiting) (has_id id r.own.ahead) r.own.queued id e)
 
 unblocked_is_not_reset : (r : ResetsView) (id : ℕ) → is_blocked r id ≡ false → is_reset_by r.own.active id ≡ false
 unblocked_is_not_reset r id free =

@@ -54,7 +54,8 @@ use Rattle.sctp_outbound_queue.specs.Message.{is_expired_unsent, picks, room_tak
 use Rattle.sctp_outbound_queue.specs.declared.message.Retransmission.{Retransmission}
 use Rattle.sctp_outbound_queue.specs.declared.message.Retransmission.TheVariants as causes
 use Rattle.sctp_assoc.specs.Happened.{acts_of_marks, acts_of_new, acts_of_outcome, acts_of_resending, acts_of_sending}
-use Rattle.sctp_assoc.specs.Happened.{first_again, first_sent, marks_if}
+use Rattle.sctp_assoc.specs.Happened.{first_again, first_sent, known_unless, marks_if}
+use Rattle.sctp_assoc.specs.Handshake.{keeps_peer}
 use Rattle.sctp_assoc.specs.Probes.{is_probing, opens_window}
 use Rattle.sctp_assoc.specs.Timeouts.{after_shutdown_timer}
 use Rattle.sctp_sides.specs.SideLaws.{GivesNew, GivesUpOrAgain}
@@ -240,10 +241,16 @@ coming_back_if : (waits back : Bool) (init : ChunkInit)
 coming_back_if true back init = peer_known_if back init
 coming_back_if false back init = inl refl
 
+known_peer_if : (begins keeps : Bool) (init : ChunkInit)
+    → IsPeerKnown init (if begins then known_unless keeps init.initial_tsn else [])
+known_peer_if true true init = inl refl
+known_peer_if true false init = inr refl
+known_peer_if false keeps init = inl refl
+
 checked_init : (r : Result (Unit {0}) Error) (a : Shown) (header : CommonHeader) (init : ChunkInit)
     → IsPeerKnown init (acts_of_checked r a header (chunks.Init init))
 checked_init (Err fault) a header init = inl refl
-checked_init (Ok done) a header init = peer_known_if (is_beginning a.state) init
+checked_init (Ok done) a header init = known_peer_if (is_beginning a.state) (keeps_peer a init) init
 
 checked_init_ack : (r : Result (Unit {0}) Error) (a : Shown) (header : CommonHeader) (init : ChunkInit)
     → IsPeerKnown init (acts_of_checked r a header (chunks.InitAck init))

@@ -42,6 +42,7 @@ use Rattle.sctp_assoc.specs.Happened.{acts_of_forward}
 use Rattle.sctp_assoc.specs.Happened.{acts_of_forwarding, acts_of_found, acts_of_hidden, acts_of_kind, acts_of_outcome}
 use Rattle.sctp_assoc.specs.Happened.{acts_of_packet, acts_of_packet_of, acts_of_poll, acts_of_read}
 use Rattle.sctp_assoc.specs.Happened.{acts_of_skips_behind, acts_of_stop, acts_of_stream, acts_of_taking}
+use Rattle.sctp_assoc.specs.Handshake.{keeps_peer}
 use Rattle.sctp_assoc.specs.Happened.{acts_of_timeouts, acts_unless_faulty, acts_unless_refused, forwards_of_poll}
 use Rattle.sctp_assoc.specs.Probes.{is_probing, opens_window}
 use Rattle.sctp_assoc.specs.ResetActs.{acts_of_draining, acts_of_keeping, acts_of_kept_skips, acts_of_reconfig}
@@ -50,6 +51,7 @@ use Rattle.sctp_assoc.specs.Resets.{skips_applied_of}
 use Rattle.sctp_assoc.specs.Shown.{Shown, all_waiting}
 use Rattle.sctp_assoc.specs.Shutdown.{completes_shutdown}
 use Rattle.sctp_assoc.specs.Skipping.{skips_of, with_passed, with_skips}
+use Rattle.sctp_assoc.proofs.HandshakeFacts.{known_all}
 use Rattle.sctp_assoc.proofs.StreamsFound.{finding_opens}
 use Rattle.sctp_sides.specs.Intake.{IsEndOfSpans}
 use Rattle.sctp_sides.specs.SideLaws.{GivesNew, GivesUpOrAgain}
@@ -170,7 +172,8 @@ kind_writes_nothing a header (chunks.SelectiveAck sack) =
     give_if IsNoWrite (sends_data a.state) _ []
     (outcomes_write_nothing _ _ sack.gap_ack_blocks _
     (opens_window (is_probing a.profile a.sender) sack.advertised_receiver_window_credit)) tt
-kind_writes_nothing a header (chunks.Init init) = give_if IsNoWrite (is_beginning a.state) _ [] (tt, tt) tt
+kind_writes_nothing a header (chunks.Init init) =
+    give_if IsNoWrite (is_beginning a.state) _ [] (known_all IsNoWrite (keeps_peer a init) init.initial_tsn tt) tt
 kind_writes_nothing a header (chunks.InitAck init) =
     give_if IsNoWrite (is_cookie_wait a.state) _ []
     (give_if IsNoWrite (comes_back a.handshake header) _ [] (tt, tt) tt) tt

@@ -1,8 +1,8 @@
 -- What is so of the live streams, where each change of streams keeps it, stays so over polls for packets and timeouts.
-use Rattle.std.proofs.Common.{◌≡◌, refl, sym, subst, ℕ, Bool, true, false, if◌then◌else◌, Option, Some, None}
+use Rattle.std.proofs.Common.{◌≡◌, refl, sym, subst, ℕ, Bool, true, false, if◌then◌else◌, Option, Some, None, is_some}
 use Rattle.sctp_wire_types.specs.declared.error.Error.TheVariants as errors
 use Rattle.sctp_parts.specs.declared.timer.Timer.TheVariants as names
-use Rattle.sctp_parts.specs.Timers.{expiry_of, started}
+use Rattle.sctp_parts.specs.Timers.{expiry_of, started, with_stopped}
 use Rattle.sctp_streams.specs.declared.event.AssociationError.TheVariants as reasons
 use Rattle.sctp_inbound.specs.declared.handshake.Offer.{Offer}
 use Rattle.sctp_streams.specs.Streams.{StreamMap}
@@ -11,7 +11,7 @@ use Rattle.sctp_assoc.specs.Calls.{after_ack_delay, after_t3, exchanges_data, re
 use Rattle.sctp_assoc.specs.Gather.{control_polled, data_after, data_polled, open_polled, polled}
 use Rattle.sctp_assoc.specs.Handshake.{after_t1_cookie, after_t1_init, init_queued, sends_cookie, sends_init}
 use Rattle.sctp_assoc.specs.Handshake.{t1_cookie_expired, t1_init_expired}
-use Rattle.sctp_assoc.specs.Resets.{after_reconfig_timer, asks_again, gives_up, reconfig_expired, with_beside}
+use Rattle.sctp_assoc.specs.Resets.{after_reconfig_timer, asks_again, gives_up, goes_on, reconfig_expired, with_beside}
 use Rattle.sctp_assoc.specs.Resets.{with_reconfig_run}
 use Rattle.sctp_assoc.specs.Shown.{Shown}
 use Rattle.sctp_assoc.specs.Shutdown.{after_t2_shutdown}
@@ -118,19 +118,28 @@ module _ (P : StreamMap → Type 0) (law : IsKept P) where
   t3_kept true true a now = same_kept P a _ refl
   t3_kept true false a now = same_kept P a _ refl
 
-  gives_up_kept : (a : Shown) → Keeps P a (gives_up a)
-  gives_up_kept a =
+  goes_on_kept_if : (active : Bool) (a : Shown) (now : ℕ)
+      → Keeps P a
+      (if active then asks_again a now else record a { timers = with_stopped names.Reconfig a.timers })
+  goes_on_kept_if true a now = same_kept P a _ refl
+  goes_on_kept_if false a now = same_kept P a _ refl
+
+  goes_on_kept : (a : Shown) (now : ℕ) → Keeps P a (goes_on a now)
+  goes_on_kept a now = goes_on_kept_if (is_some a.resets.own.active) a now
+
+  gives_up_kept : (a : Shown) (now : ℕ) → Keeps P a (gives_up a now)
+  gives_up_kept a now =
       let x = given_up a.resets a.streams a.events in
       then_kept P (beside_kept P a x (given_up_holds P law a.resets a.streams a.events))
-      (same_kept P (with_beside a x) (gives_up a) refl)
+      (goes_on_kept (with_beside a x) now)
 
   reconfig_kept : (expired failure : Bool) (a : Shown) (now : ℕ)
       → Keeps P a
-      (if expired then (if failure then gives_up (reconfig_expired a now) else asks_again (reconfig_expired a now) now)
-      else a)
+      (if expired then
+      (if failure then gives_up (reconfig_expired a now) now else asks_again (reconfig_expired a now) now) else a)
   reconfig_kept false failure a now = stays_kept P a
   reconfig_kept true true a now =
-      let b : Shown = reconfig_expired a now in then_kept P (same_kept P a b refl) (gives_up_kept b)
+      let b : Shown = reconfig_expired a now in then_kept P (same_kept P a b refl) (gives_up_kept b now)
   reconfig_kept true false a now = same_kept P a _ refl
 
   ack_delay_kept : (expired : Bool) (a : Shown) (now : ℕ) → (expiry_of names.Ack now a.timers).expired ≡ expired

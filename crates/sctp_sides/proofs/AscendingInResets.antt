@@ -2,6 +2,7 @@
 use Rattle.std.proofs.Common.{refl, ℕ, zero, suc, ◌&&◌, Bool, true, false, not, cond}
 use Rattle.std.proofs.Common.{List, [], ◌∷◌, fold, filter, Option, Some, None, is_some}
 use Rattle.std.proofs.Common.{Result, Ok, Err}
+use Rattle.sctp_wire_types.specs.Config.{is_rfc}
 use Rattle.sctp_wire_types.specs.declared.chunk.ChunkPayloadData.{ChunkPayloadData}
 use Rattle.sctp_wire_types.specs.declared.error.Error.{Error}
 use Rattle.sctp_wire_types.specs.declared.event.StreamResetError.{StreamResetError}
@@ -19,8 +20,8 @@ use Rattle.sctp_generations.specs.declared.retirement.Retirement.{Retirement}
 use Rattle.sctp_generations.specs.declared.retirement.Retirement.TheVariants as retirements
 use Rattle.sctp_generations.specs.declared.skips.KeptSkip.{KeptSkip}
 use Rattle.sctp_generations.specs.Generations.{GenerationsView, after_given_to, after_skips_given_to, discarded}
-use Rattle.sctp_generations.specs.Generations.{drained, given_to, given_to_all, has_skips, retired, retirement_of}
-use Rattle.sctp_generations.specs.Generations.{skips_given_to, without_newest_of}
+use Rattle.sctp_generations.specs.Generations.{drained, given_to, given_to_all, has_newest, has_skips, retired}
+use Rattle.sctp_generations.specs.Generations.{retirement_of, skips_given_to, without_newest_of}
 use Rattle.sctp_generations.specs.Retiring.{count_at}
 use Rattle.sctp_generations.specs.Skips.{skip_ids}
 use Rattle.sctp_reset_requests.specs.declared.answer.Standing.{Standing}
@@ -41,12 +42,13 @@ use Rattle.sctp_resets.specs.Channels.{Channels, channels, delivered, given_unle
 use Rattle.sctp_resets.specs.Channels.{is_write_half_closed, with_new_stream}
 use Rattle.sctp_resets.specs.Draining.{Reading, ended, next_generation_read, passed_once, passed_times, passed_where}
 use Rattle.sctp_resets.specs.Draining.{skipped_over, with_write_half, write_half_kept}
-use Rattle.sctp_resets.specs.Performing.{Performing, is_drained, named_live, performing, retired_as, retired_each}
-use Rattle.sctp_resets.specs.Performing.{retired_next, retired_one, with_retired}
+use Rattle.sctp_resets.specs.Performing.{Performing, answered_in, is_drained, named_in, named_live, performing}
+use Rattle.sctp_resets.specs.Performing.{retired_as, retired_each, retired_next, retired_one, with_retired}
 use Rattle.sctp_resets.specs.Resets.{Beside, ResetsView, Resetting, all_released, arrived_with, confirmed_by}
-use Rattle.sctp_resets.specs.Resets.{confirmed_where, ended_as_answered, ended_unless}
-use Rattle.sctp_resets.specs.Resets.{given_up, given_up_where, handled, handled_after, is_blocked, performed}
-use Rattle.sctp_resets.specs.Resets.{performed_with, read_out, request_over, responded, settled, settled_where}
+use Rattle.sctp_resets.specs.Resets.{confirmed_where, dropped, ended_as_answered, ended_unless, given_up}
+use Rattle.sctp_resets.specs.Resets.{given_up_for_now, given_up_where, handled, handled_after, is_blocked}
+use Rattle.sctp_resets.specs.Resets.{own_answered, performed, performed_with, read_out, request_over, reset_or_ended}
+use Rattle.sctp_resets.specs.Resets.{responded, settled, settled_where}
 use Rattle.sctp_resets.specs.Resets.{skips_done, skips_done_in, skips_done_of, stopped_reading, with_channels}
 use Rattle.sctp_resets.specs.Resets.{with_generations}
 use Rattle.sctp_resets.specs.Skips.{Skipping, end_of_skip, skip_tried, skips_applied, skips_applied_of}
@@ -178,12 +180,17 @@ module _ (P : StreamMap → Type 0) (law : IsKept P) where
       → InResetting (all_released first limit r c)
   all_released_hold first limit r c h = all_delivered_hold first limit (given_to_all r.generations) c h
 
-  performed_with_holds : (q : PeerRequestView) (first limit : ℕ) (r : ResetsView) (to_accept : List ℕ)
+  -- the ends that a request brings are told, and no stream changes
+  answered_holds : (o : OwnView) (named : List ℕ) (x : Performing × List ℕ) → InPerforming x.0
+      → InPerforming (answered_in o named x).0
+  answered_holds o named (p, ids) h = h
+
+  performed_with_holds : (q : PeerRequestView) (first limit : ℕ) (r : ResetsView) (to_accept named : List ℕ)
       (p : Performing × List ℕ) → InPerforming p.0
-      → InResetting (performed_with q first limit r to_accept p).0
-  performed_with_holds q first limit r to_accept (p, ids) h =
+      → InResetting (performed_with q first limit r to_accept named p).0
+  performed_with_holds q first limit r to_accept named (p, ids) h =
       all_released_hold first limit (record r {
-        own = own.reciprocated r.own q ids;
+        own = own_answered q named ids r.own;
         debts = p.debts;
         generations = without_newest_of p.generations q.ids;
       }) (channels p.streams p.events to_accept) h
@@ -192,10 +199,12 @@ module _ (P : StreamMap → Type 0) (law : IsKept P) where
       → InResetting (performed q first limit r c).0
   unfolding performed
   performed_holds q first limit r c h =
-      performed_with_holds q first limit r c.to_accept
-      (retired_each q (performing r.generations r.debts c.streams c.events))
+      let named = named_in r.own c.streams q in
+      let x = retired_each q (performing r.generations r.debts c.streams c.events) in
+      performed_with_holds q first limit r c.to_accept named (answered_in r.own named x)
+      (answered_holds r.own named x
       (all_retired_hold q.last_tsn (named_live c.streams q)
-      (performing r.generations r.debts c.streams c.events, []) h)
+      (performing r.generations r.debts c.streams c.events, []) h))
 
   pub settled_holds : (t first limit : ℕ) (r : ResetsView) (c : Channels) → P c.streams
       → P (settled t first limit r c).0.1.streams
@@ -213,28 +222,31 @@ module _ (P : StreamMap → Type 0) (law : IsKept P) where
 
   -- A request of this side ends
 
-  completed_holds : (owed : Bool) (d : DebtsView) (a : Answering) (id : ℕ) → P a.streams
-      → P (completed_with (d, owed) a id).streams
-  completed_holds owed d a id h = by owed
+  completed_holds : (by_rfcs owed : Bool) (d : DebtsView) (a : Answering) (id : ℕ) → P a.streams
+      → P (completed_with by_rfcs (d, owed) a id).streams
+  completed_holds by_rfcs owed d a id h = by owed
     where
       changed : (b : Bool) → P (ended_or_restarted b (record a { debts = d }) id).streams
       changed b =
           of_chosen (λ (n : Answering). P n.streams) (b && is_read_half_closed a.streams id) _ _
           (law.end_one a.streams id h) (law.change with_restarted_ssn (λ u. refl) a.streams id h)
 
-      by : (b : Bool) → P (complete_told b (ended_or_restarted b (record a { debts = d }) id) id).streams
-      by true = changed true
+      by : (b : Bool)
+          → P (complete_told b (ended_or_restarted (b && not by_rfcs) (record a { debts = d }) id) id).streams
+      by true = changed (not by_rfcs)
       by false = changed false
 
-  all_completed_hold : (ids : List ℕ) (a : Answering) → P a.streams → P (fold completed_one a ids).streams
-  all_completed_hold [] a h = h
-  all_completed_hold (id ∷ ids) a h =
-      all_completed_hold ids (completed_one a id)
-      (completed_holds (debts.settled a.debts id).1 (debts.settled a.debts id).0 a id h)
+  all_completed_hold : (by_rfcs : Bool) (ids : List ℕ) (a : Answering) → P a.streams
+      → P (fold (completed_one by_rfcs) a ids).streams
+  all_completed_hold by_rfcs [] a h = h
+  all_completed_hold by_rfcs (id ∷ ids) a h =
+      all_completed_hold by_rfcs ids (completed_one by_rfcs a id)
+      (completed_holds by_rfcs (debts.settled a.debts id).1 (debts.settled a.debts id).0 a id h)
 
   over_holds : (outcome : Result (Unit {0}) StreamResetError) (q : OwnRequest) (r : ResetsView) (m : StreamMap)
       (told : List Event) → P m → InBeside (request_over outcome q r m told)
-  over_holds (Ok done) q r m told h = all_completed_hold q.ids (answering r.debts m told) h
+  over_holds (Ok done) q r m told h =
+      all_completed_hold (is_rfc r.own.profile) q.ids (answering r.debts m told) h
   over_holds (Err reason) q r m told h = h
 
   as_answered_holds : (o : OwnView) (a : Answered) (r : ResetsView) (m : StreamMap) (told : List Event) → P m
@@ -250,7 +262,9 @@ module _ (P : StreamMap → Type 0) (law : IsKept P) where
       as_answered_holds (own.answered r.own response).0 (own.answered r.own response).1 r m told h
 
   pub given_up_holds : (r : ResetsView) (m : StreamMap) (told : List Event) → P m → P (given_up r m told).1
-  given_up_holds r m told h = by (own.ended r.own).1
+  given_up_holds r m told h =
+      of_chosen InBeside (is_rfc r.own.profile) (given_up_for_now r m told)
+      (given_up_where (own.ended r.own) r m told) h (by (own.ended r.own).1)
     where
       by : (q : Option OwnRequest) → InBeside (given_up_where ((own.ended r.own).0, q) r m told)
       by None = h
@@ -348,17 +362,24 @@ module _ (P : StreamMap → Type 0) (law : IsKept P) where
   read_out_holds first limit id r c h =
       all_passed_hold first limit id (boundary_of r.peer id) (count_at r.generations.retiring id) (r.generations, c) h
 
+  -- the stream stays or ends, by the rules of the RFCs and by those of the port
+  dropped_holds : (more : Bool) (r : ResetsView) (id : ℕ) (m : StreamMap) (told : List Event) → P m
+      → InBeside (dropped more r id m told)
+  dropped_holds more r id m told h =
+      of_chosen InBeside (is_rfc r.own.profile) (reset_or_ended more r id m told)
+      (ended_unless (is_blocked r id) r id m told) (by_rfcs more) (by_port (is_blocked r id))
+    where
+      by_rfcs : (resets : Bool) → InBeside (reset_or_ended resets r id m told)
+      by_rfcs true = h
+      by_rfcs false = law.end_one m id h
+
+      by_port : (blocked : Bool) → InBeside (ended_unless blocked r id m told)
+      by_port true = h
+      by_port false = law.end_one m id h
+
   pub stopped_reading_holds : (id : ℕ) (r : ResetsView) (m : StreamMap) (told : List Event) → P m
       → P (stopped_reading id r m told).1
   stopped_reading_holds id r m told h =
-      by (is_blocked (with_generations r (discarded r.generations id)) id)
-    where
-      emptied : P (changed_stream without_unread m id)
-      emptied = law.change without_unread (λ u. refl) m id h
-
-      by : (blocked : Bool)
-          → InBeside
-          (ended_unless blocked (with_generations r (discarded r.generations id)) id
-          (changed_stream without_unread m id) (filter (λ e. not (is_told_of id e)) told))
-      by true = emptied
-      by false = law.end_one (changed_stream without_unread m id) id emptied
+      dropped_holds (has_newest r.generations id) (with_generations r (discarded r.generations id)) id
+      (changed_stream without_unread m id) (filter (λ e. not (is_told_of id e)) told)
+      (law.change without_unread (λ u. refl) m id h)

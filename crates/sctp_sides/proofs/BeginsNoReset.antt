@@ -27,7 +27,7 @@ use Rattle.sctp_streams.specs.Streams.{stream_at}
 use Rattle.sctp_inbound.specs.declared.handshake.Offer.{Offer}
 use Rattle.sctp_inbound.specs.declared.receiver.AckTrigger.{AckTrigger}
 use Rattle.sctp_inbound.specs.Greeting.{first_cookie, information_of}
-use Rattle.sctp_inbound.specs.Handshake.{comes_back, has_issued, header_of}
+use Rattle.sctp_inbound.specs.Handshake.{comes_back, has_issued, header_of, learned_by_init}
 use Rattle.sctp_wire.specs.DataPackets.{datagrams_of}
 use Rattle.sctp_inbound.specs.Receiver.{admits, is_new_to, taken_to}
 use Rattle.sctp_outbound.specs.declared.sender.SackOutcome.{SackOutcome}
@@ -43,9 +43,9 @@ use Rattle.sctp_resets.specs.Telling.{debts_told, next_told}
 use Rattle.sctp_assoc.specs.declared.inbound.Flow.{Flow}
 use Rattle.sctp_assoc.specs.Calls.{accepted_from, after_ack_delay, after_read, after_t3, credit_in, drained_behind}
 use Rattle.sctp_assoc.specs.Calls.{eased, event_from, exchanges_data}
-use Rattle.sctp_assoc.specs.Calls.{is_beginning, is_cookie_echoed, is_cookie_wait, is_established, retransmits}
+use Rattle.sctp_assoc.specs.Calls.{is_beginning, is_cookie_echoed, is_cookie_wait, retransmits}
 use Rattle.sctp_assoc.specs.Calls.{sends_data}
-use Rattle.sctp_assoc.specs.Shutdown.{shutdown_answered, shutdown_continued, shutdown_taken}
+use Rattle.sctp_assoc.specs.Shutdown.{shutdown_again, shutdown_answered, shutdown_continued, shutdown_taken}
 use Rattle.sctp_assoc.specs.Calls.{t3_expired, tells_window, told_if, written_at}
 use Rattle.sctp_assoc.specs.Chunks.{after_sack, asks, asks_or_faults, checked_first, counted_data, counted_sack}
 use Rattle.sctp_assoc.specs.Chunks.{deferred_where_admitted, dispatched, goes_unread, left_or_handed_over, on_chunk}
@@ -59,12 +59,13 @@ use Rattle.sctp_assoc.specs.Gather.{ack_after, ack_polled, after_both, data_afte
 use Rattle.sctp_assoc.specs.Gather.{exchange_polled, forward_after, forward_polled, is_due, open_polled}
 use Rattle.sctp_assoc.specs.Gather.{reconfig_run_after, requests_after}
 use Rattle.sctp_assoc.specs.Gather.{requests_polled, without_control}
-use Rattle.sctp_assoc.specs.Handshake.{after_t1_cookie, after_t1_init, connected, cookie_queued, echoed}
-use Rattle.sctp_assoc.specs.Handshake.{information_returned, init_queued, learned, on_cookie_ack, on_cookie_echo}
+use Rattle.sctp_assoc.specs.Handshake.{acknowledges_again, after_t1_cookie, after_t1_init, connected, cookie_queued}
+use Rattle.sctp_assoc.specs.Handshake.{echoed, information_returned, init_queued, keeps_peer, learned}
+use Rattle.sctp_assoc.specs.Handshake.{learned_unless, on_cookie_ack, on_cookie_echo}
 use Rattle.sctp_assoc.specs.Handshake.{on_heartbeat, on_init, on_init_ack, sends_cookie, sends_init}
 use Rattle.sctp_assoc.specs.Handshake.{t1_cookie_expired, t1_init_expired}
 use Rattle.sctp_assoc.specs.Probes.{is_probing}
-use Rattle.sctp_assoc.specs.Resets.{asks_again, after_reconfig_timer, gives_up, reconfig_expired, settled}
+use Rattle.sctp_assoc.specs.Resets.{asks_again, after_reconfig_timer, gives_up, goes_on, reconfig_expired, settled}
 use Rattle.sctp_assoc.specs.Resets.{with_beside, with_reconfig_run}
 use Rattle.sctp_assoc.specs.Shown.{Shown, all_waiting}
 use Rattle.sctp_assoc.specs.Shutdown.{after_t2_shutdown}
@@ -91,6 +92,7 @@ same_resets a b resets control = λ n. record {
   waiting = ap (λ (r : ResetsView). r.own.waiting) resets ∙ n.waiting;
   queued = ap (λ (r : ResetsView). r.own.queued) resets ∙ n.queued;
   active = ap (λ (r : ResetsView). r.own.active) resets ∙ n.active;
+  ahead = ap (λ (r : ResetsView). r.own.ahead) resets ∙ n.ahead;
   in_progress = ap (λ (r : ResetsView). r.peer.in_progress) resets ∙ n.in_progress;
   owed = ap (λ (r : ResetsView). r.debts) resets ∙ n.owed;
   kept = ap (λ (r : ResetsView). r.generations) resets ∙ n.kept;
@@ -104,6 +106,7 @@ waits_under header a chunk plain = λ n. record {
   waiting = n.waiting;
   queued = n.queued;
   active = n.active;
+  ahead = n.ahead;
   in_progress = n.in_progress;
   owed = n.owed;
   kept = n.kept;
@@ -119,6 +122,7 @@ none_waits a = λ n. record {
   waiting = n.waiting;
   queued = n.queued;
   active = n.active;
+  ahead = n.ahead;
   in_progress = n.in_progress;
   owed = n.owed;
   kept = n.kept;
@@ -146,6 +150,7 @@ created_sides_reset_nothing None config size tag initial_tsn cookie remote_addr 
       waiting = refl;
       queued = refl;
       active = refl;
+      ahead = refl;
       in_progress = refl;
       owed = refl;
       kept = refl;
@@ -155,6 +160,7 @@ created_sides_reset_nothing (Some of_server) config size tag initial_tsn cookie 
   waiting = refl;
   queued = refl;
   active = refl;
+  ahead = refl;
   in_progress = refl;
   owed = refl;
   kept = refl;
@@ -166,6 +172,7 @@ joined_sides_reset_nothing config size remote_addr local_ip own peer = record {
   waiting = refl;
   queued = refl;
   active = refl;
+  ahead = refl;
   in_progress = refl;
   owed = refl;
   kept = refl;
@@ -215,6 +222,7 @@ closed_if false a reason = λ n. record {
   waiting = refl;
   queued = refl;
   active = refl;
+  ahead = refl;
   in_progress = refl;
   owed = refl;
   kept = refl;
@@ -318,23 +326,31 @@ t3_none false failure a now = λ n. n
 t3_none true true a now = same_resets a _ refl refl
 t3_none true false a now = same_resets a _ refl refl
 
-gives_up_none : (a : Shown) → BeginsNoReset a (gives_up a)
-gives_up_none a = λ n.
-    let left : gives_up a ≡ record a { timers = with_stopped names.Reconfig a.timers } =
-    ap (λ (x : Beside). (let b = with_beside a x in record b { timers = with_stopped names.Reconfig b.timers }))
+asks_again_none : (a : Shown) (now : ℕ) → BeginsNoReset a (asks_again a now)
+asks_again_none a now = λ n. same_resets a (asks_again a now) (no_request_expires a.resets n.active) refl n
+
+goes_on_none : (active : Bool) (a : Shown) (now : ℕ)
+    → BeginsNoReset a
+    (if active then asks_again a now else record a { timers = with_stopped names.Reconfig a.timers })
+goes_on_none true a now = asks_again_none a now
+goes_on_none false a now = same_resets a _ refl refl
+
+gives_up_none : (a : Shown) (now : ℕ) → BeginsNoReset a (gives_up a now)
+gives_up_none a now = λ n.
+    let left : gives_up a now ≡ goes_on a now =
+    ap (λ (x : Beside). goes_on (with_beside a x) now)
     (no_request_is_given_up a.resets a.streams a.events n.active) in
-    subst HasNoReset (sym left)
-    (same_resets a (record a { timers = with_stopped names.Reconfig a.timers }) refl refl n)
+    subst HasNoReset (sym left) (goes_on_none (is_some a.resets.own.active) a now n)
 
 reconfig_none : (expired failure : Bool) (a : Shown) (now : ℕ)
     → BeginsNoReset a
-    (if expired then (if failure then gives_up (reconfig_expired a now) else asks_again (reconfig_expired a now) now)
-    else a)
+    (if expired then
+    (if failure then gives_up (reconfig_expired a now) now else asks_again (reconfig_expired a now) now) else a)
 reconfig_none false failure a now = λ n. n
 reconfig_none true true a now = λ n.
-    gives_up_none (reconfig_expired a now) (same_resets a (reconfig_expired a now) refl refl n)
+    gives_up_none (reconfig_expired a now) now (same_resets a (reconfig_expired a now) refl refl n)
 reconfig_none true false a now = λ n.
-    same_resets a (asks_again (reconfig_expired a now) now) (no_request_expires a.resets n.active) refl n
+    asks_again_none (reconfig_expired a now) now (same_resets a (reconfig_expired a now) refl refl n)
 
 ack_delay_none : (expired : Bool) (a : Shown) (now : ℕ) → (expiry_of names.Ack now a.timers).expired ≡ expired
     → BeginsNoReset a (after_ack_delay a now)
@@ -536,19 +552,27 @@ sack_none true a cumulative_tsn_ack blocks window trigger now e =
     window trigger now (same_resets a (counted_sack a) refl refl n))
 sack_none false a cumulative_tsn_ack blocks window trigger now e = rw e (λ n. n)
 
+learned_none : (keeps : Bool) (a : Shown) (header : CommonHeader) (init : ChunkInit)
+    → BeginsNoReset a
+    (learned_unless keeps (record a { handshake = learned_by_init a.handshake header init }) init)
+learned_none true a header init = same_resets a _ refl refl
+learned_none false a header init = λ n. record {
+  waiting = n.waiting;
+  queued = n.queued;
+  active = n.active;
+  ahead = n.ahead;
+  in_progress = n.in_progress;
+  owed = n.owed;
+  kept = n.kept;
+  control = n.control;
+}
+
 init_none : (begins : Bool) (a : Shown) (header : CommonHeader) (init : ChunkInit) (trigger : AckTrigger)
     → is_beginning a.state ≡ begins → BeginsNoReset a (on_init a header init trigger).0
 unfolding on_init
 init_none true a header init trigger e =
-    rw e (λ n. one_more_waits (learned a header init) _ tt (record {
-      waiting = n.waiting;
-      queued = n.queued;
-      active = n.active;
-      in_progress = n.in_progress;
-      owed = n.owed;
-      kept = n.kept;
-      control = n.control;
-    }))
+    rw e
+    (λ n. one_more_waits (learned a header init) _ tt (learned_none (keeps_peer a init) a header init n))
 init_none false a header init trigger e = rw e (λ n. n)
 
 echoed_none : (o : Option (List ℕ)) (a : Shown) (trigger : AckTrigger) (now : ℕ)
@@ -565,6 +589,7 @@ init_ack_none true true a header init trigger now e f =
       waiting = n.waiting;
       queued = n.queued;
       active = n.active;
+      ahead = n.ahead;
       in_progress = n.in_progress;
       owed = n.owed;
       kept = n.kept;
@@ -573,14 +598,15 @@ init_ack_none true true a header init trigger now e f =
 init_ack_none true false a header init trigger now e f = rw (e, f) (same_resets a _ refl refl)
 init_ack_none false back a header init trigger now e f = rw e (λ n. n)
 
-cookie_echo_none : (issued begins established : Bool) (a : Shown) (cookie : List ℕ) (trigger : AckTrigger)
-    → has_issued a.handshake cookie ≡ issued → is_beginning a.state ≡ begins → is_established a.state ≡ established
+cookie_echo_none : (issued begins again : Bool) (a : Shown) (cookie : List ℕ) (trigger : AckTrigger)
+    → has_issued a.handshake cookie ≡ issued → is_beginning a.state ≡ begins → acknowledges_again a ≡ again
     → BeginsNoReset a (on_cookie_echo a cookie trigger).0
 unfolding on_cookie_echo
-cookie_echo_none false begins established a cookie trigger e f g = rw e (λ n. n)
-cookie_echo_none true true established a cookie trigger e f g =
+cookie_echo_none false begins again a cookie trigger e f g = rw e (λ n. n)
+cookie_echo_none true true again a cookie trigger e f g =
     rw (e, f) (λ n. one_more_waits (connected a) _ tt (same_resets a (connected a) refl refl n))
-cookie_echo_none true false true a cookie trigger e f g = rw (e, f, g) (one_more_waits a _ tt)
+cookie_echo_none true false true a cookie trigger e f g =
+    rw (e, f, g) (λ n. one_more_waits (shutdown_again a) _ tt (same_resets a (shutdown_again a) refl refl n))
 cookie_echo_none true false false a cookie trigger e f g = rw (e, f, g) (λ n. n)
 
 cookie_ack_none : (waits : Bool) (a : Shown) (trigger : AckTrigger) → is_cookie_echoed a.state ≡ waits
@@ -656,7 +682,7 @@ kind_none a header (chunks.Shutdown x) trigger now plain = same_resets a (shutdo
 kind_none a header chunks.ShutdownAck trigger now plain = same_resets a (shutdown_answered a) refl refl
 kind_none a header (chunks.Error x) trigger now plain = λ n. n
 kind_none a header (chunks.CookieEcho cookie) trigger now plain =
-    cookie_echo_none (has_issued a.handshake cookie) (is_beginning a.state) (is_established a.state) a cookie trigger
+    cookie_echo_none (has_issued a.handshake cookie) (is_beginning a.state) (acknowledges_again a) a cookie trigger
     refl refl refl
 kind_none a header chunks.CookieAck trigger now plain = cookie_ack_none (is_cookie_echoed a.state) a trigger refl
 kind_none a header chunks.ShutdownComplete trigger now plain = λ n. n

@@ -22,7 +22,7 @@ use Rattle.sctp_parts.specs.Estimate.{Estimate}
 use Rattle.sctp_streams.specs.Streams.{StreamMap, generation_left, is_readable_in, pushed_in, refusal_in, stream_at}
 use Rattle.sctp_inbound.specs.declared.receiver.AckTrigger.{AckTrigger}
 use Rattle.sctp_inbound.specs.Greeting.{first_cookie, information_of}
-use Rattle.sctp_inbound.specs.Handshake.{comes_back, has_issued, learned_by_init_ack}
+use Rattle.sctp_inbound.specs.Handshake.{comes_back, has_issued, learned_by_init, learned_by_init_ack}
 use Rattle.sctp_inbound.specs.Receiver.{admits, is_new_to, taken_to}
 use Rattle.sctp_outbound.specs.declared.progress.Progress.{Progress}
 use Rattle.sctp_outbound.specs.declared.sender.SackOutcome.{SackOutcome}
@@ -42,8 +42,8 @@ use Rattle.sctp_resets.proofs.KeptOver.{retiring_is_over, settled_over, skip_ove
 use Rattle.sctp_resets.proofs.KeptOver.{unordered_over}
 use Rattle.sctp_assoc.specs.declared.inbound.Flow.{Flow}
 use Rattle.sctp_assoc.specs.declared.inbound.Flow.TheVariants as flows
-use Rattle.sctp_assoc.specs.Calls.{is_beginning, is_cookie_echoed, is_cookie_wait, is_established, sends_data}
-use Rattle.sctp_assoc.specs.Shutdown.{shutdown_answered, shutdown_continued, shutdown_taken}
+use Rattle.sctp_assoc.specs.Calls.{is_beginning, is_cookie_echoed, is_cookie_wait, sends_data}
+use Rattle.sctp_assoc.specs.Shutdown.{shutdown_again, shutdown_answered, shutdown_continued, shutdown_taken}
 use Rattle.sctp_assoc.specs.Chunks.{after_sack, asks, asks_or_faults, checked_first, counted_data, counted_sack}
 use Rattle.sctp_assoc.specs.Chunks.{deferred, goes_unread, left_or_handed_over}
 use Rattle.sctp_assoc.specs.Chunks.{deferred_unless, deferred_where_admitted, dispatched, on_chunk, on_counted_sack}
@@ -52,8 +52,9 @@ use Rattle.sctp_assoc.specs.Chunks.{taken_where_admitted, then_skips, told, with
 use Rattle.sctp_assoc.specs.Closing.{is_exhausted}
 use Rattle.sctp_assoc.specs.Control.{asking, queued}
 use Rattle.sctp_assoc.specs.Finding.{found_for, stream_found}
-use Rattle.sctp_assoc.specs.Handshake.{connected, cookie_queued, echoed, information_returned, learned, learned_back}
-use Rattle.sctp_assoc.specs.Handshake.{on_cookie_ack, on_cookie_echo, on_heartbeat, on_init, on_init_ack, sends_cookie}
+use Rattle.sctp_assoc.specs.Handshake.{acknowledges_again, connected, cookie_queued, echoed, information_returned}
+use Rattle.sctp_assoc.specs.Handshake.{keeps_peer, learned, learned_back, learned_unless, on_cookie_ack}
+use Rattle.sctp_assoc.specs.Handshake.{on_cookie_echo, on_heartbeat, on_init, on_init_ack, sends_cookie}
 use Rattle.sctp_assoc.specs.Probes.{is_probing}
 use Rattle.sctp_assoc.specs.Resets.{after_param, asking_if, behind_first, behind_params, channels_of, handled_with}
 use Rattle.sctp_assoc.specs.Resets.{on_reconfig, on_request, on_response, responded_with, responding, settled}
@@ -336,9 +337,15 @@ module _ (over : ℕ → Bool) where
 
   -- The handshake, and HEARTBEAT
 
+  learned_unless_keeps : (kept : Bool) (a : Shown) (header : CommonHeader) (init : ChunkInit)
+      → KeepsPast over a
+      (learned_unless kept (record a { handshake = learned_by_init a.handshake header init }) init)
+  learned_unless_keeps true a header init = keeps_same a _ refl refl
+  learned_unless_keeps false a header init =
+      keeps_resets a _ (λ h. met_over over a.resets init.initial_tsn h) refl
+
   learned_keeps : (a : Shown) (header : CommonHeader) (init : ChunkInit) → KeepsPast over a (learned a header init)
-  learned_keeps a header init =
-      keeps_resets a (learned a header init) (λ h. met_over over a.resets init.initial_tsn h) refl
+  learned_keeps a header init = learned_unless_keeps (keeps_peer a init) a header init
 
   learned_back_keeps : (a : Shown) (header : CommonHeader) (init : ChunkInit)
       → KeepsPast over a (learned_back a header init)
@@ -384,14 +391,15 @@ module _ (over : ℕ → Bool) where
       rw e (back_keeps (comes_back a.handshake header) a header init trigger now)
   init_ack_keeps false a header init trigger now e = rw e (stays a)
 
-  cookie_echo_keeps : (issued begins established : Bool) (a : Shown) (cookie : List ℕ) (trigger : AckTrigger)
+  cookie_echo_keeps : (issued begins again : Bool) (a : Shown) (cookie : List ℕ) (trigger : AckTrigger)
       → has_issued a.handshake cookie ≡ issued → is_beginning a.state ≡ begins
-      → is_established a.state ≡ established → KeepsPast over a (on_cookie_echo a cookie trigger).0
+      → acknowledges_again a ≡ again → KeepsPast over a (on_cookie_echo a cookie trigger).0
   unfolding on_cookie_echo
-  cookie_echo_keeps false begins established a cookie trigger e f g = rw e (stays a)
-  cookie_echo_keeps true true established a cookie trigger e f g =
+  cookie_echo_keeps false begins again a cookie trigger e f g = rw e (stays a)
+  cookie_echo_keeps true true again a cookie trigger e f g =
       rw (e, f) (then_keeps (keeps_same a (connected a) refl refl) (keeps_queued (connected a) _ tt))
-  cookie_echo_keeps true false true a cookie trigger e f g = rw (e, f, g) (keeps_queued a _ tt)
+  cookie_echo_keeps true false true a cookie trigger e f g =
+      rw (e, f, g) (then_keeps (keeps_same a (shutdown_again a) refl refl) (keeps_queued (shutdown_again a) _ tt))
   cookie_echo_keeps true false false a cookie trigger e f g = rw (e, f, g) (stays a)
 
   cookie_ack_keeps : (waits : Bool) (a : Shown) (trigger : AckTrigger) → is_cookie_echoed a.state ≡ waits
@@ -537,7 +545,7 @@ module _ (over : ℕ → Bool) where
   dispatched_keeps a header chunks.ShutdownAck trigger now past = keeps_same a (shutdown_answered a) refl refl
   dispatched_keeps a header (chunks.Error x) trigger now past = stays a
   dispatched_keeps a header (chunks.CookieEcho cookie) trigger now past =
-      cookie_echo_keeps (has_issued a.handshake cookie) (is_beginning a.state) (is_established a.state) a cookie trigger
+      cookie_echo_keeps (has_issued a.handshake cookie) (is_beginning a.state) (acknowledges_again a) a cookie trigger
       refl refl refl
   dispatched_keeps a header chunks.CookieAck trigger now past =
       cookie_ack_keeps (is_cookie_echoed a.state) a trigger refl

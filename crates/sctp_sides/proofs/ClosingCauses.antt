@@ -14,7 +14,7 @@ use Rattle.sctp_parts.specs.declared.state.AssociationState.TheVariants as state
 use Rattle.sctp_inbound.specs.declared.receiver.AckTrigger.{AckTrigger}
 use Rattle.sctp_inbound.specs.declared.receiver.AckTrigger.TheVariants as triggers
 use Rattle.sctp_inbound.specs.Greeting.{first_cookie}
-use Rattle.sctp_inbound.specs.Handshake.{comes_back}
+use Rattle.sctp_inbound.specs.Handshake.{comes_back, learned_by_init}
 use Rattle.sctp_assoc.specs.declared.inbound.Flow.{Flow}
 use Rattle.sctp_assoc.specs.declared.inbound.Flow.TheVariants as flows
 use Rattle.sctp_assoc.specs.Leads.{Binds}
@@ -23,7 +23,7 @@ use Rattle.sctp_assoc.specs.Calls.{is_beginning, is_cookie_wait, sends_data}
 use Rattle.sctp_assoc.specs.Closing.{is_closed_state}
 use Rattle.sctp_sides.specs.Causes.{CausesClose, ClosingPacketsHaveCauses, IsCause, Reaches}
 use Rattle.sctp_assoc.specs.Chunks.{checked_first, counted_sack, dispatched, on_chunk, on_counted_sack, on_sack}
-use Rattle.sctp_assoc.specs.Handshake.{echoed, on_init, on_init_ack}
+use Rattle.sctp_assoc.specs.Handshake.{echoed, keeps_peer, learned_unless, on_init, on_init_ack}
 use Rattle.sctp_sides.specs.Laws.{faults_or, is_faulted, is_faulted_packet}
 use Rattle.sctp_assoc.specs.Shown.{Shown}
 use Rattle.sctp_assoc.proofs.CallsLeadOn.{chunk_leads}
@@ -50,12 +50,18 @@ open_state states.ShutdownPending n = refl
 open_state states.ShutdownReceived n = refl
 open_state states.ShutdownSent n = refl
 
+learned_state : (keeps : Bool) (b : Shown) (init : ChunkInit) → (learned_unless keeps b init).state ≡ b.state
+learned_state true b init = refl
+learned_state false b init = refl
+
 -- a fault leaves the state
 fault_leaves_init : (beginning : Bool) (a : Shown) (header : CommonHeader) (init : ChunkInit) (trigger : AckTrigger)
     (error : Error) → is_beginning a.state ≡ beginning
     → fault_of (on_init a header init trigger).1 ≡ Some error → (on_init a header init trigger).0.state ≡ a.state
 unfolding on_init
-fault_leaves_init true a header init trigger error e f = rw e refl
+fault_leaves_init true a header init trigger error e f =
+    rw e (learned_state (keeps_peer a init)
+    (record a { handshake = learned_by_init a.handshake header init }) init)
 fault_leaves_init false a header init trigger error e f = rw e refl
 
 fault_leaves_echo : (o : Option (List ℕ)) (b : Shown) (trigger : AckTrigger) (now : ℕ) (error : Error)

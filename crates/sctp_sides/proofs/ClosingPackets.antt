@@ -44,11 +44,12 @@ use Rattle.sctp_assoc.specs.declared.inbound.Flow.{Flow}
 use Rattle.sctp_assoc.specs.declared.inbound.Flow.TheVariants as flows
 use Rattle.sctp_assoc.specs.Calls.{is_beginning, is_cookie_echoed, is_cookie_wait}
 use Rattle.sctp_assoc.specs.Closing.{closed_by, is_closed_state}
-use Rattle.sctp_assoc.specs.Calls.{is_established, sends_data}
-use Rattle.sctp_assoc.specs.Shutdown.{all_acknowledged, shutdown_answered, shutdown_continued, shutdown_taken}
-use Rattle.sctp_assoc.specs.Shutdown.{state_at_shutdown}
-use Rattle.sctp_assoc.specs.Handshake.{acknowledged_cookie, answered, connected, echoed, information_returned, learned}
-use Rattle.sctp_assoc.specs.Handshake.{on_cookie_ack, on_cookie_echo, on_heartbeat, on_init, on_init_ack, sends_cookie}
+use Rattle.sctp_assoc.specs.Calls.{sends_data}
+use Rattle.sctp_assoc.specs.Shutdown.{all_acknowledged, shutdown_again, shutdown_answered, shutdown_continued}
+use Rattle.sctp_assoc.specs.Shutdown.{shutdown_taken, state_at_shutdown}
+use Rattle.sctp_assoc.specs.Handshake.{acknowledged_cookie, acknowledges_again, connected, echoed}
+use Rattle.sctp_assoc.specs.Handshake.{information_returned, keeps_peer, on_cookie_ack, on_cookie_echo}
+use Rattle.sctp_assoc.specs.Handshake.{on_heartbeat, on_init, on_init_ack, sends_cookie}
 use Rattle.sctp_assoc.specs.Chunks.{after_sack}
 use Rattle.sctp_assoc.specs.Chunks.{after_chunks, after_packet_of, asks_or_faults, checked_first, dispatched, goes_on}
 use Rattle.sctp_assoc.specs.Chunks.{goes_unread, left_or_handed_over}
@@ -480,11 +481,12 @@ shutdown_goes_on a =
 
 -- the handshake
 
-init_goes_on : (c : Bool) (a : Shown) (header : CommonHeader) (init : ChunkInit) (trigger : AckTrigger)
-    → is_beginning a.state ≡ c → StaysOpen a (on_init a header init trigger).0
+init_goes_on : (c kept : Bool) (a : Shown) (header : CommonHeader) (init : ChunkInit) (trigger : AckTrigger)
+    → is_beginning a.state ≡ c → keeps_peer a init ≡ kept → StaysOpen a (on_init a header init trigger).0
 unfolding on_init
-init_goes_on true a header init trigger e = rw e (stays a (answered (learned a header init)) refl refl refl)
-init_goes_on false a header init trigger e = rw e (stays a a refl refl refl)
+init_goes_on true true a header init trigger e f = rw (e, f) (stays a _ refl refl refl)
+init_goes_on true false a header init trigger e f = rw (e, f) (stays a _ refl refl refl)
+init_goes_on false kept a header init trigger e f = rw e (stays a a refl refl refl)
 
 echoed_goes_on : (o : Option (List ℕ)) (a b : Shown) (trigger : AckTrigger) (now : ℕ) → b.state ≡ a.state
     → b.lost ≡ a.lost → b.events ≡ a.events → StaysOpen a (echoed o b trigger now).0
@@ -510,16 +512,16 @@ connected_goes_on a b s l e = record {
   told = ap losses e ∙ tells a.events Connected refl;
 }
 
-cookie_echo_goes_on : (issued beginning established : Bool) (a : Shown) (cookie : List ℕ) (trigger : AckTrigger)
+cookie_echo_goes_on : (issued beginning again : Bool) (a : Shown) (cookie : List ℕ) (trigger : AckTrigger)
     → has_issued a.handshake cookie ≡ issued
-    → is_beginning a.state ≡ beginning → is_established a.state ≡ established
+    → is_beginning a.state ≡ beginning → acknowledges_again a ≡ again
     → StaysOpen a (on_cookie_echo a cookie trigger).0
 unfolding on_cookie_echo
-cookie_echo_goes_on false beginning established a cookie trigger e f g = rw e (stays a a refl refl refl)
-cookie_echo_goes_on true true established a cookie trigger e f g =
+cookie_echo_goes_on false beginning again a cookie trigger e f g = rw e (stays a a refl refl refl)
+cookie_echo_goes_on true true again a cookie trigger e f g =
     rw (e, f) (connected_goes_on a (acknowledged_cookie (connected a)) refl refl refl)
 cookie_echo_goes_on true false true a cookie trigger e f g =
-    rw (e, f, g) (stays a (acknowledged_cookie a) refl refl refl)
+    rw (e, f, g) (stays a (acknowledged_cookie (shutdown_again a)) refl refl refl)
 cookie_echo_goes_on true false false a cookie trigger e f g = rw (e, f, g) (stays a a refl refl refl)
 
 cookie_ack_goes_on : (c : Bool) (a : Shown) (trigger : AckTrigger) → is_cookie_echoed a.state ≡ c
@@ -544,7 +546,7 @@ kind_goes_on : (header : CommonHeader) (c : Chunk) (a : Shown) (trigger : AckTri
 kind_goes_on header (chunks.Data piece) a trigger now = remains_open a _ (on_data_goes_on a piece trigger)
 kind_goes_on header (chunks.SelectiveAck sack) a trigger now =
     sack_goes_on _ a sack.cumulative_tsn_ack sack.gap_ack_blocks sack.advertised_receiver_window_credit trigger now refl
-kind_goes_on header (chunks.Init x) a trigger now = init_goes_on _ a header x trigger refl
+kind_goes_on header (chunks.Init x) a trigger now = init_goes_on _ _ a header x trigger refl refl
 kind_goes_on header (chunks.InitAck x) a trigger now = init_ack_goes_on _ _ a header x trigger now refl refl
 kind_goes_on header (chunks.Heartbeat x) a trigger now = heartbeat_goes_on a x trigger
 kind_goes_on header (chunks.HeartbeatAck x) a trigger now = stays a a refl refl refl

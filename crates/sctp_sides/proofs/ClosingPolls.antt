@@ -6,7 +6,7 @@ use Rattle.sctp_wire_types.specs.declared.chunk.ChunkPayloadData.{ChunkPayloadDa
 use Rattle.sctp_wire_types.specs.declared.error.Error.TheVariants as errors
 use Rattle.sctp_wire_types.specs.declared.param.ParamOutgoingResetRequest.{ParamOutgoingResetRequest}
 use Rattle.sctp_parts.specs.declared.timer.Timer.TheVariants as names
-use Rattle.sctp_parts.specs.Timers.{TimerState, Timers, expiry_of, moment_of, started}
+use Rattle.sctp_parts.specs.Timers.{TimerState, Timers, expiry_of, moment_of, started, with_stopped}
 use Rattle.sctp_wire.specs.DataPackets.{datagrams_of}
 use Rattle.sctp_inbound.specs.declared.handshake.Offer.{Offer}
 use Rattle.sctp_inbound.specs.Handshake.{header_of}
@@ -260,18 +260,26 @@ beside_open : (a b : Shown) (x : Beside) → b.state ≡ a.state → b.lost ≡ 
     → DoesNotClose a (with_beside b x)
 beside_open a b (r, m, queued) s l e = record { state = s; lost = l; told = e }
 
+-- a request that is given up and is still active goes out again
+going_on_open : (active : Bool) (a : Shown) (now : ℕ)
+    → DoesNotClose a
+    (if active then asks_again a now else record a { timers = with_stopped names.Reconfig a.timers })
+going_on_open true a now = unclosed a (asks_again a now) refl refl refl
+going_on_open false a now = unclosed a _ refl refl refl
+
 -- requests that are given up are told as failed, which is no loss
-request_given_up_open : (a : Shown) (now : ℕ) → DoesNotClose a (gives_up (reconfig_expired a now))
+request_given_up_open : (a : Shown) (now : ℕ) → DoesNotClose a (gives_up (reconfig_expired a now) now)
 request_given_up_open a now =
     let b : Shown = reconfig_expired a now in
-    let m =
-    beside_open a b (given_up b.resets b.streams b.events) refl refl (given_up_tells b.resets b.streams b.events) in
-    record { state = m.state; lost = m.lost; told = m.told }
+    let x = given_up b.resets b.streams b.events in
+    let c : Shown = with_beside b x in
+    open_on a c (gives_up b now) (beside_open a b x refl refl (given_up_tells b.resets b.streams b.events))
+    (going_on_open (is_some c.resets.own.active) c now)
 
 reconfig_open : (expired failure : Bool) (a : Shown) (now : ℕ)
     → DoesNotClose a
     (if expired then
-    (if failure then gives_up (reconfig_expired a now) else asks_again (reconfig_expired a now) now) else a)
+    (if failure then gives_up (reconfig_expired a now) now else asks_again (reconfig_expired a now) now) else a)
 reconfig_open false failure a now = open_itself a
 reconfig_open true true a now = request_given_up_open a now
 reconfig_open true false a now = unclosed a (asks_again (reconfig_expired a now) now) refl refl refl

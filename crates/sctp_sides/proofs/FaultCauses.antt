@@ -1,7 +1,7 @@
 -- A chunk is a fault, or ends a shutdown, exactly where it has one of the causes that are named; a packet closes an
 -- association only by such a cause.
 use Rattle.std.proofs.Common.{◌≡◌, ◌≢◌, ◌⊎◌, ⊎_elim, refl, sym, ap, ◌∙◌, inl, inr, ℕ, ◌<◌, ◌≤◌, ◌+◌, ◌-◌, ◌%◌, ◌^◌}
-use Rattle.std.proofs.Common.{arith, Bool}
+use Rattle.std.proofs.Common.{arith, Bool, ◌&&◌}
 use Rattle.std.proofs.Common.{true, false, eqb, leb, ltb, if◌then◌else◌, List, length, Option, Some, None, is_some}
 use Rattle.std.proofs.Common.{Result, Ok, Err, is_ok, subst}
 use Rattle.std.proofs.lemmas.Bool.{and_from, and_parts, eq-eqb, eqb-true, false≢true, le-leb, le-ltb, leb-true, lt-ltb}
@@ -15,6 +15,7 @@ use Rattle.sctp_wire_types.specs.declared.chunk.ChunkInit.{ChunkInit}
 use Rattle.sctp_wire_types.specs.declared.chunk.ChunkPayloadData.{ChunkPayloadData}
 use Rattle.sctp_wire_types.specs.declared.error.Error.{Error}
 use Rattle.sctp_wire_types.specs.declared.error.Error.TheVariants as errors
+use Rattle.sctp_wire_types.specs.Config.{is_rfc}
 use Rattle.sctp_wire_types.specs.declared.packet.CommonHeader.{CommonHeader}
 use Rattle.sctp_parts.specs.declared.state.AssociationState.{AssociationState}
 use Rattle.sctp_parts.specs.declared.state.AssociationState.TheVariants as states
@@ -31,12 +32,14 @@ use Rattle.sctp_wire_types.specs.declared.chunk.ChunkSelectiveAck.{ChunkSelectiv
 use Rattle.sctp_assoc.specs.Leads.{Binds}
 use Rattle.sctp_directions.specs.Acts.{History}
 use Rattle.sctp_fit.specs.Incoming.{tsn_before}
-use Rattle.sctp_assoc.specs.Calls.{is_beginning, is_cookie_echoed, is_cookie_wait, is_established, sends_data}
+use Rattle.sctp_assoc.specs.Calls.{is_beginning, is_cookie_echoed, is_cookie_wait, sends_data}
 use Rattle.sctp_sides.specs.Causes.{AcknowledgesTheUnsent, BringsNoCookie, EndsThePacket, FaultsAreCauses}
 use Rattle.sctp_sides.specs.Causes.{FitsNoMessage, IsCause}
 use Rattle.sctp_sides.specs.Causes.{IsBeyondTheSent, IsCauseOfItsKind, IsPastTheHandshake, NamesNoPiece}
 use Rattle.sctp_assoc.specs.Chunks.{checked_first, dispatched, on_chunk, on_counted_sack, on_data, on_sack}
-use Rattle.sctp_assoc.specs.Handshake.{echoed, on_cookie_ack, on_cookie_echo, on_heartbeat, on_init, on_init_ack}
+use Rattle.sctp_assoc.specs.Chunks.{is_skippable, passed_over}
+use Rattle.sctp_assoc.specs.Handshake.{acknowledges_again, echoed, on_cookie_ack, on_cookie_echo, on_heartbeat}
+use Rattle.sctp_assoc.specs.Handshake.{on_init, on_init_ack}
 use Rattle.sctp_assoc.specs.Shown.{Shown}
 use Rattle.sctp_sides.proofs.ActsOfChunks.{acked_at, acked_back}
 use Rattle.sctp_sides.proofs.DataIntake.{PassesLater, PassesTests, data_passed, exhausts_of, fault_from, fault_of}
@@ -47,6 +50,7 @@ use Rattle.sctp_wire_types.specs.declared.chunk.ChunkReconfig.{ChunkReconfig}
 use Rattle.sctp_wire_types.specs.declared.param.Param.{Param}
 use Rattle.sctp_wire_types.specs.declared.param.Param.TheVariants as params
 use Rattle.sctp_assoc.specs.declared.inbound.Flow.{Flow}
+use Rattle.sctp_assoc.specs.declared.inbound.Flow.TheVariants as flows
 use Rattle.sctp_assoc.specs.Resets.{after_param, behind_first, behind_params, on_reconfig}
 use Rattle.sctp_sides.specs.Causes.{FitsNoLaterMessage, HasOtherParameter, is_of_reset, is_second_of_reset}
 use Rattle.sctp_sides.proofs.ExhaustedBuffers.{exhausting_data_leaves_nothing, flow_is, nothing_left_exhausts}
@@ -457,13 +461,13 @@ cause_init_ack a header init trigger now c =
 
 -- The chunks that are never faults
 
-pub echo_flow : (issued beginning established : Bool) (a : Shown) (cookie : List ℕ) (trigger : AckTrigger)
+pub echo_flow : (issued beginning again : Bool) (a : Shown) (cookie : List ℕ) (trigger : AckTrigger)
     → has_issued a.handshake cookie ≡ issued
-    → is_beginning a.state ≡ beginning → is_established a.state ≡ established
+    → is_beginning a.state ≡ beginning → acknowledges_again a ≡ again
     → fault_of (on_cookie_echo a cookie trigger).1 ≡ None
 unfolding on_cookie_echo
-echo_flow false beginning established a cookie trigger e f g = rw e refl
-echo_flow true true established a cookie trigger e f g = rw (e, f) refl
+echo_flow false beginning again a cookie trigger e f g = rw e refl
+echo_flow true true again a cookie trigger e f g = rw (e, f) refl
 echo_flow true false true a cookie trigger e f g = rw (e, f, g) refl
 echo_flow true false false a cookie trigger e f g = rw (e, f, g) refl
 
@@ -517,13 +521,13 @@ init_ack_spares true true a header init trigger now e f =
 init_ack_spares true false a header init trigger now e f = rw (e, f) refl
 init_ack_spares false back a header init trigger now e f = rw e refl
 
-pub echo_spares : (issued beginning established : Bool) (a : Shown) (cookie : List ℕ) (trigger : AckTrigger)
+pub echo_spares : (issued beginning again : Bool) (a : Shown) (cookie : List ℕ) (trigger : AckTrigger)
     → has_issued a.handshake cookie ≡ issued
-    → is_beginning a.state ≡ beginning → is_established a.state ≡ established
+    → is_beginning a.state ≡ beginning → acknowledges_again a ≡ again
     → exhausts_of (on_cookie_echo a cookie trigger).1 ≡ false
 unfolding on_cookie_echo
-echo_spares false beginning established a cookie trigger e f g = rw e refl
-echo_spares true true established a cookie trigger e f g = rw (e, f) refl
+echo_spares false beginning again a cookie trigger e f g = rw e refl
+echo_spares true true again a cookie trigger e f g = rw (e, f) refl
 echo_spares true false true a cookie trigger e f g = rw (e, f, g) refl
 echo_spares true false false a cookie trigger e f g = rw (e, f, g) refl
 
@@ -537,6 +541,11 @@ pub heartbeat_spares : (a : Shown) (heartbeat : ChunkHeartbeat) (trigger : AckTr
     → exhausts_of (on_heartbeat a heartbeat trigger).1 ≡ false
 unfolding on_heartbeat
 heartbeat_spares a heartbeat trigger = refl
+
+passed_spares : (passes : Bool) (fault : Error) (trigger : AckTrigger)
+    → exhausts_of (passed_over passes fault trigger) ≡ false
+passed_spares true fault trigger = refl
+passed_spares false fault trigger = refl
 
 -- DATA and FORWARD TSN that do leave nothing to read
 pub kind_exhausts : (header : CommonHeader) (c : Chunk) (a : Shown) (h : History) (trigger : AckTrigger) (now : ℕ)
@@ -569,12 +578,29 @@ kind_exhausts header (chunks.Shutdown x) a h trigger now binds e = absurd (false
 kind_exhausts header chunks.ShutdownAck a h trigger now binds e = absurd (false≢true e)
 kind_exhausts header chunks.ShutdownComplete a h trigger now binds e =
     absurd (false≢true (sym (complete_spares a.state trigger) ∙ e))
-kind_exhausts header c a h trigger now binds e = tt
+kind_exhausts header (chunks.Error x) a h trigger now binds e =
+    absurd (false≢true (sym (passed_spares (is_rfc a.profile) errors.ErrAbortChunk trigger) ∙ e))
+kind_exhausts header (chunks.HeartbeatAck x) a h trigger now binds e =
+    absurd (false≢true (sym (passed_spares (is_rfc a.profile) errors.ErrChunkTypeUnhandled trigger) ∙ e))
+kind_exhausts header (chunks.Other kind flags value) a h trigger now binds e =
+    absurd (false≢true (sym (passed_spares (is_skippable kind && is_rfc a.profile) errors.ErrChunkTypeUnhandled trigger)
+    ∙ e))
+kind_exhausts header (chunks.Abort x) a h trigger now binds e = tt
 
 nothing_to_read_exhausts : (a : Shown) (h : History) (header : CommonHeader) (piece : ChunkPayloadData)
     (trigger : AckTrigger) → Binds a h → LeavesNothingToRead a h header piece → EndsThePacket (on_data a piece trigger)
 nothing_to_read_exhausts a h header piece trigger binds c =
     inr (inr (flow_is (on_data a piece trigger).1 (nothing_left_exhausts a h header piece trigger binds c)))
+
+-- what may be passed over is a fault by the port's rules alone
+passed_cause : (passes : Bool) (fault error : Error) (trigger : AckTrigger)
+    → fault_of (passed_over passes fault trigger) ≡ Some error → passes ≡ false
+passed_cause true fault error trigger e = absurd (never None error refl e)
+passed_cause false fault error trigger e = refl
+
+cause_passed : (passes : Bool) (fault : Error) (trigger : AckTrigger) → passes ≡ false
+    → passed_over passes fault trigger ≡ flows.Fault fault
+cause_passed passes fault trigger e = ap (λ (p : Bool). passed_over p fault trigger) e
 
 -- Any chunk
 
@@ -606,7 +632,13 @@ kind_cause header (chunks.Shutdown x) a h trigger now error binds e = absurd (ne
 kind_cause header chunks.ShutdownAck a h trigger now error binds e = absurd (never None error refl e)
 kind_cause header chunks.ShutdownComplete a h trigger now error binds e =
     absurd (never _ error (complete_flow a.state trigger) e)
-kind_cause header c a h trigger now error binds e = tt
+kind_cause header (chunks.Error x) a h trigger now error binds e =
+    passed_cause (is_rfc a.profile) errors.ErrAbortChunk error trigger e
+kind_cause header (chunks.HeartbeatAck x) a h trigger now error binds e =
+    passed_cause (is_rfc a.profile) errors.ErrChunkTypeUnhandled error trigger e
+kind_cause header (chunks.Other kind flags value) a h trigger now error binds e =
+    passed_cause (is_skippable kind && is_rfc a.profile) errors.ErrChunkTypeUnhandled error trigger e
+kind_cause header (chunks.Abort x) a h trigger now error binds e = tt
 
 -- a SHUTDOWN COMPLETE that ends a shutdown answers SHUTDOWN ACK
 ends_cause : (c : Chunk) (a : Shown) (h : History) (header : CommonHeader) → EndsShutdown c a
@@ -645,8 +677,14 @@ cause_kind header chunks.ShutdownAck a h trigger now binds cause = absurd cause
 cause_kind header chunks.ShutdownComplete a h trigger now binds cause =
     inr (inl (ap (λ (s : AssociationState). on_shutdown_complete s trigger) cause))
 cause_kind header (chunks.Abort x) a h trigger now binds cause = inl (errors.ErrAbortChunk, refl)
-cause_kind header (chunks.Error x) a h trigger now binds cause = inl (errors.ErrAbortChunk, refl)
-cause_kind header c a h trigger now binds cause = inl (errors.ErrChunkTypeUnhandled, refl)
+cause_kind header (chunks.Error x) a h trigger now binds cause =
+    inl (errors.ErrAbortChunk, cause_passed (is_rfc a.profile) errors.ErrAbortChunk trigger cause)
+cause_kind header (chunks.HeartbeatAck x) a h trigger now binds cause =
+    inl (errors.ErrChunkTypeUnhandled, cause_passed (is_rfc a.profile) errors.ErrChunkTypeUnhandled trigger cause)
+cause_kind header (chunks.Other kind flags value) a h trigger now binds cause = inl (
+  errors.ErrChunkTypeUnhandled,
+  cause_passed (is_skippable kind && is_rfc a.profile) errors.ErrChunkTypeUnhandled trigger cause,
+)
 
 -- of a chunk that its own check refuses, or accepts
 module _ (header : CommonHeader) (c : Chunk) (a : Shown) (h : History) (trigger : AckTrigger) (now : ℕ)

@@ -32,12 +32,12 @@ use Rattle.sctp_outbound.specs.declared.sender.SackOutcome.{SackOutcome}
 use Rattle.sctp_outbound.specs.declared.sender.SackOutcome.TheVariants as outcomes
 use Rattle.sctp_outbound.specs.Sender.{sack_outcome}
 use Rattle.sctp_assoc.specs.Calls.{adjusted, after_read, credit_in, drained_behind, eased, event_polled, holds_of}
-use Rattle.sctp_assoc.specs.Calls.{is_beginning, is_established, sends_data, stopped_open, tells_window, told_if}
+use Rattle.sctp_assoc.specs.Calls.{is_beginning, sends_data, stopped_open, tells_window, told_if}
 use Rattle.sctp_assoc.specs.Chunks.{after_chunks, after_packet, after_packet_of, checked_first, dispatched, ended}
 use Rattle.sctp_assoc.specs.Chunks.{after_sack, counted_sack, on_chunk, on_counted_sack, on_sack}
 use Rattle.sctp_assoc.specs.Closing.{closed_by, exhausted, is_closed_state, is_exhausted, relieved}
-use Rattle.sctp_assoc.specs.Handshake.{information_returned, on_cookie_ack, on_cookie_echo, on_heartbeat, on_init}
-use Rattle.sctp_assoc.specs.Handshake.{on_init_ack}
+use Rattle.sctp_assoc.specs.Handshake.{acknowledges_again, information_returned, on_cookie_ack, on_cookie_echo}
+use Rattle.sctp_assoc.specs.Handshake.{on_heartbeat, on_init, on_init_ack}
 use Rattle.sctp_assoc.specs.Gather.{open_polled, polled}
 use Rattle.sctp_assoc.specs.Probes.{is_probing}
 use Rattle.sctp_assoc.specs.Shown.{Shown, uses_forward_tsn}
@@ -121,11 +121,11 @@ init_ack_talks : (used : Bool) (a : Shown) (header : CommonHeader) (init : Chunk
 unfolding on_init_ack
 init_ack_talks used a header init trigger now h = rw (begun_shakes_no_hands a.state h.state).0 h
 
-cookie_echo_talks : (issued established used : Bool) (a : Shown) (cookie : List ℕ) (trigger : AckTrigger)
-    → has_issued a.handshake cookie ≡ issued → is_established a.state ≡ established → IsTalking used a
+cookie_echo_talks : (issued again used : Bool) (a : Shown) (cookie : List ℕ) (trigger : AckTrigger)
+    → has_issued a.handshake cookie ≡ issued → acknowledges_again a ≡ again → IsTalking used a
     → IsTalking used (on_cookie_echo a cookie trigger).0
 unfolding on_cookie_echo
-cookie_echo_talks false established used a cookie trigger e f h = rw e h
+cookie_echo_talks false again used a cookie trigger e f h = rw e h
 cookie_echo_talks true true used a cookie trigger e f h = rw (e, h.state, f) (talks_by used a _ refl refl h)
 cookie_echo_talks true false used a cookie trigger e f h = rw (e, h.state, f) h
 
@@ -224,7 +224,7 @@ chunk_talks used header (chunks.InitAck init) a trigger now h =
     greeting_talks used a header (chunks.InitAck init) trigger now h (init_ack_talks used a header init trigger now h)
 chunk_talks used header (chunks.CookieEcho cookie) a trigger now h =
     greeting_talks used a header (chunks.CookieEcho cookie) trigger now h
-    (cookie_echo_talks (has_issued a.handshake cookie) (is_established a.state) used a cookie trigger refl refl h)
+    (cookie_echo_talks (has_issued a.handshake cookie) (acknowledges_again a) used a cookie trigger refl refl h)
 chunk_talks used header chunks.CookieAck a trigger now h =
     greeting_talks used a header chunks.CookieAck trigger now h (cookie_ack_talks used a trigger h)
 chunk_talks used header (chunks.Heartbeat heartbeat) a trigger now h =

@@ -10,7 +10,7 @@ use Rattle.sctp_wire_types.specs.declared.event.StreamEvent.TheVariants.{Buffere
 use Rattle.sctp_wire_types.specs.declared.ids.PayloadProtocolIdentifier.{PayloadProtocolIdentifier}
 use Rattle.sctp_wire_types.specs.declared.param.ParamOutgoingResetRequest.{ParamOutgoingResetRequest}
 use Rattle.sctp_parts.specs.declared.timer.Timer.TheVariants as names
-use Rattle.sctp_parts.specs.Timers.{Timers, expiry_of, moment_of, started}
+use Rattle.sctp_parts.specs.Timers.{Timers, expiry_of, moment_of, started, with_stopped}
 use Rattle.sctp_wire.specs.DataPackets.{datagrams_of}
 use Rattle.sctp_streams.specs.declared.event.AssociationError.TheVariants as reasons
 use Rattle.sctp_streams.specs.declared.event.Event.{Event}
@@ -22,7 +22,7 @@ use Rattle.sctp_streams.specs.Streams.{StreamMap, changed_stream, stream_at}
 use Rattle.sctp_inbound.specs.declared.handshake.Offer.{Offer}
 use Rattle.sctp_inbound.specs.Handshake.{header_of}
 use Rattle.sctp_directions.specs.Acts.{type_on}
-use Rattle.sctp_resets.specs.Resets.{ResetsView, event_told, event_told_at, request_again, request_asked}
+use Rattle.sctp_resets.specs.Resets.{ResetsView, event_told, event_told_at, given_up, request_again, request_asked}
 use Rattle.sctp_resets.specs.Resets.{request_sent, with_event}
 use Rattle.sctp_resets.specs.Telling.{next_told}
 use Rattle.sctp_assoc.specs.declared.control.Control.{Control}
@@ -41,7 +41,8 @@ use Rattle.sctp_assoc.specs.Gather.{requests_polled, with_control_given, with_re
 use Rattle.sctp_assoc.specs.Gather.{with_request_placed, with_request_sent, without_control}
 use Rattle.sctp_assoc.specs.Handshake.{after_t1_init, init_queued, cookie_queued, sends_cookie, sends_init}
 use Rattle.sctp_assoc.specs.Handshake.{t1_cookie_expired, t1_init_expired}
-use Rattle.sctp_assoc.specs.Resets.{after_reconfig_timer, asks_again, gives_up, reconfig_expired, with_reconfig_run}
+use Rattle.sctp_assoc.specs.Resets.{after_reconfig_timer, asks_again, gives_up, reconfig_expired, with_beside}
+use Rattle.sctp_assoc.specs.Resets.{with_reconfig_run}
 use Rattle.sctp_assoc.specs.Shown.{Shown}
 use Rattle.sctp_sides.proofs.EndedPolls.{by_poll_end, complete_given, ended_is_closed}
 use Rattle.sctp_assoc.specs.Shutdown.{endpoint_event_polled, shutdown_begun}
@@ -238,14 +239,23 @@ module _ (g : ℕ) where
   delay_keeps false a now e = rw e refl
   delay_keeps true a now e = rw e refl
 
+  goes_on_keeps : (active : Bool) (a : Shown) (now : ℕ)
+      → tally_of g
+      (if active then asks_again a now else record a { timers = with_stopped names.Reconfig a.timers })
+      ≡ tally_of g a
+  goes_on_keeps true a now = refl
+  goes_on_keeps false a now = refl
+
   -- requests that are given up are told as failed
-  request_given_up_keeps : (a : Shown) (now : ℕ) → tally_of g (gives_up (reconfig_expired a now)) ≡ tally_of g a
-  request_given_up_keeps a now = given_up_keeps g a.resets a.streams a.events
+  request_given_up_keeps : (a : Shown) (now : ℕ) → tally_of g (gives_up (reconfig_expired a now) now) ≡ tally_of g a
+  request_given_up_keeps a now =
+      let b : Shown = with_beside (reconfig_expired a now) (given_up a.resets a.streams a.events) in
+      goes_on_keeps (is_some b.resets.own.active) b now ∙ given_up_keeps g a.resets a.streams a.events
 
   reconfig_keeps : (expired failure : Bool) (a : Shown) (now : ℕ)
       → tally_of g
       (if expired then
-      (if failure then gives_up (reconfig_expired a now) else asks_again (reconfig_expired a now) now) else a)
+      (if failure then gives_up (reconfig_expired a now) now else asks_again (reconfig_expired a now) now) else a)
       ≡ tally_of g a
   reconfig_keeps false failure a now = refl
   reconfig_keeps true true a now = request_given_up_keeps a now

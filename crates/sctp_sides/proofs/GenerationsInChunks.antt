@@ -35,7 +35,7 @@ use Rattle.sctp_streams.specs.Streams.{made, passed_in, pushed_in, read_in, refu
 use Rattle.sctp_inbound.specs.declared.receiver.AckTrigger.{AckTrigger}
 use Rattle.sctp_inbound.specs.declared.receiver.AckTrigger.TheVariants as triggers
 use Rattle.sctp_inbound.specs.Greeting.{first_cookie, information_of}
-use Rattle.sctp_inbound.specs.Handshake.{comes_back, has_issued}
+use Rattle.sctp_inbound.specs.Handshake.{comes_back, has_issued, learned_by_init}
 use Rattle.sctp_inbound.specs.Receiver.{admits, asked, is_new_to, taken_to}
 use Rattle.sctp_outbound.specs.declared.progress.Progress.{Progress}
 use Rattle.sctp_outbound.specs.declared.sender.SackOutcome.{SackOutcome}
@@ -52,7 +52,7 @@ use Rattle.sctp_resets.specs.Resets as resets
 use Rattle.sctp_assoc.specs.declared.inbound.Flow.{Flow}
 use Rattle.sctp_assoc.specs.declared.inbound.Flow.TheVariants as flows
 use Rattle.sctp_assoc.specs.Calls.{after_read, credit_in, drained_behind, eased, holds_of, is_beginning}
-use Rattle.sctp_assoc.specs.Calls.{is_cookie_echoed, is_cookie_wait, is_established, read_from_stream, sends_data}
+use Rattle.sctp_assoc.specs.Calls.{is_cookie_echoed, is_cookie_wait, read_from_stream, sends_data}
 use Rattle.sctp_assoc.specs.Calls.{stopped, stopped_open, tells_window, told_if, unread_dropped, without_read_half_of}
 use Rattle.sctp_assoc.specs.Chunks.{after_chunks, after_packet, after_packet_of, after_sack, asks, asks_or_faults}
 use Rattle.sctp_assoc.specs.Chunks.{checked_first, deferred_unless, deferred_where_admitted, dispatched, goes_on}
@@ -62,8 +62,9 @@ use Rattle.sctp_assoc.specs.Chunks.{taken_in, taken_unless, taken_where_admitted
 use Rattle.sctp_assoc.specs.Chunks.{with_message}
 use Rattle.sctp_assoc.specs.Closing.{closed_by, exhausted, is_closed_state, is_exhausted, relieved}
 use Rattle.sctp_assoc.specs.Finding.{found_for}
-use Rattle.sctp_assoc.specs.Handshake.{connected, echoed, information_returned, on_cookie_ack}
-use Rattle.sctp_assoc.specs.Handshake.{on_cookie_echo, on_heartbeat, on_init, on_init_ack, sends_cookie}
+use Rattle.sctp_assoc.specs.Handshake.{acknowledges_again, answered, connected, echoed, information_returned}
+use Rattle.sctp_assoc.specs.Handshake.{keeps_peer, learned_unless, on_cookie_ack, on_cookie_echo}
+use Rattle.sctp_assoc.specs.Handshake.{on_heartbeat, on_init, on_init_ack, sends_cookie}
 use Rattle.sctp_assoc.specs.Probes.{is_probing}
 use Rattle.sctp_assoc.specs.Resets.{after_param, asking_if, behind_first, behind_params, handled_with, on_reconfig}
 use Rattle.sctp_assoc.specs.Resets.{on_request, on_response, responded_with, settled, settled_with, skips_applied}
@@ -359,10 +360,17 @@ module _ (g : ℕ) where
 
   -- The handshake
 
+  answered_keeps : (keeps : Bool) (a : Shown) (header : CommonHeader) (init : ChunkInit)
+      → tally_of
+      (answered (learned_unless keeps (record a { handshake = learned_by_init a.handshake header init }) init))
+      ≡ tally_of a
+  answered_keeps true a header init = refl
+  answered_keeps false a header init = refl
+
   init_keeps : (c : Bool) (a : Shown) (header : CommonHeader) (init : ChunkInit) (trigger : AckTrigger)
       → is_beginning a.state ≡ c → tally_of (on_init a header init trigger).0 ≡ tally_of a
   unfolding on_init
-  init_keeps true a header init trigger e = rw e refl
+  init_keeps true a header init trigger e = rw e (answered_keeps (keeps_peer a init) a header init)
   init_keeps false a header init trigger e = rw e refl
 
   echoed_keeps : (o : Option (List ℕ)) (a b : Shown) (trigger : AckTrigger) (now : ℕ) → tally_of b ≡ tally_of a
@@ -383,13 +391,13 @@ module _ (g : ℕ) where
   connected_keeps : (a : Shown) → tally_of (connected a) ≡ tally_of a
   connected_keeps a = one_told g a.streams a.events Connected refl
 
-  cookie_echo_keeps : (issued beginning established : Bool) (a : Shown) (cookie : List ℕ) (trigger : AckTrigger)
+  cookie_echo_keeps : (issued beginning again : Bool) (a : Shown) (cookie : List ℕ) (trigger : AckTrigger)
       → has_issued a.handshake cookie ≡ issued
-      → is_beginning a.state ≡ beginning → is_established a.state ≡ established
+      → is_beginning a.state ≡ beginning → acknowledges_again a ≡ again
       → tally_of (on_cookie_echo a cookie trigger).0 ≡ tally_of a
   unfolding on_cookie_echo
-  cookie_echo_keeps false beginning established a cookie trigger e f h = rw e refl
-  cookie_echo_keeps true true established a cookie trigger e f h = rw (e, f) (connected_keeps a)
+  cookie_echo_keeps false beginning again a cookie trigger e f h = rw e refl
+  cookie_echo_keeps true true again a cookie trigger e f h = rw (e, f) (connected_keeps a)
   cookie_echo_keeps true false true a cookie trigger e f h = rw (e, f, h) refl
   cookie_echo_keeps true false false a cookie trigger e f h = rw (e, f, h) refl
 

@@ -1,7 +1,8 @@
 -- No reset of streams changes how often a generation is accounted for.
-use Rattle.std.proofs.Common.{◌≡◌, refl, ◌∙◌, ℕ, zero, suc, Bool, true, false, not, ◌&&◌}
+use Rattle.std.proofs.Common.{◌≡◌, refl, ◌∙◌, ℕ, zero, suc, Bool, true, false, not, ◌&&◌, ◌||◌, if◌then◌else◌}
 use Rattle.std.proofs.Common.{List, [], ◌∷◌, ◌++◌, fold, filter, Option, Some, None, Result, Ok, Err, is_some}
 use Rattle.std.proofs.lemmas.Bool.{true≢false}
+use Rattle.sctp_wire_types.specs.Config.{is_rfc}
 use Rattle.sctp_wire_types.specs.declared.chunk.ChunkPayloadData.{ChunkPayloadData}
 use Rattle.sctp_wire_types.specs.declared.error.Error.{Error}
 use Rattle.sctp_wire_types.specs.declared.event.StreamEvent.TheVariants.{Finished, Opened, Readable, ResetComplete}
@@ -23,8 +24,8 @@ use Rattle.sctp_generations.specs.declared.retirement.Retirement.{Retirement}
 use Rattle.sctp_generations.specs.declared.retirement.Retirement.TheVariants as retirements
 use Rattle.sctp_generations.specs.declared.skips.KeptSkip.{KeptSkip}
 use Rattle.sctp_generations.specs.Generations.{GenerationsView, after_given_to, after_skips_given_to, discarded}
-use Rattle.sctp_generations.specs.Generations.{drained, given_to, given_to_all, has_skips, retired, retirement_of}
-use Rattle.sctp_generations.specs.Generations.{skips_given_to, without_newest_of}
+use Rattle.sctp_generations.specs.Generations.{drained, given_to, given_to_all, has_newest, has_skips, retired}
+use Rattle.sctp_generations.specs.Generations.{retirement_of, skips_given_to, without_newest_of}
 use Rattle.sctp_generations.specs.Retiring.{count_at}
 use Rattle.sctp_generations.specs.Skips.{skip_ids}
 use Rattle.sctp_reset_requests.specs.declared.answer.Arrival.{Arrival}
@@ -32,24 +33,27 @@ use Rattle.sctp_reset_requests.specs.declared.answer.Arrival.TheVariants as arri
 use Rattle.sctp_reset_requests.specs.declared.outcome.Answered.{Answered}
 use Rattle.sctp_reset_requests.specs.declared.outcome.Answered.TheVariants as answers
 use Rattle.sctp_reset_requests.specs.declared.own_request.OwnRequest.{OwnRequest}
-use Rattle.sctp_reset_requests.specs.Debts.{DebtsView}
+use Rattle.sctp_reset_requests.specs.Debts.{DebtsView, is_owed}
 use Rattle.sctp_reset_requests.specs.Debts as debts
-use Rattle.sctp_reset_requests.specs.Own.{OwnView}
+use Rattle.sctp_reset_requests.specs.Own.{OwnView, ends_here}
 use Rattle.sctp_reset_requests.specs.Own as own
 use Rattle.sctp_reset_requests.specs.Peer.{PeerView, boundary_of}
 use Rattle.sctp_reset_requests.specs.Peer as peer
 use Rattle.sctp_reset_requests.specs.Request.{PeerRequestView, request_of}
 use Rattle.sctp_resets.specs.Answers.{Answering, answering, complete_told, completed_one, completed_with}
-use Rattle.sctp_resets.specs.Answers.{ended_or_restarted, failed_one, is_read_half_closed, request_ended}
+use Rattle.sctp_resets.specs.Answers.{ended_or_restarted, failed_one, failure_told, failures_told}
+use Rattle.sctp_resets.specs.Answers.{is_read_half_closed, request_ended}
 use Rattle.sctp_resets.specs.Channels.{Channels, channels, delivered, given_unless, given_where}
 use Rattle.sctp_resets.specs.Channels.{is_write_half_closed, opened, told}
 use Rattle.sctp_resets.specs.Draining.{Reading, ended, next_generation_read, passed_once, passed_times}
 use Rattle.sctp_resets.specs.Draining.{passed_where, write_half_kept}
-use Rattle.sctp_resets.specs.Performing.{Performing, is_drained, named_live, performing, retired_as}
-use Rattle.sctp_resets.specs.Performing.{retired_each, retired_next, retired_one, stream_ended, with_retired}
+use Rattle.sctp_resets.specs.Performing.{Performing, answered_in, end_told, ends_told, is_drained, named_in, named_live}
+use Rattle.sctp_resets.specs.Performing.{performing, retired_as, retired_each, retired_next, retired_one, paid_told}
+use Rattle.sctp_resets.specs.Performing.{stream_ended, with_retired}
 use Rattle.sctp_resets.specs.Resets.{Beside, ResetsView, arrived_with, confirmed_by, confirmed_where, ended_as_answered}
-use Rattle.sctp_resets.specs.Resets.{ended_unless, given_up, given_up_where, handled, handled_behind, is_blocked}
-use Rattle.sctp_resets.specs.Resets.{performed, performed_with, read_out, request_over, responded, settled_where}
+use Rattle.sctp_resets.specs.Resets.{dropped, ended_unless, given_up, given_up_for_now, given_up_where, handled}
+use Rattle.sctp_resets.specs.Resets.{handled_behind, is_blocked, performed, performed_with, read_out, request_over}
+use Rattle.sctp_resets.specs.Resets.{reset_or_ended, responded, settled_where}
 use Rattle.sctp_resets.specs.Resets.{skips_done, skips_done_of, stopped_reading, with_generations}
 use Rattle.sctp_resets.specs.Resets as resets
 use Rattle.sctp_resets.specs.Skips.{Skipping, end_of_skip, readable_told, skip_tried, skips_applied, skips_applied_of}
@@ -184,9 +188,36 @@ module _ (g : ℕ) where
       fold_keeps (λ (x : Performing × List ℕ). of_performing x.0) (retired_next q.last_tsn)
       (retired_next_keeps q.last_tsn) (p, []) (named_live p.streams q)
 
-  performed_with_keeps : (q : PeerRequestView) (first limit : ℕ) (r : ResetsView) (to_accept : List ℕ)
-      (x : Performing × List ℕ) → of_channels (performed_with q first limit r to_accept x).0.1 ≡ of_performing x.0
-  performed_with_keeps q first limit r to_accept (p, ids) =
+  -- the ends that it brings
+
+  end_owed_keeps : (m : StreamMap) (x : DebtsView × Bool) (queued : List Event) (id : ℕ)
+      → tally g m (paid_told x queued id).1 ≡ tally g m queued
+  end_owed_keeps m (d, true) queued id = one_told g m queued (events.Stream (ResetComplete id)) refl
+  end_owed_keeps m (d, false) queued id = refl
+
+  end_keeps_if : (ends : Bool) (m : StreamMap) (d : DebtsView) (queued : List Event) (id : ℕ)
+      → tally g m (if◌then◌else◌ {A = DebtsView × List Event} ends (paid_told (debts.paid d id, debts.is_owed d id) queued id)
+      (d, queued)).1
+      ≡ tally g m queued
+  end_keeps_if true m d queued id = end_owed_keeps m (debts.paid d id, debts.is_owed d id) queued id
+  end_keeps_if false m d queued id = refl
+
+  end_keeps : (m : StreamMap) (o : OwnView) (x : DebtsView × List Event) (id : ℕ)
+      → tally g m (end_told o x id).1 ≡ tally g m x.1
+  end_keeps m o (d, queued) id = end_keeps_if (ends_here o id) m d queued id
+
+  ends_keep : (o : OwnView) (named : List ℕ) (p : Performing) → of_performing (ends_told o named p) ≡ of_performing p
+  ends_keep o named p =
+      fold_keeps (λ (x : DebtsView × List Event). tally g p.streams x.1) (end_told o) (end_keeps p.streams o)
+      (p.debts, p.events) named
+
+  answered_in_keeps : (o : OwnView) (named : List ℕ) (x : Performing × List ℕ)
+      → of_performing (answered_in o named x).0 ≡ of_performing x.0
+  answered_in_keeps o named (p, retired) = ends_keep o named p
+
+  performed_with_keeps : (q : PeerRequestView) (first limit : ℕ) (r : ResetsView) (to_accept named : List ℕ)
+      (x : Performing × List ℕ) → of_channels (performed_with q first limit r to_accept named x).0.1 ≡ of_performing x.0
+  performed_with_keeps q first limit r to_accept named (p, ids) =
       all_delivered_keep first limit (channels p.streams p.events to_accept)
       (given_to_all (without_newest_of p.generations q.ids))
 
@@ -194,8 +225,10 @@ module _ (g : ℕ) where
       → of_channels (performed q first limit r c).0.1 ≡ of_channels c
   unfolding performed
   performed_keeps q first limit r c =
-      performed_with_keeps q first limit r c.to_accept
-      (retired_each q (performing r.generations r.debts c.streams c.events))
+      let named : List ℕ = named_in r.own c.streams q in
+      let x : Performing × List ℕ = retired_each q (performing r.generations r.debts c.streams c.events) in
+      performed_with_keeps q first limit r c.to_accept named (answered_in r.own named x)
+      ∙ answered_in_keeps r.own named x
       ∙ retired_each_keeps q (performing r.generations r.debts c.streams c.events)
 
   settled_where_keeps : (x : PeerView × Option PeerRequestView) (first limit : ℕ) (r : ResetsView) (c : Channels)
@@ -212,10 +245,10 @@ module _ (g : ℕ) where
   abbrev of_answering : Answering → ℕ
   of_answering a = tally g a.streams a.events
 
-  ended_or_restarted_keeps : (c owed : Bool) (a : Answering) (id : ℕ) → (owed && is_read_half_closed a.streams id) ≡ c
-      → of_answering (ended_or_restarted owed a id) ≡ of_answering a
-  ended_or_restarted_keeps true owed a id e = rw e (ended_tally g a.streams id a.events)
-  ended_or_restarted_keeps false owed a id e =
+  ended_or_restarted_keeps : (c ends : Bool) (a : Answering) (id : ℕ) → (ends && is_read_half_closed a.streams id) ≡ c
+      → of_answering (ended_or_restarted ends a id) ≡ of_answering a
+  ended_or_restarted_keeps true ends a id e = rw e (ended_tally g a.streams id a.events)
+  ended_or_restarted_keeps false ends a id e =
       rw e (same_tally g a.streams (changed_stream with_restarted_ssn a.streams id) a.events
       (changed_same with_restarted_ssn (λ u. refl) a.streams id))
 
@@ -223,24 +256,26 @@ module _ (g : ℕ) where
   complete_keeps true a id = one_told g a.streams a.events (events.Stream (ResetComplete id)) refl
   complete_keeps false a id = refl
 
-  completed_with_keeps : (x : DebtsView × Bool) (a : Answering) (id : ℕ)
-      → of_answering (completed_with x a id) ≡ of_answering a
-  completed_with_keeps (d, owed) a id =
-      complete_keeps owed (ended_or_restarted owed (record a { debts = d }) id) id
-      ∙ ended_or_restarted_keeps _ owed (record a { debts = d }) id refl
+  completed_with_keeps : (by_rfcs : Bool) (x : DebtsView × Bool) (a : Answering) (id : ℕ)
+      → of_answering (completed_with by_rfcs x a id) ≡ of_answering a
+  completed_with_keeps by_rfcs (d, owed) a id =
+      let ends : Bool = owed && not by_rfcs in
+      complete_keeps owed (ended_or_restarted ends (record a { debts = d }) id) id
+      ∙ ended_or_restarted_keeps _ ends (record a { debts = d }) id refl
 
-  completed_one_keeps : (a : Answering) (id : ℕ) → of_answering (completed_one a id) ≡ of_answering a
-  completed_one_keeps a id = completed_with_keeps (debts.settled a.debts id) a id
+  completed_one_keeps : (by_rfcs : Bool) (a : Answering) (id : ℕ)
+      → of_answering (completed_one by_rfcs a id) ≡ of_answering a
+  completed_one_keeps by_rfcs a id = completed_with_keeps by_rfcs (debts.settled a.debts id) a id
 
   failed_one_keeps : (m : StreamMap) (reason : StreamResetError) (x : DebtsView × List Event) (id : ℕ)
       → tally g m (failed_one reason x id).1 ≡ tally g m x.1
   failed_one_keeps m reason (d, queued) id = one_told g m queued (events.Stream (ResetFailed id reason)) refl
 
-  request_ended_keeps : (outcome : Result (Unit {0}) StreamResetError) (ids : List ℕ) (a : Answering)
-      → of_answering (request_ended outcome ids a) ≡ of_answering a
-  request_ended_keeps (Ok done) ids a =
-      fold_keeps (λ (x : Answering). of_answering x) completed_one completed_one_keeps a ids
-  request_ended_keeps (Err reason) ids a =
+  request_ended_keeps : (by_rfcs : Bool) (outcome : Result (Unit {0}) StreamResetError) (ids : List ℕ) (a : Answering)
+      → of_answering (request_ended by_rfcs outcome ids a) ≡ of_answering a
+  request_ended_keeps by_rfcs (Ok done) ids a =
+      fold_keeps (λ (x : Answering). of_answering x) (completed_one by_rfcs) (completed_one_keeps by_rfcs) a ids
+  request_ended_keeps by_rfcs (Err reason) ids a =
       fold_keeps (λ (x : DebtsView × List Event). tally g a.streams x.1) (failed_one reason)
       (failed_one_keeps a.streams reason) (a.debts, a.events) ids
 
@@ -250,7 +285,8 @@ module _ (g : ℕ) where
 
   request_over_keeps : (outcome : Result (Unit {0}) StreamResetError) (q : OwnRequest) (r : ResetsView) (m : StreamMap)
       (queued : List Event) → of_beside (request_over outcome q r m queued) ≡ tally g m queued
-  request_over_keeps outcome q r m queued = request_ended_keeps outcome q.ids (answering r.debts m queued)
+  request_over_keeps outcome q r m queued =
+      request_ended_keeps (is_rfc r.own.profile) outcome q.ids (answering r.debts m queued)
 
   confirmed_keeps : (x : OwnView × Option OwnRequest) (r : ResetsView) (m : StreamMap) (queued : List Event)
       → of_beside (confirmed_where x r m queued).0 ≡ tally g m queued
@@ -274,9 +310,32 @@ module _ (g : ℕ) where
   given_up_keeps_where (o, Some q) r m queued =
       request_over_keeps (Err reasons.Failed) q (record r { own = o }) m queued
 
+  -- a request that is given up and goes on
+
+  failure_keeps_if : (fails : Bool) (m : StreamMap) (queued : List Event) (id : ℕ)
+      → tally g m (if fails then queued ++ events.Stream (ResetFailed id reasons.Failed) ∷ [] else queued)
+      ≡ tally g m queued
+  failure_keeps_if true m queued id = one_told g m queued (events.Stream (ResetFailed id reasons.Failed)) refl
+  failure_keeps_if false m queued id = refl
+
+  failure_keeps : (d : DebtsView) (m : StreamMap) (queued : List Event) (id : ℕ)
+      → tally g m (failure_told d m queued id) ≡ tally g m queued
+  failure_keeps d m queued id = failure_keeps_if (is_some (stream_at m id) || is_owed d id) m queued id
+
+  failures_keep : (d : DebtsView) (m : StreamMap) (ids : List ℕ) (queued : List Event)
+      → tally g m (failures_told d m ids queued) ≡ tally g m queued
+  failures_keep d m ids queued =
+      fold_keeps (λ (es : List Event). tally g m es) (failure_told d m) (failure_keeps d m) queued ids
+
+  given_up_keeps_if : (by_rfcs : Bool) (r : ResetsView) (m : StreamMap) (queued : List Event)
+      → of_beside (if by_rfcs then given_up_for_now r m queued else given_up_where (own.ended r.own) r m queued)
+      ≡ tally g m queued
+  given_up_keeps_if true r m queued = failures_keep r.debts m (own.failing_ids r.own.active) queued
+  given_up_keeps_if false r m queued = given_up_keeps_where (own.ended r.own) r m queued
+
   pub given_up_keeps : (r : ResetsView) (m : StreamMap) (queued : List Event)
       → of_beside (given_up r m queued) ≡ tally g m queued
-  given_up_keeps r m queued = given_up_keeps_where (own.ended r.own) r m queued
+  given_up_keeps r m queued = given_up_keeps_if (is_rfc r.own.profile) r m queued
 
   -- A request of the peer that comes
 
@@ -359,11 +418,27 @@ module _ (g : ℕ) where
   unless_keeps true r id m queued = refl
   unless_keeps false r id m queued = ended_tally g m id queued
 
+  reset_or_ended_keeps : (resets_it : Bool) (r : ResetsView) (id : ℕ) (m : StreamMap) (queued : List Event)
+      → of_beside (reset_or_ended resets_it r id m queued) ≡ tally g m queued
+  reset_or_ended_keeps true r id m queued = refl
+  reset_or_ended_keeps false r id m queued = ended_tally g m id queued
+
+  dropped_keeps_if : (by_rfcs more : Bool) (r : ResetsView) (id : ℕ) (m : StreamMap) (queued : List Event)
+      → of_beside (if by_rfcs then reset_or_ended more r id m queued else
+      ended_unless (is_blocked r id) r id m queued)
+      ≡ tally g m queued
+  dropped_keeps_if true more r id m queued = reset_or_ended_keeps more r id m queued
+  dropped_keeps_if false more r id m queued = unless_keeps (is_blocked r id) r id m queued
+
+  dropped_keeps : (more : Bool) (r : ResetsView) (id : ℕ) (m : StreamMap) (queued : List Event)
+      → of_beside (dropped more r id m queued) ≡ tally g m queued
+  dropped_keeps more r id m queued = dropped_keeps_if (is_rfc r.own.profile) more r id m queued
+
   pub stopped_reading_keeps : (id : ℕ) (r : ResetsView) (m : StreamMap) (queued : List Event)
       → of_beside (stopped_reading id r m queued) ≡ tally g m queued
   stopped_reading_keeps id r m queued =
       let s : ResetsView = with_generations r (discarded r.generations id) in
       let n : StreamMap = changed_stream without_unread m id in
-      unless_keeps (is_blocked s id) s id n (filter (λ (x : Event). not (is_told_of id x)) queued)
+      dropped_keeps (has_newest r.generations id) s id n (filter (λ (x : Event). not (is_told_of id x)) queued)
       ∙ unread_told g n id queued
       ∙ same_tally g m n queued (changed_same without_unread (λ u. refl) m id)

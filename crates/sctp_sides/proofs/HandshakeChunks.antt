@@ -17,16 +17,19 @@ use Rattle.sctp_inbound.specs.declared.handshake.Handshake.{Handshake}
 use Rattle.sctp_inbound.specs.declared.handshake.Offer.{Offer}
 use Rattle.sctp_inbound.specs.declared.receiver.AckTrigger.{AckTrigger}
 use Rattle.sctp_inbound.specs.Greeting.{first_cookie}
-use Rattle.sctp_inbound.specs.Handshake.{comes_back, has_issued, header_of}
+use Rattle.sctp_inbound.specs.Handshake.{comes_back, has_issued, header_of, learned_by_init}
 use Rattle.sctp_assoc.specs.declared.control.Control.{Control}
 use Rattle.sctp_assoc.specs.declared.control.Control.TheVariants as controls
 use Rattle.sctp_directions.specs.Acts.{Act}
-use Rattle.sctp_assoc.specs.Calls.{is_beginning, is_cookie_echoed, is_cookie_wait, is_established}
+use Rattle.sctp_assoc.specs.Calls.{is_beginning, is_cookie_echoed, is_cookie_wait}
 use Rattle.sctp_assoc.specs.Chunks.{checked_first, on_chunk}
-use Rattle.sctp_assoc.specs.Handshake.{acknowledged_cookie, answered, connected, echoed, learned, on_cookie_ack}
-use Rattle.sctp_assoc.specs.Handshake.{on_cookie_echo, on_init, on_init_ack, sends_cookie, with_echo}
-use Rattle.sctp_assoc.specs.Happened.{acts_of_checked}
-use Rattle.sctp_assoc.specs.Shutdown.{all_acknowledged, shutdown_answered, shutdown_taken, state_at_shutdown}
+use Rattle.sctp_assoc.specs.Handshake.{acknowledged_cookie, acknowledges_again, answered, connected, echoed}
+use Rattle.sctp_assoc.specs.Handshake.{keeps_peer, learned_unless, on_cookie_ack, on_cookie_echo, on_init}
+use Rattle.sctp_assoc.specs.Handshake.{on_init_ack, sends_cookie, with_echo}
+use Rattle.sctp_assoc.specs.Happened.{acts_of_checked, known_unless}
+use Rattle.sctp_assoc.specs.Shutdown.{all_acknowledged, shutdown_again, shutdown_answered, shutdown_taken}
+use Rattle.sctp_assoc.specs.Shutdown.{state_at_shutdown}
+use Rattle.sctp_assoc.proofs.HandshakeFacts.{kept_is_known}
 use Rattle.sctp_sides.specs.Meeting.{AwaitsInitAck, Greets, GreetsOn, HasCome, IsAsFarOn, IsDoneAmongClients, IsGreeted}
 use Rattle.sctp_sides.specs.Meeting.{IsNoEarlier, IsTruthful, Listens, MayHear, Stage, stage_of}
 use Rattle.sctp_sides.specs.SideLaws.{EstablishedSidesTalk, TheSameHandshakeIsTheSameStage}
@@ -222,18 +225,40 @@ module _ (own peer : ℕ) (t : Stage) (a : Shown) (truthful : IsTruthful own a) 
         learns = inl (refl, ap (λ (x : Handshake). x.peer_initial_tsn) same);
       }
 
-  -- INIT: a server takes it, and an association that is established doesn't
-  init_greets : (c : Bool) (header : CommonHeader) (init : ChunkInit) (trigger : AckTrigger) → is_beginning a.state ≡ c
+  -- INIT: a server takes it, and an association that is established doesn't; what it keeps of the peer is what it knew
+  init_greets : (c kept : Bool) (header : CommonHeader) (init : ChunkInit) (trigger : AckTrigger)
+      → is_beginning a.state ≡ c → keeps_peer a init ≡ kept
       → Greets peer t (chunks.Init init) → IsDoneAmongClients (stage_of a) t
-      → IsGreeted own peer t (if c then Act.PeerKnown init.initial_tsn ∷ [] else []) a (on_init a header init trigger).0
+      → IsGreeted own peer t (if c then known_unless kept init.initial_tsn else []) a (on_init a header init trigger).0
   unfolding on_init
-  init_greets true header init trigger e (is, client) one =
-      let b : Shown = answered (learned a header init) in
+  init_greets true true header init trigger e f (is, client) one =
+      let b : Shown =
+      answered (learned_unless true (record a { handshake = learned_by_init a.handshake header init }) init) in
       let l = listens a t e client one come in
       let goes : IsNoEarlier (stage_of a)
       (stage_of b) = record { side = refl; knows = λ k. refl; completed = λ d. d } in
       let keeps : KeepsSaying a b = record { tsn = refl; goes = goes; offers = λ o. o; echoes = λ x. inl x } in
-      rw e (record {
+      rw (e, f) (record {
+        truthful = truthful_with own a b _ truthful keeps refl (truthful.tsn, refl) refl;
+        come =
+            inr (inr (inl record {
+              server = l.server;
+              state = l.state;
+              incomplete = l.incomplete;
+              issued = λ i. refl;
+            }));
+        goes = goes;
+        completes = λ d. inl d;
+        learns = inl (refl, sym (kept_is_known a init f));
+      })
+  init_greets true false header init trigger e f (is, client) one =
+      let b : Shown =
+      answered (learned_unless false (record a { handshake = learned_by_init a.handshake header init }) init) in
+      let l = listens a t e client one come in
+      let goes : IsNoEarlier (stage_of a)
+      (stage_of b) = record { side = refl; knows = λ k. refl; completed = λ d. d } in
+      let keeps : KeepsSaying a b = record { tsn = refl; goes = goes; offers = λ o. o; echoes = λ x. inl x } in
+      rw (e, f) (record {
         truthful = truthful_with own a b _ truthful keeps refl (truthful.tsn, refl) refl;
         come =
             inr (inr (inl record {
@@ -246,7 +271,7 @@ module _ (own peer : ℕ) (t : Stage) (a : Shown) (truthful : IsTruthful own a) 
         completes = λ d. inl d;
         learns = inr (ap (λ (n : ℕ). Act.PeerKnown n ∷ []) is, listener_is_deaf a l);
       })
-  init_greets false header init trigger e said one = rw e nothing_greeted
+  init_greets false kept header init trigger e f said one = rw e nothing_greeted
 
   -- COOKIE ACK completes what a client began
   cookie_ack_greets : (c : Bool) (trigger : AckTrigger) → is_cookie_echoed a.state ≡ c → t.completed ≡ true
@@ -264,14 +289,14 @@ module _ (own peer : ℕ) (t : Stage) (a : Shown) (truthful : IsTruthful own a) 
   cookie_ack_greets false trigger e said = rw e nothing_greeted
 
   -- COOKIE ECHO completes what a server began
-  cookie_echo_greets : (issued begins established : Bool) (cookie : List ℕ) (trigger : AckTrigger)
+  cookie_echo_greets : (issued begins again : Bool) (cookie : List ℕ) (trigger : AckTrigger)
       → has_issued a.handshake cookie ≡ issued
-      → is_beginning a.state ≡ begins → is_established a.state ≡ established
+      → is_beginning a.state ≡ begins → acknowledges_again a ≡ again
       → (t.side ≡ sides.Client) × (t.knows ≡ true)
       → IsGreeted own peer t [] a (on_cookie_echo a cookie trigger).0
   unfolding on_cookie_echo
-  cookie_echo_greets false begins established cookie trigger e f g said = rw e nothing_greeted
-  cookie_echo_greets true true established cookie trigger e f g said =
+  cookie_echo_greets false begins again cookie trigger e f g said = rw e nothing_greeted
+  cookie_echo_greets true true again cookie trigger e f g said =
       let issued = issued_of a.handshake.cookie_issued (bytes_eq a.handshake.cookie cookie) e in
       let b : Shown = acknowledged_cookie (connected a) in
       let k = connected_keeps a in
@@ -289,7 +314,7 @@ module _ (own peer : ℕ) (t : Stage) (a : Shown) (truthful : IsTruthful own a) 
         learns = inl (refl, refl);
       })
   cookie_echo_greets true false true cookie trigger e f g said =
-      let b : Shown = acknowledged_cookie a in
+      let b : Shown = acknowledged_cookie (shutdown_again a) in
       let keeps : KeepsSaying a b = record {
         tsn = refl;
         goes = record { side = refl; knows = λ k. k; completed = λ d. d };
@@ -405,11 +430,11 @@ module _ (own peer : ℕ) (t : Stage) (a : Shown) (truthful : IsTruthful own a) 
       → IsGreeted own peer t (acts_of_checked r a header c) a (checked_first r a header c trigger now).0
   kind_greets (Err fault) header c trigger now said one = nothing_greeted
   kind_greets (Ok done) header (chunks.Init x) trigger now said one =
-      init_greets (is_beginning a.state) header x trigger refl said one
+      init_greets (is_beginning a.state) (keeps_peer a x) header x trigger refl refl said one
   kind_greets (Ok done) header (chunks.InitAck x) trigger now said one =
       init_ack_greets (is_cookie_wait a.state) (comes_back a.handshake header) header x trigger now refl refl said
   kind_greets (Ok done) header (chunks.CookieEcho x) trigger now said one =
-      cookie_echo_greets (has_issued a.handshake x) (is_beginning a.state) (is_established a.state) x trigger refl refl
+      cookie_echo_greets (has_issued a.handshake x) (is_beginning a.state) (acknowledges_again a) x trigger refl refl
       refl said
   kind_greets (Ok done) header chunks.CookieAck trigger now said one =
       cookie_ack_greets (is_cookie_echoed a.state) trigger refl said

@@ -25,7 +25,7 @@ use Rattle.sctp_streams.specs.Streams.{StreamMap, generation_left, is_readable_i
 use Rattle.sctp_inbound.specs.declared.receiver.AckTrigger.{AckTrigger}
 use Rattle.sctp_inbound.specs.declared.receiver.AckTrigger.TheVariants as triggers
 use Rattle.sctp_inbound.specs.Greeting.{first_cookie, information_of}
-use Rattle.sctp_inbound.specs.Handshake.{comes_back, has_issued, learned_by_init_ack}
+use Rattle.sctp_inbound.specs.Handshake.{comes_back, has_issued, learned_by_init, learned_by_init_ack}
 use Rattle.sctp_inbound.specs.Receiver.{admits, is_new_to, taken_to}
 use Rattle.sctp_outbound.specs.declared.progress.Progress.{Progress}
 use Rattle.sctp_outbound.specs.declared.sender.SackOutcome.{SackOutcome}
@@ -40,7 +40,7 @@ use Rattle.sctp_resets.specs.Resets as resets
 use Rattle.sctp_resets.specs.Resets.{Beside, Resetting, handled, is_hidden, is_retiring, refusal_of, responded}
 use Rattle.sctp_resets.specs.Resets.{skips_done, skips_done_of}
 use Rattle.sctp_assoc.specs.declared.inbound.Flow.TheVariants as flows
-use Rattle.sctp_assoc.specs.Calls.{is_beginning, is_cookie_echoed, is_cookie_wait, is_established, sends_data}
+use Rattle.sctp_assoc.specs.Calls.{is_beginning, is_cookie_echoed, is_cookie_wait, sends_data}
 use Rattle.sctp_assoc.specs.Chunks.{after_packet, after_packet_of, after_sack, asks, asks_or_faults, checked_first}
 use Rattle.sctp_assoc.specs.Chunks.{counted_data, counted_sack, deferred, deferred_unless, deferred_where_admitted}
 use Rattle.sctp_assoc.specs.Chunks.{dispatched, ended, on_chunk, on_counted_data, on_counted_sack, on_data}
@@ -49,15 +49,16 @@ use Rattle.sctp_assoc.specs.Chunks.{stream_found, taken_in, taken_unless, taken_
 use Rattle.sctp_assoc.specs.Chunks.{with_acknowledged, with_message, with_new_stream}
 use Rattle.sctp_assoc.specs.Closing.{is_exhausted}
 use Rattle.sctp_assoc.specs.Finding.{found_for}
-use Rattle.sctp_assoc.specs.Handshake.{connected, cookie_queued, echoed, information_returned, learned, learned_back}
-use Rattle.sctp_assoc.specs.Handshake.{on_cookie_ack, on_cookie_echo, on_heartbeat, on_init, on_init_ack, sends_cookie}
+use Rattle.sctp_assoc.specs.Handshake.{acknowledges_again, connected, cookie_queued, echoed, information_returned}
+use Rattle.sctp_assoc.specs.Handshake.{keeps_peer, learned, learned_back, learned_unless, on_cookie_ack}
+use Rattle.sctp_assoc.specs.Handshake.{on_cookie_echo, on_heartbeat, on_init, on_init_ack, sends_cookie}
 use Rattle.sctp_assoc.specs.Probes.{is_probing}
 use Rattle.sctp_assoc.specs.Resets.{after_param, asking_if, behind_first, behind_params, channels_of, handled_with}
 use Rattle.sctp_assoc.specs.Resets.{on_reconfig, on_request, on_response, responded_with, settled, settled_with}
 use Rattle.sctp_assoc.specs.Resets.{skips_applied, skips_applied_of, stopped_if, with_answer, with_beside}
 use Rattle.sctp_assoc.specs.Resets.{with_resetting}
 use Rattle.sctp_assoc.specs.Shown.{Shown, all_waiting}
-use Rattle.sctp_assoc.specs.Shutdown.{shutdown_answered, shutdown_continued, shutdown_taken}
+use Rattle.sctp_assoc.specs.Shutdown.{shutdown_again, shutdown_answered, shutdown_continued, shutdown_taken}
 use Rattle.sctp_assoc.specs.Skipping.{acknowledged_at_once, asks_behind, on_forward, skips_of, with_passed, with_skip}
 use Rattle.sctp_assoc.specs.Skipping.{with_skips}
 use Rattle.sctp_assoc.proofs.Probes.{probes_keep}
@@ -276,11 +277,18 @@ module _ (P : ChunkPayloadData → Type 0) where
 
   -- The handshake, and HEARTBEAT
 
+  learned_keeps : (keeps : Bool) (a : Shown) (header : CommonHeader) (init : ChunkInit)
+      → KeepsHeld P a
+      (learned_unless keeps (record a { handshake = learned_by_init a.handshake header init }) init)
+  learned_keeps true a header init = same_held P a _ refl refl
+  learned_keeps false a header init = same_held P a _ refl refl
+
   init_keeps : (begins : Bool) (a : Shown) (header : CommonHeader) (init : ChunkInit) (trigger : AckTrigger)
       → is_beginning a.state ≡ begins → KeepsHeld P a (on_init a header init trigger).0
   unfolding on_init
   init_keeps true a header init trigger e =
-      rw e (then_held P (same_held P a (learned a header init) refl refl) (queued_held P (learned a header init) _))
+      rw e
+      (then_held P (learned_keeps (keeps_peer a init) a header init) (queued_held P (learned a header init) _))
   init_keeps false a header init trigger e = rw e (stays_held P a)
 
   cookie_keeps : (o : Option (List ℕ)) (a : Shown) → KeepsHeld P a (cookie_queued o a)
@@ -315,14 +323,15 @@ module _ (P : ChunkPayloadData → Type 0) where
       rw e (back_keeps (comes_back a.handshake header) a header init trigger now)
   init_ack_keeps false a header init trigger now e = rw e (stays_held P a)
 
-  cookie_echo_keeps : (issued begins established : Bool) (a : Shown) (cookie : List ℕ) (trigger : AckTrigger)
+  cookie_echo_keeps : (issued begins again : Bool) (a : Shown) (cookie : List ℕ) (trigger : AckTrigger)
       → has_issued a.handshake cookie ≡ issued → is_beginning a.state ≡ begins
-      → is_established a.state ≡ established → KeepsHeld P a (on_cookie_echo a cookie trigger).0
+      → acknowledges_again a ≡ again → KeepsHeld P a (on_cookie_echo a cookie trigger).0
   unfolding on_cookie_echo
-  cookie_echo_keeps false begins established a cookie trigger e f g = rw e (stays_held P a)
-  cookie_echo_keeps true true established a cookie trigger e f g =
+  cookie_echo_keeps false begins again a cookie trigger e f g = rw e (stays_held P a)
+  cookie_echo_keeps true true again a cookie trigger e f g =
       rw (e, f) (then_held P (same_held P a (connected a) refl refl) (queued_held P (connected a) _))
-  cookie_echo_keeps true false true a cookie trigger e f g = rw (e, f, g) (queued_held P a _)
+  cookie_echo_keeps true false true a cookie trigger e f g =
+      rw (e, f, g) (then_held P (same_held P a (shutdown_again a) refl refl) (queued_held P (shutdown_again a) _))
   cookie_echo_keeps true false false a cookie trigger e f g = rw (e, f, g) (stays_held P a)
 
   cookie_ack_keeps : (waits : Bool) (a : Shown) (trigger : AckTrigger) → is_cookie_echoed a.state ≡ waits
@@ -476,7 +485,7 @@ module _ (P : ChunkPayloadData → Type 0) where
   dispatched_keeps a header chunks.ShutdownAck trigger now came = same_held P a (shutdown_answered a) refl refl
   dispatched_keeps a header (chunks.Error x) trigger now came = stays_held P a
   dispatched_keeps a header (chunks.CookieEcho cookie) trigger now came =
-      cookie_echo_keeps (has_issued a.handshake cookie) (is_beginning a.state) (is_established a.state) a cookie trigger
+      cookie_echo_keeps (has_issued a.handshake cookie) (is_beginning a.state) (acknowledges_again a) a cookie trigger
       refl refl refl
   dispatched_keeps a header chunks.CookieAck trigger now came =
       cookie_ack_keeps (is_cookie_echoed a.state) a trigger refl

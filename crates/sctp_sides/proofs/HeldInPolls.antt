@@ -1,9 +1,9 @@
 -- What polls for packets and timeouts leave to be read is what was held before.
-use Rattle.std.proofs.Common.{◌≡◌, refl, sym, subst, ℕ, Bool, true, false, if◌then◌else◌, Option, Some, None}
+use Rattle.std.proofs.Common.{◌≡◌, refl, sym, subst, ℕ, Bool, true, false, if◌then◌else◌, Option, Some, None, is_some}
 use Rattle.sctp_wire_types.specs.declared.chunk.ChunkPayloadData.{ChunkPayloadData}
 use Rattle.sctp_wire_types.specs.declared.error.Error.TheVariants as errors
 use Rattle.sctp_parts.specs.declared.timer.Timer.TheVariants as names
-use Rattle.sctp_parts.specs.Timers.{expiry_of, started}
+use Rattle.sctp_parts.specs.Timers.{expiry_of, started, with_stopped}
 use Rattle.sctp_streams.specs.declared.event.AssociationError.TheVariants as reasons
 use Rattle.sctp_inbound.specs.declared.handshake.Offer.{Offer}
 use Rattle.sctp_resets.specs.Resets.{given_up}
@@ -11,7 +11,7 @@ use Rattle.sctp_assoc.specs.Calls.{after_ack_delay, after_t3, exchanges_data, re
 use Rattle.sctp_assoc.specs.Gather.{control_polled, data_after, data_polled, open_polled, polled}
 use Rattle.sctp_assoc.specs.Handshake.{after_t1_cookie, after_t1_init, init_queued, sends_cookie, sends_init}
 use Rattle.sctp_assoc.specs.Handshake.{t1_cookie_expired, t1_init_expired}
-use Rattle.sctp_assoc.specs.Resets.{after_reconfig_timer, asks_again, gives_up, reconfig_expired, with_beside}
+use Rattle.sctp_assoc.specs.Resets.{after_reconfig_timer, asks_again, gives_up, goes_on, reconfig_expired, with_beside}
 use Rattle.sctp_assoc.specs.Resets.{with_reconfig_run}
 use Rattle.sctp_assoc.specs.Shown.{Shown}
 use Rattle.sctp_assoc.specs.Shutdown.{after_t2_shutdown}
@@ -118,19 +118,28 @@ module _ (P : ChunkPayloadData → Type 0) where
   t3_held true true a now = same_held P a _ refl refl
   t3_held true false a now = same_held P a _ refl refl
 
-  gives_up_held : (a : Shown) → KeepsHeld P a (gives_up a)
-  gives_up_held a =
+  goes_on_held_if : (active : Bool) (a : Shown) (now : ℕ)
+      → KeepsHeld P a
+      (if active then asks_again a now else record a { timers = with_stopped names.Reconfig a.timers })
+  goes_on_held_if true a now = same_held P a _ refl refl
+  goes_on_held_if false a now = same_held P a _ refl refl
+
+  goes_on_held : (a : Shown) (now : ℕ) → KeepsHeld P a (goes_on a now)
+  goes_on_held a now = goes_on_held_if (is_some a.resets.own.active) a now
+
+  gives_up_held : (a : Shown) (now : ℕ) → KeepsHeld P a (gives_up a now)
+  gives_up_held a now =
       let x = given_up a.resets a.streams a.events in
       then_held P (beside_held P a x (given_up_holds P a.resets a.streams a.events))
-      (same_held P (with_beside a x) (gives_up a) refl refl)
+      (goes_on_held (with_beside a x) now)
 
   reconfig_held : (expired failure : Bool) (a : Shown) (now : ℕ)
       → KeepsHeld P a
-      (if expired then (if failure then gives_up (reconfig_expired a now) else asks_again (reconfig_expired a now) now)
-      else a)
+      (if expired then
+      (if failure then gives_up (reconfig_expired a now) now else asks_again (reconfig_expired a now) now) else a)
   reconfig_held false failure a now = stays_held P a
   reconfig_held true true a now =
-      let b : Shown = reconfig_expired a now in then_held P (same_held P a b refl refl) (gives_up_held b)
+      let b : Shown = reconfig_expired a now in then_held P (same_held P a b refl refl) (gives_up_held b now)
   reconfig_held true false a now = same_held P a _ refl refl
 
   ack_delay_held : (expired : Bool) (a : Shown) (now : ℕ) → (expiry_of names.Ack now a.timers).expired ≡ expired

@@ -4,6 +4,7 @@ use Rattle.std.proofs.Common.{◌≡◌, refl, ℕ, zero, suc, ◌==◌, ◌&&�
 use Rattle.std.proofs.Common.{List, [], ◌∷◌, fold, filter, Option, Some, None, is_some, remove, slice_get}
 use Rattle.std.proofs.Common.{Result, Ok, Err}
 use Rattle.std.specs.List.{AllByRecursion}
+use Rattle.sctp_wire_types.specs.Config.{is_rfc}
 use Rattle.sctp_wire_types.specs.declared.chunk.ChunkPayloadData.{ChunkPayloadData}
 use Rattle.sctp_wire_types.specs.declared.error.Error.{Error}
 use Rattle.sctp_wire_types.specs.declared.event.StreamResetError.{StreamResetError}
@@ -16,14 +17,15 @@ use Rattle.sctp_streams.specs.declared.setting.Setting.TheVariants as settings
 use Rattle.sctp_streams.specs.Events.{is_told_of}
 use Rattle.sctp_streams.specs.Stream.{stream_skipped, with_restarted_ssn, with_setting, without_unread}
 use Rattle.sctp_streams.specs.Streams.{StreamMap, changed_stream, generation_left, is_readable_in, pushed_in}
-use Rattle.sctp_streams.specs.Streams.{refusal_in, stream_at, waiting_of}
+use Rattle.sctp_streams.specs.Streams.{refusal_in, stream_at, waiting_of, without_stream}
 use Rattle.sctp_generations.specs.declared.retirement.Retirement.{Retirement}
 use Rattle.sctp_generations.specs.declared.retirement.Retirement.TheVariants as retirements
 use Rattle.sctp_generations.specs.declared.skips.KeptSkip.{KeptSkip}
 use Rattle.sctp_generations.specs.Deferred.{place_of}
 use Rattle.sctp_generations.specs.Generations.{GenerationsView, after_given_to, after_skips_given_to, discarded}
-use Rattle.sctp_generations.specs.Generations.{drained, given_to, given_to_all, has_skips, retired_by, retirement_of}
-use Rattle.sctp_generations.specs.Generations.{retires, skips_given_to, with_kept_skip, without_newest_of}
+use Rattle.sctp_generations.specs.Generations.{drained, given_to, given_to_all, has_newest, has_skips, retired_by}
+use Rattle.sctp_generations.specs.Generations.{retirement_of, retires, skips_given_to, with_kept_skip}
+use Rattle.sctp_generations.specs.Generations.{without_newest_of}
 use Rattle.sctp_generations.specs.Retiring.{count_at}
 use Rattle.sctp_generations.specs.Skips.{skip_ids}
 use Rattle.sctp_reset_requests.specs.declared.answer.Standing.{Standing}
@@ -44,12 +46,13 @@ use Rattle.sctp_resets.specs.Channels.{Channels, channels, delivered, given_unle
 use Rattle.sctp_resets.specs.Channels.{is_write_half_closed, with_new_stream}
 use Rattle.sctp_resets.specs.Draining.{Reading, ended, next_generation_read, passed_once, passed_times, passed_where}
 use Rattle.sctp_resets.specs.Draining.{skipped_over, with_write_half, write_half_kept}
-use Rattle.sctp_resets.specs.Performing.{Performing, is_drained, named_live, performing, retired_as, retired_each}
-use Rattle.sctp_resets.specs.Performing.{retired_next, retired_one, with_retired}
+use Rattle.sctp_resets.specs.Performing.{Performing, answered_in, is_drained, named_in, named_live, performing}
+use Rattle.sctp_resets.specs.Performing.{retired_as, retired_each, retired_next, retired_one, with_retired}
 use Rattle.sctp_resets.specs.Resets.{Beside, ResetsView, Resetting, all_released, arrived_with, confirmed_by}
-use Rattle.sctp_resets.specs.Resets.{confirmed_where, ended_as_answered, ended_unless, event_told, event_told_at}
-use Rattle.sctp_resets.specs.Resets.{given_up, given_up_where, handled, handled_after, is_blocked, performed}
-use Rattle.sctp_resets.specs.Resets.{performed_with, read_out, request_over, responded, settled, settled_where}
+use Rattle.sctp_resets.specs.Resets.{confirmed_where, dropped, ended_as_answered, ended_unless, event_told}
+use Rattle.sctp_resets.specs.Resets.{event_told_at, given_up, given_up_for_now, given_up_where, handled, handled_after}
+use Rattle.sctp_resets.specs.Resets.{is_blocked, own_answered, performed, performed_with, read_out, request_over}
+use Rattle.sctp_resets.specs.Resets.{reset_or_ended, responded, settled, settled_where}
 use Rattle.sctp_resets.specs.Resets.{skips_done, skips_done_in, skips_done_of, stopped_reading, with_channels}
 use Rattle.sctp_resets.specs.Resets.{with_deferred, with_event, with_generations, with_skip, without_unordered}
 use Rattle.sctp_resets.specs.Skips.{Skipping, end_of_skip, reaches_its_ssn, skip_tried, skips_applied, skips_applied_of}
@@ -198,12 +201,17 @@ module _ (P : ChunkPayloadData → Type 0) where
     kept = all_filtered P _ r.generations.deferred h.kept;
   }
 
-  performed_with_holds : (q : PeerRequestView) (first limit : ℕ) (r : ResetsView) (to_accept : List ℕ)
+  -- the ends that a request brings are told, and nothing that waits to be read changes
+  answered_holds : (o : OwnView) (named : List ℕ) (x : Performing × List ℕ) → IsPerformingOnly x.0
+      → IsPerformingOnly (answered_in o named x).0
+  answered_holds o named (p, ids) h = h
+
+  performed_with_holds : (q : PeerRequestView) (first limit : ℕ) (r : ResetsView) (to_accept named : List ℕ)
       (p : Performing × List ℕ) → IsPerformingOnly p.0
-      → IsResettingOnly (performed_with q first limit r to_accept p).0
-  performed_with_holds q first limit r to_accept (p, ids) h =
+      → IsResettingOnly (performed_with q first limit r to_accept named p).0
+  performed_with_holds q first limit r to_accept named (p, ids) h =
       all_released_hold first limit (record r {
-        own = own.reciprocated r.own q ids;
+        own = own_answered q named ids r.own;
         debts = p.debts;
         generations = without_newest_of p.generations q.ids;
       }) (channels p.streams p.events to_accept) (record { streams = h.0; kept = h.1 })
@@ -212,10 +220,12 @@ module _ (P : ChunkPayloadData → Type 0) where
       → IsHeldOnly P r c.streams → IsResettingOnly (performed q first limit r c).0
   unfolding performed
   performed_holds q first limit r c h =
-      performed_with_holds q first limit r c.to_accept
-      (retired_each q (performing r.generations r.debts c.streams c.events))
+      let named = named_in r.own c.streams q in
+      let x = retired_each q (performing r.generations r.debts c.streams c.events) in
+      performed_with_holds q first limit r c.to_accept named (answered_in r.own named x)
+      (answered_holds r.own named x
       (all_retired_hold q.last_tsn (named_live c.streams q)
-      (performing r.generations r.debts c.streams c.events, []) (h.streams, h.kept))
+      (performing r.generations r.debts c.streams c.events, []) (h.streams, h.kept)))
 
   with_peer_holds : (r : ResetsView) (p : PeerView) (m : StreamMap) → IsHeldOnly P r m
       → IsHeldOnly P (record r { peer = p }) m
@@ -239,9 +249,9 @@ module _ (P : ChunkPayloadData → Type 0) where
 
   -- A request of this side ends
 
-  completed_holds : (owed : Bool) (d : DebtsView) (a : Answering) (id : ℕ) → StreamsHoldOnly P a.streams
-      → StreamsHoldOnly P (completed_with (d, owed) a id).streams
-  completed_holds owed d a id h = by owed
+  completed_holds : (by_rfcs owed : Bool) (d : DebtsView) (a : Answering) (id : ℕ) → StreamsHoldOnly P a.streams
+      → StreamsHoldOnly P (completed_with by_rfcs (d, owed) a id).streams
+  completed_holds by_rfcs owed d a id h = by owed
     where
       changed : (b : Bool) → StreamsHoldOnly P (ended_or_restarted b (record a { debts = d }) id).streams
       changed b =
@@ -250,21 +260,22 @@ module _ (P : ChunkPayloadData → Type 0) where
           (changed_holds P with_restarted_ssn (λ k s held. held) a.streams id h)
 
       by : (b : Bool)
-          → StreamsHoldOnly P (complete_told b (ended_or_restarted b (record a { debts = d }) id) id).streams
-      by true = changed true
+          → StreamsHoldOnly P
+          (complete_told b (ended_or_restarted (b && not by_rfcs) (record a { debts = d }) id) id).streams
+      by true = changed (not by_rfcs)
       by false = changed false
 
-  all_completed_hold : (ids : List ℕ) (a : Answering) → StreamsHoldOnly P a.streams
-      → StreamsHoldOnly P (fold completed_one a ids).streams
-  all_completed_hold [] a h = h
-  all_completed_hold (id ∷ ids) a h =
-      all_completed_hold ids (completed_one a id)
-      (completed_holds (debts.settled a.debts id).1 (debts.settled a.debts id).0 a id h)
+  all_completed_hold : (by_rfcs : Bool) (ids : List ℕ) (a : Answering) → StreamsHoldOnly P a.streams
+      → StreamsHoldOnly P (fold (completed_one by_rfcs) a ids).streams
+  all_completed_hold by_rfcs [] a h = h
+  all_completed_hold by_rfcs (id ∷ ids) a h =
+      all_completed_hold by_rfcs ids (completed_one by_rfcs a id)
+      (completed_holds by_rfcs (debts.settled a.debts id).1 (debts.settled a.debts id).0 a id h)
 
   over_holds : (outcome : Result (Unit {0}) StreamResetError) (q : OwnRequest) (r : ResetsView) (m : StreamMap)
       (told : List Event) → IsHeldOnly P r m → IsBesideOnly (request_over outcome q r m told)
   over_holds (Ok done) q r m told h = record {
-    streams = all_completed_hold q.ids (answering r.debts m told) h.streams;
+    streams = all_completed_hold (is_rfc r.own.profile) q.ids (answering r.debts m told) h.streams;
     kept = h.kept;
   }
   over_holds (Err reason) q r m told h = record { streams = h.streams; kept = h.kept }
@@ -287,7 +298,10 @@ module _ (P : ChunkPayloadData → Type 0) where
 
   pub given_up_holds : (r : ResetsView) (m : StreamMap) (told : List Event) → IsHeldOnly P r m
       → IsHeldOnly P (given_up r m told).0 (given_up r m told).1
-  given_up_holds r m told h = by (own.ended r.own).1
+  given_up_holds r m told h =
+      of_chosen IsBesideOnly (is_rfc r.own.profile) (given_up_for_now r m told)
+      (given_up_where (own.ended r.own) r m told) (with_own_holds r (own.marked_given_up r.own) m h)
+      (by (own.ended r.own).1)
     where
       by : (q : Option OwnRequest) → IsBesideOnly (given_up_where ((own.ended r.own).0, q) r m told)
       by None = with_own_holds r (own.ended r.own).0 m h
@@ -402,29 +416,36 @@ module _ (P : ChunkPayloadData → Type 0) where
       (r.generations, c) (h.streams, h.kept) in
       record { streams = a.0; kept = a.1 }
 
+  -- the stream stays or ends, by the rules of the RFCs and by those of the port
+  dropped_holds : (more : Bool) (r : ResetsView) (id : ℕ) (m : StreamMap) (told : List Event) → IsHeldOnly P r m
+      → IsBesideOnly (dropped more r id m told)
+  dropped_holds more r id m told h =
+      of_chosen IsBesideOnly (is_rfc r.own.profile) (reset_or_ended more r id m told)
+      (ended_unless (is_blocked r id) r id m told) (by_rfcs more) (by_port (is_blocked r id))
+    where
+      without_it : IsHeldOnly P r (without_stream m id)
+      without_it = record { streams = without_stream_holds P m id h.streams; kept = h.kept }
+
+      by_rfcs : (resets : Bool) → IsBesideOnly (reset_or_ended resets r id m told)
+      by_rfcs true = with_own_holds r (own.with_waiting r.own id) m h
+      by_rfcs false = without_it
+
+      by_port : (blocked : Bool) → IsBesideOnly (ended_unless blocked r id m told)
+      by_port true = h
+      by_port false = without_it
+
   pub stopped_reading_holds : (id : ℕ) (r : ResetsView) (m : StreamMap) (told : List Event) → IsHeldOnly P r m
       → IsHeldOnly P (stopped_reading id r m told).0 (stopped_reading id r m told).1
   stopped_reading_holds id r m told h =
-      by (is_blocked (with_generations r (discarded r.generations id)) id)
+      dropped_holds (has_newest r.generations id) (with_generations r (discarded r.generations id)) id
+      (changed_stream without_unread m id) (filter (λ e. not (is_told_of id e)) told)
+      (record { streams = emptied; kept = kept_left })
     where
-      left : ResetsView
-      left = with_generations r (discarded r.generations id)
-
       emptied : StreamsHoldOnly P (changed_stream without_unread m id)
       emptied = changed_holds P without_unread (λ k s held. empty_holds P k) m id h.streams
 
       kept_left : KeepsOnly (discarded r.generations id)
       kept_left = all_filtered P _ r.generations.deferred h.kept
-
-      by : (blocked : Bool)
-          → IsBesideOnly
-          (ended_unless blocked left id (changed_stream without_unread m id)
-          (filter (λ e. not (is_told_of id e)) told))
-      by true = record { streams = emptied; kept = kept_left }
-      by false = record {
-        streams = without_stream_holds P (changed_stream without_unread m id) id emptied;
-        kept = kept_left;
-      }
 
   pub event_told_holds : (r : ResetsView) (m : StreamMap) (told : List Event) → IsHeldOnly P r m
       → IsHeldOnly P (event_told r told).0 m

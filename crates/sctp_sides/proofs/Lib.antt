@@ -75,6 +75,7 @@ pub mod Proved
 pub mod QuietQueues
 pub mod ReconfigStatus
 pub mod RepeatsKnown
+pub mod RequestsLeft
 pub mod RequestsTimed
 pub mod ResetLosses
 pub mod ResetsBeside

@@ -27,6 +27,7 @@ use Rattle.sctp_assoc.specs.Calls.{is_beginning, is_cookie_wait, sends_data}
 use Rattle.sctp_assoc.specs.Chunks.{goes_unread}
 use Rattle.sctp_assoc.specs.Happened.{acts_of_checked, acts_of_chunk, acts_of_data, acts_of_finding, acts_of_forward}
 use Rattle.sctp_assoc.specs.Happened.{acts_of_kind, acts_of_outcome, marks_if}
+use Rattle.sctp_assoc.specs.Handshake.{keeps_peer}
 use Rattle.sctp_assoc.specs.Leads.{Binds}
 use Rattle.sctp_assoc.specs.Probes.{is_probing, opens_window}
 use Rattle.sctp_assoc.specs.ResetActs.{acts_of_keeping, acts_of_param, acts_of_reconfig, acts_of_second}
@@ -34,6 +35,7 @@ use Rattle.sctp_assoc.specs.ResetActs.{acts_of_settling}
 use Rattle.sctp_assoc.specs.Resets.{after_param}
 use Rattle.sctp_assoc.specs.Shown.{Shown}
 use Rattle.sctp_assoc.specs.Skipping.{skips_of, with_passed, with_skips}
+use Rattle.sctp_assoc.proofs.HandshakeFacts.{known_all}
 use Rattle.sctp_assoc.proofs.StreamsFound.{finding_opens}
 use Rattle.sctp_sides.specs.Intake.{IsEndOfSpans, NothingElseIsKeptApart, NothingElseIsTakenIn, WasToBeKeptApart}
 use Rattle.sctp_sides.specs.Intake.{WasToBeLeft, WasToBeTakenIn, is_for_later, later_refusal_of, refusal_of}
@@ -300,7 +302,8 @@ kinds_take_nothing a header (chunks.SelectiveAck sack) n =
     all_if (sends_data a.state) _ []
     (outcomes_take_nothing _ _ sack.gap_ack_blocks _
     (opens_window (is_probing a.profile a.sender) sack.advertised_receiver_window_credit)) tt
-kinds_take_nothing a header (chunks.Init init) n = all_if (is_beginning a.state) _ [] (tt, tt) tt
+kinds_take_nothing a header (chunks.Init init) n =
+    all_if (is_beginning a.state) _ [] (known_all IsNoIntake (keeps_peer a init) init.initial_tsn tt) tt
 kinds_take_nothing a header (chunks.InitAck init) n =
     all_if (is_cookie_wait a.state) _ [] (all_if (comes_back a.handshake header) _ [] (tt, tt) tt) tt
 kinds_take_nothing a header (chunks.ForwardTsn x) n =

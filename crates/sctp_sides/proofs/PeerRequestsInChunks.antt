@@ -38,7 +38,7 @@ use Rattle.sctp_resets.specs.declared.answers.TimerChange.{TimerChange}
 use Rattle.sctp_resets.specs.declared.performing.Handled.{Handled}
 use Rattle.sctp_resets.specs.declared.performing.Settled.{Settled}
 use Rattle.sctp_resets.specs.Channels.{Channels}
-use Rattle.sctp_resets.specs.Performing.{Performing, performing, retired_each}
+use Rattle.sctp_resets.specs.Performing.{Performing, answered_in, named_in, performing, retired_each}
 use Rattle.sctp_resets.specs.Resets.{Beside, ResetsView, Resetting, arrived_with, confirmed_by}
 use Rattle.sctp_resets.specs.Resets.{ended_as_answered, handled, handled_behind, performed, performed_with, responded}
 use Rattle.sctp_resets.specs.Resets.{settled_by, settled_where, skips_done, skips_done_of, with_channels}
@@ -47,7 +47,7 @@ use Rattle.sctp_resets.specs.Resets as resets
 use Rattle.sctp_resets.specs.Skips.{Skipping}
 use Rattle.sctp_resets.specs.Skips as skips
 use Rattle.sctp_assoc.specs.declared.inbound.Flow.{Flow}
-use Rattle.sctp_assoc.specs.Calls.{is_beginning, is_cookie_echoed, is_cookie_wait, is_established, sends_data}
+use Rattle.sctp_assoc.specs.Calls.{is_beginning, is_cookie_echoed, is_cookie_wait, sends_data}
 use Rattle.sctp_assoc.specs.Chunks.{asks, asks_or_faults, checked_first, counted_data, counted_sack, deferred_unless}
 use Rattle.sctp_assoc.specs.Chunks.{deferred_where_admitted, dispatched, on_chunk, on_counted_sack, on_data}
 use Rattle.sctp_assoc.specs.Chunks.{after_sack, goes_unread, left_or_handed_over, on_new_data}
@@ -55,8 +55,8 @@ use Rattle.sctp_assoc.specs.Chunks.{on_sack, stream_found, taken_in, taken_unles
 use Rattle.sctp_assoc.specs.Chunks.{told, with_message}
 use Rattle.sctp_assoc.specs.Closing.{is_exhausted}
 use Rattle.sctp_assoc.specs.Finding.{found_for}
-use Rattle.sctp_assoc.specs.Handshake.{information_returned, on_cookie_ack, on_cookie_echo, on_heartbeat, on_init}
-use Rattle.sctp_assoc.specs.Handshake.{on_init_ack}
+use Rattle.sctp_assoc.specs.Handshake.{acknowledges_again, information_returned, on_cookie_ack, on_cookie_echo}
+use Rattle.sctp_assoc.specs.Handshake.{on_heartbeat, on_init, on_init_ack}
 use Rattle.sctp_assoc.specs.Probes.{is_probing}
 use Rattle.sctp_assoc.specs.Resets.{after_param, asking_if, behind_first, behind_params, channels_of, handled_with}
 use Rattle.sctp_assoc.specs.Resets.{on_reconfig, on_request, on_response, responded_with, settled, settled_with}
@@ -96,16 +96,17 @@ requests_then a b c x y = requests_kept a c (y.state ∙ x.state) (y.lost ∙ x.
 
 -- What a performed request leaves of the peer's requests
 
-released_peer : (q : PeerRequestView) (first limit : ℕ) (r : ResetsView) (to_accept : List ℕ)
-    (x : Performing × List ℕ) → (performed_with q first limit r to_accept x).0.0.peer ≡ r.peer
-released_peer q first limit r to_accept (p, ids) = refl
+released_peer : (q : PeerRequestView) (first limit : ℕ) (r : ResetsView) (to_accept named : List ℕ)
+    (x : Performing × List ℕ) → (performed_with q first limit r to_accept named x).0.0.peer ≡ r.peer
+released_peer q first limit r to_accept named (p, ids) = refl
 
 performed_peer : (q : PeerRequestView) (first limit : ℕ) (r : ResetsView) (c : Channels)
     → (performed q first limit r c).0.0.peer ≡ r.peer
 unfolding performed
 performed_peer q first limit r c =
-    released_peer q first limit r c.to_accept
-    (retired_each q (performing r.generations r.debts c.streams c.events))
+    let named = named_in r.own c.streams q in
+    released_peer q first limit r c.to_accept named
+    (answered_in r.own named (retired_each q (performing r.generations r.debts c.streams c.events)))
 
 settled_by_peer : (q : PeerRequestView) (x : Resetting × Bool) → (settled_by q x).0.0.peer ≡ x.0.0.peer
 settled_by_peer q (s, asks) = refl
@@ -475,11 +476,11 @@ module _ (P : PeerView → Type 0) (kept : IsKept P) where
   unfolding on_init_ack
   init_ack_goes a header init trigger now e = rw e (same a)
 
-  cookie_echo_goes : (issued established : Bool) (a : Shown) (cookie : List ℕ) (trigger : AckTrigger)
-      → has_issued a.handshake cookie ≡ issued → is_beginning a.state ≡ false → is_established a.state ≡ established
+  cookie_echo_goes : (issued again : Bool) (a : Shown) (cookie : List ℕ) (trigger : AckTrigger)
+      → has_issued a.handshake cookie ≡ issued → is_beginning a.state ≡ false → acknowledges_again a ≡ again
       → GoesOn a (on_cookie_echo a cookie trigger).0
   unfolding on_cookie_echo
-  cookie_echo_goes false established a cookie trigger e f g = rw e (same a)
+  cookie_echo_goes false again a cookie trigger e f g = rw e (same a)
   cookie_echo_goes true true a cookie trigger e f g = rw (e, f, g) (by_parts a _ refl refl)
   cookie_echo_goes true false a cookie trigger e f g = rw (e, f, g) (same a)
 
@@ -516,7 +517,7 @@ module _ (P : PeerView → Type 0) (kept : IsKept P) where
   kind_goes header chunks.ShutdownAck a trigger now e = by_parts a _ refl refl
   kind_goes header (chunks.Error x) a trigger now e = same a
   kind_goes header (chunks.CookieEcho x) a trigger now e =
-      cookie_echo_goes (has_issued a.handshake x) (is_established a.state) a x trigger refl e refl
+      cookie_echo_goes (has_issued a.handshake x) (acknowledges_again a) a x trigger refl e refl
   kind_goes header chunks.CookieAck a trigger now e = cookie_ack_goes a trigger (begun_shakes_no_hands a.state e).1
   kind_goes header chunks.ShutdownComplete a trigger now e = same a
   kind_goes header (chunks.Reconfig x) a trigger now e = reconfig_goes a x trigger

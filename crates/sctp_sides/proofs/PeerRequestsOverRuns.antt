@@ -1,7 +1,7 @@
 -- What holds of the peer's requests to reset streams, and stays so whatever becomes of them by their numbers, stays so
 -- over every list of calls once the handshake is over: the first that were completed stay completed, and are known.
 use Rattle.std.proofs.Common.{◌≡◌, refl, sym, ap, ◌∙◌, subst, ⊎_elim, inl, inr, ℕ, ◌<◌, ◌≤◌, arith, Bool, true, false}
-use Rattle.std.proofs.Common.{if◌then◌else◌, List, [], ◌∷◌, Option, Some, None}
+use Rattle.std.proofs.Common.{if◌then◌else◌, List, [], ◌∷◌, Option, Some, None, is_some}
 use Rattle.std.proofs.lemmas.Bool.{false≢true}
 use Rattle.std.specs.Prelude.{remove, slice_get}
 use Rattle.sctp_wire_types.specs.Config.{is_rfc}
@@ -12,7 +12,7 @@ use Rattle.sctp_wire_types.specs.declared.packet.CommonHeader.{CommonHeader}
 use Rattle.sctp_wire.specs.declared.packet.Packet.{Packet}
 use Rattle.sctp_parts.specs.declared.state.AssociationState.TheVariants as states
 use Rattle.sctp_parts.specs.declared.timer.Timer.TheVariants as names
-use Rattle.sctp_parts.specs.Timers.{expiry_of}
+use Rattle.sctp_parts.specs.Timers.{expiry_of, with_stopped}
 use Rattle.sctp_receive_queues.specs.Messages.{ReceivedMessage}
 use Rattle.sctp_streams.specs.declared.event.AssociationError.{AssociationError}
 use Rattle.sctp_streams.specs.declared.event.AssociationError.TheVariants as reasons
@@ -23,7 +23,6 @@ use Rattle.sctp_streams.specs.Streams.{StreamMap, read_in, stream_at}
 use Rattle.sctp_inbound.specs.declared.handshake.Offer.{Offer}
 use Rattle.sctp_inbound.specs.declared.receiver.AckTrigger.{AckTrigger}
 use Rattle.sctp_inbound.specs.declared.receiver.AckTrigger.TheVariants as triggers
-use Rattle.sctp_reset_requests.specs.declared.own_request.OwnRequest.{OwnRequest}
 use Rattle.sctp_reset_requests.specs.Laws.{Comes, CompletedAreKnown, CompletedStayCompleted, IsCompletedUpTo, Moves}
 use Rattle.sctp_reset_requests.specs.Own.{OwnView}
 use Rattle.sctp_reset_requests.specs.Own as own
@@ -31,9 +30,8 @@ use Rattle.sctp_reset_requests.specs.Peer.{PeerView, boundary_of}
 use Rattle.sctp_reset_requests.specs.Request.{request_of}
 use Rattle.sctp_resets.specs.Channels.{channels}
 use Rattle.sctp_resets.specs.Draining.{Reading, drained_out}
-use Rattle.sctp_resets.specs.Resets.{ResetsView, ended_unless, event_told, event_told_at, given_up, given_up_where}
-use Rattle.sctp_resets.specs.Resets.{is_retiring, read_out, stopped_reading, with_event}
-use Rattle.sctp_resets.specs.Resets.{with_read}
+use Rattle.sctp_resets.specs.Resets.{ResetsView, event_told, event_told_at, given_up, is_retiring, read_out}
+use Rattle.sctp_resets.specs.Resets.{stopped_reading, with_event, with_read}
 use Rattle.sctp_resets.specs.Telling.{next_told}
 use Rattle.sctp_assoc.specs.declared.inbound.Flow.{Flow}
 use Rattle.sctp_assoc.specs.declared.inbound.Flow.TheVariants as flows
@@ -57,6 +55,7 @@ use Rattle.sctp_sides.proofs.PeerRequestsInChunks.{requests_kept, requests_same,
 use Rattle.sctp_sides.proofs.EndedPolls.{by_poll_end, complete_given}
 use Rattle.sctp_sides.proofs.PeerRequestsInPolls.{KeepsPeer, front_keeps}
 use Rattle.sctp_sides.proofs.RepeatsKnown.{answered_retires, passed_is_answered}
+use Rattle.sctp_sides.proofs.RequestsLeft.{given_up_leaves, stopped_reading_leaves}
 use Rattle.sctp_sides.proofs.TimersOverRuns.{IsUntouched, accepted_works}
 
 -- Calls that leave the peer's requests
@@ -108,11 +107,6 @@ draining_keeps a id streams =
     resetting_keeps a (read_out first limit id a.resets c)
     (read_peer a.resets (drained_out first limit id (boundary_of a.resets.peer id) (a.resets.generations, c)))
 
-dropped_peer : (blocked : Bool) (r : ResetsView) (id : ℕ) (m : StreamMap) (told : List Event)
-    → (ended_unless blocked r id m told).0.peer ≡ r.peer
-dropped_peer true r id m told = refl
-dropped_peer false r id m told = refl
-
 stop_keeps : (retires : Bool) (a : Shown) (id : ℕ)
     → KeepsRequests a
     (let b = without_read_half_of a id in
@@ -125,7 +119,8 @@ stop_keeps true a id =
     let b : Shown = without_read_half_of a id in
     requests_then a b (with_beside b (stopped_reading id b.resets b.streams b.events))
     (requests_kept a b refl refl refl)
-    (beside_keeps b (stopped_reading id b.resets b.streams b.events) (dropped_peer _ _ id _ _))
+    (beside_keeps b (stopped_reading id b.resets b.streams b.events)
+    (stopped_reading_leaves (λ (z : ResetsView). z.peer ≡ b.resets.peer) id b.resets b.streams b.events refl refl))
 stop_keeps false a id = requests_kept a _ refl refl refl
 
 -- timers
@@ -178,25 +173,30 @@ t3_keeps false failure a now = requests_same a
 t3_keeps true true a now = requests_kept a _ refl refl refl
 t3_keeps true false a now = requests_kept a _ refl refl refl
 
-given_up_peer : (x : OwnView × Option OwnRequest) (r : ResetsView) (m : StreamMap) (told : List Event)
-    → (given_up_where x r m told).0.peer ≡ r.peer
-given_up_peer (o, None) r m told = refl
-given_up_peer (o, Some q) r m told = refl
+-- a request that is given up is over, or it goes out again
+going_on_keeps : (active : Bool) (a : Shown) (now : ℕ)
+    → KeepsRequests a
+    (if active then asks_again a now else record a { timers = with_stopped names.Reconfig a.timers })
+going_on_keeps true a now = requests_kept a _ refl refl refl
+going_on_keeps false a now = requests_kept a _ refl refl refl
 
-giving_up_keeps : (a : Shown) → KeepsRequests a (gives_up a)
-giving_up_keeps a =
-    let k = beside_keeps a (given_up a.resets a.streams a.events)
-    (given_up_peer (own.ended a.resets.own) a.resets a.streams a.events) in
-    requests_kept a (gives_up a) k.state k.lost k.peer
+giving_up_keeps : (a : Shown) (now : ℕ) → KeepsRequests a (gives_up a now)
+giving_up_keeps a now =
+    let x = given_up a.resets a.streams a.events in
+    let b : Shown = with_beside a x in
+    requests_then a b (gives_up a now)
+    (beside_keeps a x
+    (given_up_leaves (λ (o : OwnView) (p : PeerView). p ≡ a.resets.peer) a.resets a.streams a.events refl refl))
+    (going_on_keeps (is_some b.resets.own.active) b now)
 
 reconfig_keeps : (expired failure : Bool) (a : Shown) (now : ℕ)
     → KeepsRequests a
-    (if expired then (if failure then gives_up (reconfig_expired a now) else asks_again (reconfig_expired a now) now)
-    else a)
+    (if expired then
+    (if failure then gives_up (reconfig_expired a now) now else asks_again (reconfig_expired a now) now) else a)
 reconfig_keeps false failure a now = requests_same a
 reconfig_keeps true true a now =
     let b : Shown = reconfig_expired a now in
-    requests_then a b (gives_up b) (requests_kept a b refl refl refl) (giving_up_keeps b)
+    requests_then a b (gives_up b now) (requests_kept a b refl refl refl) (giving_up_keeps b now)
 reconfig_keeps true false a now = requests_kept a _ refl refl refl
 
 ack_delay_keeps : (expired : Bool) (a : Shown) (now : ℕ) → (expiry_of names.Ack now a.timers).expired ≡ expired

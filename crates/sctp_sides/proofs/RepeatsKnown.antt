@@ -1,9 +1,10 @@
 -- A repeat of a request of the peer that was completed is answered as performed, and retires nothing.
-use Rattle.std.proofs.Common.{◌≡◌, refl, sym, ap, ◌∙◌, subst, ℕ, ◌==◌, Bool, true, false, ◌&&◌, cond, fold}
+use Rattle.std.proofs.Common.{◌≡◌, refl, sym, ap, ◌∙◌, subst, ℕ, ◌==◌, Bool, true, false, ◌&&◌, not, cond, fold}
 use Rattle.std.proofs.Common.{List, [], ◌∷◌, ◌++◌, Option, Some, None, is_some}
 use Rattle.std.proofs.lemmas.Bool.{true≢false}
 use Rattle.std.proofs.lemmas.List.{append-nil, append_assoc}
 use Rattle.std.specs.List.{AllByRecursion}
+use Rattle.sctp_wire_types.specs.Config.{is_rfc}
 use Rattle.sctp_wire_types.specs.declared.param.ParamOutgoingResetRequest.{ParamOutgoingResetRequest}
 use Rattle.sctp_wire_types.specs.declared.param.ReconfigResult.TheVariants as results
 use Rattle.sctp_wire_types.specs.declared.event.StreamEvent.TheVariants.{ResetComplete}
@@ -17,7 +18,7 @@ use Rattle.sctp_reset_requests.specs.declared.answer.Standing.{Standing}
 use Rattle.sctp_reset_requests.specs.declared.own_request.OwnRequest.{OwnRequest}
 use Rattle.sctp_reset_requests.specs.declared.own_request.SentRequest.{SentRequest}
 use Rattle.sctp_reset_requests.specs.Debts.{DebtsView, settled}
-use Rattle.sctp_reset_requests.specs.Own.{OwnView, has_number, request_sent, with_active}
+use Rattle.sctp_reset_requests.specs.Own.{OwnView, is_confirmed_by, request_sent, with_active}
 use Rattle.sctp_reset_requests.specs.Own as own
 use Rattle.sctp_reset_requests.specs.Peer.{PeerView, arrived, arrived_as}
 use Rattle.sctp_reset_requests.specs.Request.{request_of}
@@ -86,12 +87,12 @@ ends_some s o true e = absurd (true≢false (ap (λ (z : Option OwnRequest). is_
 ends_some s o false e = refl
 
 none_ends : (active : Option SentRequest) (o : OwnView) (number : ℕ)
-    → (cond {A = OwnView × Option OwnRequest} (has_number active number) (with_active o None, request_sent active)
+    → (cond {A = OwnView × Option OwnRequest} (is_confirmed_by active number) (with_active o None, request_sent active)
     (o, None)).1 ≡ None
-    → cond {A = OwnView × Option OwnRequest} (has_number active number) (with_active o None, request_sent active)
+    → cond {A = OwnView × Option OwnRequest} (is_confirmed_by active number) (with_active o None, request_sent active)
     (o, None) ≡ (o, None)
 none_ends None o number e = refl
-none_ends (Some s) o number e = ends_some s o (s.request.number == number) e
+none_ends (Some s) o number e = ends_some s o (s.request.number == number && not s.is_put_off) e
 
 pub repeats_are_only_answered : RepeatsAreOnlyAnswered
 repeats_are_only_answered a param repeat none =
@@ -137,18 +138,22 @@ complete_adds : (owed : Bool) (a : Answering) (id : ℕ) → AddsNoEnd a.events 
 complete_adds true a id = adds_one a.events (events.Stream (ResetComplete id)) (λ stream. refl)
 complete_adds false a id = adds_nothing a.events
 
-one_adds : (x : DebtsView × Bool) (a : Answering) (id : ℕ) → AddsNoEnd a.events (completed_with x a id).events
-one_adds (d, owed) a id =
+one_adds : (by_rfcs : Bool) (x : DebtsView × Bool) (a : Answering) (id : ℕ)
+    → AddsNoEnd a.events (completed_with by_rfcs x a id).events
+one_adds by_rfcs (d, owed) a id =
     let b : Answering = record a { debts = d } in
-    let c : Answering = ended_or_restarted owed b id in
+    let ends : Bool = owed && not by_rfcs in
+    let c : Answering = ended_or_restarted ends b id in
     adds_on a.events c.events (complete_told owed c id).events
-    (ended_adds (owed && is_read_half_closed b.streams id) b id) (complete_adds owed c id)
+    (ended_adds (ends && is_read_half_closed b.streams id) b id) (complete_adds owed c id)
 
-all_add : (ids : List ℕ) (a : Answering) → AddsNoEnd a.events (fold completed_one a ids).events
-all_add [] a = adds_nothing a.events
-all_add (id ∷ ids) a =
-    adds_on a.events (completed_one a id).events (fold completed_one (completed_one a id) ids).events
-    (one_adds (settled a.debts id) a id) (all_add ids (completed_one a id))
+all_add : (by_rfcs : Bool) (ids : List ℕ) (a : Answering)
+    → AddsNoEnd a.events (fold (completed_one by_rfcs) a ids).events
+all_add by_rfcs [] a = adds_nothing a.events
+all_add by_rfcs (id ∷ ids) a =
+    let b : Answering = completed_one by_rfcs a id in
+    adds_on a.events b.events (fold (completed_one by_rfcs) b ids).events (one_adds by_rfcs (settled a.debts id) a id)
+    (all_add by_rfcs ids b)
 
 stopped_retires : (stops : Bool) (a b : Shown) (param : ParamOutgoingResetRequest)
     → b.resets.generations ≡ a.resets.generations → b.resets.peer ≡ a.resets.peer → AddsNoEnd a.events b.events
@@ -176,7 +181,7 @@ confirmed_retires (o, None) a param =
     (adds_nothing a.events)
 confirmed_retires (o, Some q) a param =
     stopped_retires true a (with_beside a (confirmed_where (o, Some q) a.resets a.streams a.events).0) param refl refl
-    (all_add q.ids (answering a.resets.debts a.streams a.events))
+    (all_add (is_rfc o.profile) q.ids (answering a.resets.debts a.streams a.events))
 
 -- what is answered alone retires nothing
 pub answered_retires : (a : Shown) (param : ParamOutgoingResetRequest) → IsAnsweredAlone a param

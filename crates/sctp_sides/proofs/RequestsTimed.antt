@@ -4,14 +4,10 @@ use Rattle.std.proofs.Common.{List, Option, Some, None}
 use Rattle.std.proofs.lemmas.Bool.{false≢true}
 use Rattle.sctp_wire_types.specs.declared.error.Error.TheVariants as errors
 use Rattle.sctp_parts.specs.declared.timer.Timer.TheVariants as names
-use Rattle.sctp_parts.specs.Timers.{TimerState, Timers, expired_state, expiry_of, is_due, started, with_timer}
+use Rattle.sctp_parts.specs.Timers.{TimerState, Timers, expired_state, expiry_of, is_due, started, with_stopped}
+use Rattle.sctp_parts.specs.Timers.{with_timer}
 use Rattle.sctp_inbound.specs.declared.handshake.Offer.{Offer}
-use Rattle.sctp_streams.specs.declared.event.Event.{Event}
-use Rattle.sctp_streams.specs.Streams.{StreamMap}
-use Rattle.sctp_reset_requests.specs.declared.own_request.OwnRequest.{OwnRequest}
-use Rattle.sctp_reset_requests.specs.declared.own_request.SentRequest.{SentRequest}
-use Rattle.sctp_reset_requests.specs.Own.{OwnView, ended}
-use Rattle.sctp_resets.specs.Resets.{Beside, ResetsView, given_up, given_up_where}
+use Rattle.sctp_resets.specs.Resets.{ResetsView, given_up}
 use Rattle.sctp_assoc.specs.Calls.{after_ack_delay, after_t3, retransmits, t3_expired}
 use Rattle.sctp_assoc.specs.Gather.{control_polled, exchange_polled, open_polled}
 use Rattle.sctp_assoc.specs.Handshake.{after_t1_cookie, after_t1_init, sends_cookie, sends_init, t1_cookie_expired}
@@ -165,32 +161,32 @@ delay_keeps a now =
           (λ (z : Timers). z.reconfig) refl;
     })
 
--- a request that is given up is active no more
-given_up_if : (o : OwnView) (q : Option OwnRequest) (r : ResetsView) (m : StreamMap) (told : List Event)
-    → o.active ≡ None → (given_up_where (o, q) r m told).0.own.active ≡ None
-given_up_if o None r m told e = e
-given_up_if o (Some q) r m told e = e
+-- a request that is given up and is still active goes out again, and its timer starts
+going_on_times : (active : Bool) (a : Shown) (now : ℕ) → is_some a.resets.own.active ≡ active
+    → is_some (if active then asks_again a now else record a {
+      timers = with_stopped names.Reconfig a.timers;
+    }).resets.own.active ≡ true
+    → is_armed names.Reconfig (if active then asks_again a now else record a {
+      timers = with_stopped names.Reconfig a.timers;
+    }).timers ≡ true
+going_on_times true a now e some = refl
+going_on_times false a now e some = absurd (false≢true (sym e ∙ some))
 
-given_up_beside : (a : Shown) (x : Beside) → (with_beside a x).resets ≡ x.0
-given_up_beside a (r, m, told) = refl
-
-none_given_up : (a : Shown) → (gives_up a).resets.own.active ≡ None
-none_given_up a =
-    let o = ended a.resets.own in
-    ap (λ (r : ResetsView). r.own.active) (given_up_beside a (given_up a.resets a.streams a.events))
-    ∙ given_up_if o.0 o.1 a.resets a.streams a.events refl
+giving_up_times : (a : Shown) (now : ℕ) → is_some (gives_up a now).resets.own.active ≡ true
+    → is_armed names.Reconfig (gives_up a now).timers ≡ true
+giving_up_times a now some =
+    let b : Shown = with_beside a (given_up a.resets a.streams a.events) in
+    going_on_times (is_some b.resets.own.active) b now refl some
 
 reconfig_times : (expired failure : Bool) (a : Shown) (now : ℕ) → is_armed names.Reconfig a.timers ≡ true
     → is_some (if expired then
-    (if failure then gives_up (reconfig_expired a now) else asks_again (reconfig_expired a now) now)
+    (if failure then gives_up (reconfig_expired a now) now else asks_again (reconfig_expired a now) now)
     else a).resets.own.active ≡ true
     → is_armed names.Reconfig (if expired then
-    (if failure then gives_up (reconfig_expired a now) else asks_again (reconfig_expired a now) now)
+    (if failure then gives_up (reconfig_expired a now) now else asks_again (reconfig_expired a now) now)
     else a).timers ≡ true
 reconfig_times false failure a now armed some = armed
-reconfig_times true true a now armed some =
-    absurd (false≢true (sym (ap (λ (o : Option SentRequest). is_some o) (none_given_up (reconfig_expired a now)))
-    ∙ some))
+reconfig_times true true a now armed some = giving_up_times (reconfig_expired a now) now some
 reconfig_times true false a now armed some = refl
 
 pub timeouts_leave_requests_timed : TimeoutsLeaveRequestsTimed

@@ -1,11 +1,12 @@
 -- No reset of streams closes an association, and none tells of a loss.
-use Rattle.std.proofs.Common.{◌≡◌, refl, sym, ap, ◌∙◌, ℕ, zero, suc, ◌+◌, arith, Bool, true, false, not, ◌&&◌}
+use Rattle.std.proofs.Common.{◌≡◌, refl, sym, ap, ◌∙◌, ℕ, zero, suc, ◌+◌, arith, Bool, true, false, not, ◌&&◌, ◌||◌}
 use Rattle.std.proofs.Common.{if◌then◌else◌, List, [], ◌∷◌, ◌++◌, fold, filter, length, Option, Some, None, Result, Ok}
 use Rattle.std.proofs.Common.{Err, is_some}
 use Rattle.std.specs.Prelude.{remove, slice_get}
 use Rattle.std.proofs.lemmas.Bool.{false≢true}
 use Rattle.std.proofs.lemmas.List.{append-nil}
 use Rattle.std.proofs.lemmas.List.Sums.{sum_by-append, sum_by-cons}
+use Rattle.sctp_wire_types.specs.Config.{is_rfc}
 use Rattle.sctp_wire_types.specs.declared.chunk.ChunkPayloadData.{ChunkPayloadData}
 use Rattle.sctp_wire_types.specs.declared.error.Error.{Error}
 use Rattle.sctp_wire_types.specs.declared.event.StreamEvent.TheVariants.{Finished, Opened, Readable, ResetComplete}
@@ -26,7 +27,7 @@ use Rattle.sctp_generations.specs.declared.retirement.Retirement.{Retirement}
 use Rattle.sctp_generations.specs.declared.retirement.Retirement.TheVariants as retirements
 use Rattle.sctp_generations.specs.declared.skips.KeptSkip.{KeptSkip}
 use Rattle.sctp_generations.specs.Generations.{GenerationsView, after_given_to, after_skips_given_to, drained, given_to}
-use Rattle.sctp_generations.specs.Generations.{discarded, given_to_all, has_skips, retired, retirement_of}
+use Rattle.sctp_generations.specs.Generations.{discarded, given_to_all, has_newest, has_skips, retired, retirement_of}
 use Rattle.sctp_generations.specs.Generations.{skips_given_to, without_newest_of}
 use Rattle.sctp_generations.specs.Retiring.{count_at}
 use Rattle.sctp_generations.specs.Skips.{skip_ids}
@@ -37,26 +38,27 @@ use Rattle.sctp_reset_requests.specs.declared.outcome.Answered.TheVariants as an
 use Rattle.sctp_reset_requests.specs.declared.own_request.OwnRequest.{OwnRequest}
 use Rattle.sctp_reset_requests.specs.Debts.{DebtsView, is_owed}
 use Rattle.sctp_reset_requests.specs.Debts as debts
-use Rattle.sctp_reset_requests.specs.Own.{OwnView}
+use Rattle.sctp_reset_requests.specs.Own.{OwnView, ends_here}
 use Rattle.sctp_reset_requests.specs.Own as own
 use Rattle.sctp_reset_requests.specs.Peer.{PeerView, boundary_of}
 use Rattle.sctp_reset_requests.specs.Peer as peer
 use Rattle.sctp_reset_requests.specs.Request.{PeerRequestView, request_of}
 use Rattle.sctp_resets.specs.Answers.{Answering, answering, complete_told, completed_one, completed_with}
 use Rattle.sctp_resets.specs.Answers.{ended_or_restarted}
-use Rattle.sctp_resets.specs.Answers.{failed_each, failed_one, is_read_half_closed, request_ended}
+use Rattle.sctp_resets.specs.Answers.{failed_each, failed_one, failure_told, failures_told, is_read_half_closed}
+use Rattle.sctp_resets.specs.Answers.{request_ended}
 use Rattle.sctp_resets.specs.Channels.{Channels, channels, delivered, final_told, final_told_at, given_unless}
 use Rattle.sctp_resets.specs.Channels.{given_where}
 use Rattle.sctp_resets.specs.Channels.{is_write_half_closed, opened, told}
 use Rattle.sctp_resets.specs.Draining.{Reading, drained_out, ended, next_generation_read, passed_once, passed_times}
 use Rattle.sctp_resets.specs.Draining.{passed_where, write_half_kept}
-use Rattle.sctp_resets.specs.Performing.{Performing, finished, is_drained, named_live, performing, retired_as}
-use Rattle.sctp_resets.specs.Performing.{retired_each}
-use Rattle.sctp_resets.specs.Performing.{retired_next, retired_one, stream_ended, with_retired}
+use Rattle.sctp_resets.specs.Performing.{Performing, answered_in, end_told, ends_told, finished, is_drained, named_in}
+use Rattle.sctp_resets.specs.Performing.{named_live, performing, retired_as, retired_each, retired_next, retired_one}
+use Rattle.sctp_resets.specs.Performing.{paid_told, stream_ended, with_retired}
 use Rattle.sctp_resets.specs.Resets.{Beside, ResetsView, confirmed_by, confirmed_where, ended_as_answered}
-use Rattle.sctp_resets.specs.Resets.{ended_unless, given_up, given_up_where, handled, handled_behind}
-use Rattle.sctp_resets.specs.Resets.{arrived_with, is_blocked, performed, performed_with, read_out, request_over}
-use Rattle.sctp_resets.specs.Resets.{responded}
+use Rattle.sctp_resets.specs.Resets.{dropped, ended_unless, given_up, given_up_for_now, given_up_where, handled}
+use Rattle.sctp_resets.specs.Resets.{arrived_with, handled_behind, is_blocked, performed, performed_with, read_out}
+use Rattle.sctp_resets.specs.Resets.{request_over, reset_or_ended, responded}
 use Rattle.sctp_resets.specs.Resets.{settled_where, skips_done, skips_done_of, stopped_reading, with_generations}
 use Rattle.sctp_resets.specs.Resets as resets
 use Rattle.sctp_resets.specs.Skips.{Skipping, end_of_skip, readable_told, skip_tried, skips_applied, skips_applied_of}
@@ -189,9 +191,34 @@ retired_each_tells q p =
     fold_keeps (λ (x : Performing × List ℕ). losses x.0.events) (retired_next q.last_tsn)
     (retired_next_tells q.last_tsn) (p, []) (named_live p.streams q)
 
-performed_with_tells : (q : PeerRequestView) (first limit : ℕ) (r : ResetsView) (to_accept : List ℕ)
-    (x : Performing × List ℕ) → losses (performed_with q first limit r to_accept x).0.1.events ≡ losses x.0.events
-performed_with_tells q first limit r to_accept (p, ids) =
+-- the ends that it brings
+
+end_owed_tells : (x : DebtsView × Bool) (queued : List Event) (id : ℕ)
+    → losses (paid_told x queued id).1 ≡ losses queued
+end_owed_tells (d, true) queued id = tells queued (events.Stream (ResetComplete id)) refl
+end_owed_tells (d, false) queued id = refl
+
+end_tells_if : (ends : Bool) (d : DebtsView) (queued : List Event) (id : ℕ)
+    → losses (if◌then◌else◌ {A = DebtsView × List Event} ends (paid_told (debts.paid d id, debts.is_owed d id) queued id)
+    (d, queued)).1
+    ≡ losses queued
+end_tells_if true d queued id = end_owed_tells (debts.paid d id, debts.is_owed d id) queued id
+end_tells_if false d queued id = refl
+
+end_tells : (o : OwnView) (x : DebtsView × List Event) (id : ℕ) → losses (end_told o x id).1 ≡ losses x.1
+end_tells o (d, queued) id = end_tells_if (ends_here o id) d queued id
+
+ends_tell : (o : OwnView) (named : List ℕ) (p : Performing) → losses (ends_told o named p).events ≡ losses p.events
+ends_tell o named p =
+    fold_keeps (λ (x : DebtsView × List Event). losses x.1) (end_told o) (end_tells o) (p.debts, p.events) named
+
+answered_in_tells : (o : OwnView) (named : List ℕ) (x : Performing × List ℕ)
+    → losses (answered_in o named x).0.events ≡ losses x.0.events
+answered_in_tells o named (p, retired) = ends_tell o named p
+
+performed_with_tells : (q : PeerRequestView) (first limit : ℕ) (r : ResetsView) (to_accept named : List ℕ)
+    (x : Performing × List ℕ) → losses (performed_with q first limit r to_accept named x).0.1.events ≡ losses x.0.events
+performed_with_tells q first limit r to_accept named (p, ids) =
     all_delivered_tell first limit (channels p.streams p.events to_accept)
     (given_to_all (without_newest_of p.generations q.ids))
 
@@ -199,8 +226,10 @@ performed_tells : (q : PeerRequestView) (first limit : ℕ) (r : ResetsView) (c 
     → losses (performed q first limit r c).0.1.events ≡ losses c.events
 unfolding performed
 performed_tells q first limit r c =
-    performed_with_tells q first limit r c.to_accept
-    (retired_each q (performing r.generations r.debts c.streams c.events))
+    let named : List ℕ = named_in r.own c.streams q in
+    let x : Performing × List ℕ = retired_each q (performing r.generations r.debts c.streams c.events) in
+    performed_with_tells q first limit r c.to_accept named (answered_in r.own named x)
+    ∙ answered_in_tells r.own named x
     ∙ retired_each_tells q (performing r.generations r.debts c.streams c.events)
 
 settled_where_tells : (x : PeerView × Option PeerRequestView) (first limit : ℕ) (r : ResetsView) (c : Channels)
@@ -214,39 +243,42 @@ settled_tells last first limit r c = settled_where_tells (peer.advanced r.peer l
 
 -- The end of a request of this side
 
-ended_or_restarted_tells : (c owed : Bool) (a : Answering) (id : ℕ) → (owed && is_read_half_closed a.streams id) ≡ c
-    → losses (ended_or_restarted owed a id).events ≡ losses a.events
-ended_or_restarted_tells true owed a id e = rw e (final_tells a.streams id a.events)
-ended_or_restarted_tells false owed a id e = rw e refl
+ended_or_restarted_tells : (c ends : Bool) (a : Answering) (id : ℕ) → (ends && is_read_half_closed a.streams id) ≡ c
+    → losses (ended_or_restarted ends a id).events ≡ losses a.events
+ended_or_restarted_tells true ends a id e = rw e (final_tells a.streams id a.events)
+ended_or_restarted_tells false ends a id e = rw e refl
 
 complete_tells : (owed : Bool) (a : Answering) (id : ℕ) → losses (complete_told owed a id).events ≡ losses a.events
 complete_tells true a id = tells a.events (events.Stream (ResetComplete id)) refl
 complete_tells false a id = refl
 
-completed_with_tells : (x : DebtsView × Bool) (a : Answering) (id : ℕ)
-    → losses (completed_with x a id).events ≡ losses a.events
-completed_with_tells (d, owed) a id =
-    complete_tells owed (ended_or_restarted owed (record a { debts = d }) id) id
-    ∙ ended_or_restarted_tells _ owed (record a { debts = d }) id refl
+completed_with_tells : (by_rfcs : Bool) (x : DebtsView × Bool) (a : Answering) (id : ℕ)
+    → losses (completed_with by_rfcs x a id).events ≡ losses a.events
+completed_with_tells by_rfcs (d, owed) a id =
+    let ends : Bool = owed && not by_rfcs in
+    complete_tells owed (ended_or_restarted ends (record a { debts = d }) id) id
+    ∙ ended_or_restarted_tells _ ends (record a { debts = d }) id refl
 
-completed_one_tells : (a : Answering) (id : ℕ) → losses (completed_one a id).events ≡ losses a.events
-completed_one_tells a id = completed_with_tells (debts.settled a.debts id) a id
+completed_one_tells : (by_rfcs : Bool) (a : Answering) (id : ℕ)
+    → losses (completed_one by_rfcs a id).events ≡ losses a.events
+completed_one_tells by_rfcs a id = completed_with_tells by_rfcs (debts.settled a.debts id) a id
 
 failed_one_tells : (reason : StreamResetError) (x : DebtsView × List Event) (id : ℕ)
     → losses (failed_one reason x id).1 ≡ losses x.1
 failed_one_tells reason (d, queued) id = tells queued (events.Stream (ResetFailed id reason)) refl
 
-request_ended_tells : (outcome : Result (Unit {0}) StreamResetError) (ids : List ℕ) (a : Answering)
-    → losses (request_ended outcome ids a).events ≡ losses a.events
-request_ended_tells (Ok done) ids a =
-    fold_keeps (λ (x : Answering). losses x.events) completed_one completed_one_tells a ids
-request_ended_tells (Err reason) ids a =
+request_ended_tells : (by_rfcs : Bool) (outcome : Result (Unit {0}) StreamResetError) (ids : List ℕ) (a : Answering)
+    → losses (request_ended by_rfcs outcome ids a).events ≡ losses a.events
+request_ended_tells by_rfcs (Ok done) ids a =
+    fold_keeps (λ (x : Answering). losses x.events) (completed_one by_rfcs) (completed_one_tells by_rfcs) a ids
+request_ended_tells by_rfcs (Err reason) ids a =
     fold_keeps (λ (x : DebtsView × List Event). losses x.1) (failed_one reason) (failed_one_tells reason)
     (a.debts, a.events) ids
 
 request_over_tells : (outcome : Result (Unit {0}) StreamResetError) (q : OwnRequest) (r : ResetsView) (m : StreamMap)
     (queued : List Event) → losses (request_over outcome q r m queued).2 ≡ losses queued
-request_over_tells outcome q r m queued = request_ended_tells outcome q.ids (answering r.debts m queued)
+request_over_tells outcome q r m queued =
+    request_ended_tells (is_rfc r.own.profile) outcome q.ids (answering r.debts m queued)
 
 confirmed_tells : (x : OwnView × Option OwnRequest) (r : ResetsView) (m : StreamMap) (queued : List Event)
     → losses (confirmed_where x r m queued).0.2 ≡ losses queued
@@ -270,9 +302,32 @@ given_up_tells_where (o, None) r m queued = refl
 given_up_tells_where (o, Some q) r m queued =
     request_over_tells (Err reasons.Failed) q (record r { own = o }) m queued
 
+-- a request that is given up and goes on
+
+failure_tells_if : (fails : Bool) (queued : List Event) (id : ℕ)
+    → losses (if fails then queued ++ events.Stream (ResetFailed id reasons.Failed) ∷ [] else queued) ≡ losses queued
+failure_tells_if true queued id = tells queued (events.Stream (ResetFailed id reasons.Failed)) refl
+failure_tells_if false queued id = refl
+
+failure_tells : (d : DebtsView) (m : StreamMap) (queued : List Event) (id : ℕ)
+    → losses (failure_told d m queued id) ≡ losses queued
+failure_tells d m queued id = failure_tells_if (is_some (stream_at m id) || is_owed d id) queued id
+
+failures_tell : (d : DebtsView) (m : StreamMap) (ids : List ℕ) (queued : List Event)
+    → losses (failures_told d m ids queued) ≡ losses queued
+failures_tell d m ids queued =
+    fold_keeps (λ (es : List Event). losses es) (failure_told d m) (failure_tells d m) queued ids
+
+given_up_tells_if : (by_rfcs : Bool) (r : ResetsView) (m : StreamMap) (queued : List Event)
+    → losses (if◌then◌else◌ {A = Beside} by_rfcs (given_up_for_now r m queued)
+    (given_up_where (own.ended r.own) r m queued)).2
+    ≡ losses queued
+given_up_tells_if true r m queued = failures_tell r.debts m (own.failing_ids r.own.active) queued
+given_up_tells_if false r m queued = given_up_tells_where (own.ended r.own) r m queued
+
 pub given_up_tells : (r : ResetsView) (m : StreamMap) (queued : List Event)
     → losses (given_up r m queued).2 ≡ losses queued
-given_up_tells r m queued = given_up_tells_where (own.ended r.own) r m queued
+given_up_tells r m queued = given_up_tells_if (is_rfc r.own.profile) r m queued
 
 -- A request of the peer that comes
 
@@ -369,10 +424,26 @@ unless_tells : (blocked : Bool) (r : ResetsView) (id : ℕ) (m : StreamMap) (que
 unless_tells true r id m queued = refl
 unless_tells false r id m queued = final_tells m id queued
 
+reset_or_ended_tells : (resets_it : Bool) (r : ResetsView) (id : ℕ) (m : StreamMap) (queued : List Event)
+    → losses (reset_or_ended resets_it r id m queued).2 ≡ losses queued
+reset_or_ended_tells true r id m queued = refl
+reset_or_ended_tells false r id m queued = final_tells m id queued
+
+dropped_tells_if : (by_rfcs more : Bool) (r : ResetsView) (id : ℕ) (m : StreamMap) (queued : List Event)
+    → losses (if◌then◌else◌ {A = Beside} by_rfcs (reset_or_ended more r id m queued)
+    (ended_unless (is_blocked r id) r id m queued)).2
+    ≡ losses queued
+dropped_tells_if true more r id m queued = reset_or_ended_tells more r id m queued
+dropped_tells_if false more r id m queued = unless_tells (is_blocked r id) r id m queued
+
+dropped_tells : (more : Bool) (r : ResetsView) (id : ℕ) (m : StreamMap) (queued : List Event)
+    → losses (dropped more r id m queued).2 ≡ losses queued
+dropped_tells more r id m queued = dropped_tells_if (is_rfc r.own.profile) more r id m queued
+
 pub stopped_reading_tells : (id : ℕ) (r : ResetsView) (m : StreamMap) (queued : List Event)
     → losses (stopped_reading id r m queued).2 ≡ losses queued
 stopped_reading_tells id r m queued =
     let s : ResetsView = with_generations r (discarded r.generations id) in
-    unless_tells (is_blocked s id) s id (changed_stream without_unread m id)
+    dropped_tells (has_newest r.generations id) s id (changed_stream without_unread m id)
     (filter (λ (x : Event). not (is_told_of id x)) queued)
     ∙ left_tells id queued

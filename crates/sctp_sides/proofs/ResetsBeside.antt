@@ -10,9 +10,8 @@ use Rattle.sctp_wire_types.specs.declared.param.ParamOutgoingResetRequest.{Param
 use Rattle.sctp_wire_types.specs.declared.param.ParamReconfigResponse.{ParamReconfigResponse}
 use Rattle.sctp_wire_types.specs.declared.param.ReconfigResult.{ReconfigResult}
 use Rattle.sctp_parts.specs.declared.timer.Timer.TheVariants as names
-use Rattle.sctp_parts.specs.Timers.{expired_state, expiry_of, is_due, moment_of, started, with_moment}
+use Rattle.sctp_parts.specs.Timers.{expired_state, expiry_of, is_due, moment_of, started, with_moment, with_stopped}
 use Rattle.sctp_parts.specs.Timers.{with_timer}
-use Rattle.sctp_parts.specs.Timers.{stopped as stopped_timer}
 use Rattle.sctp_streams.specs.Streams.{StreamMap}
 use Rattle.sctp_inbound.specs.declared.receiver.AckTrigger.{AckTrigger}
 use Rattle.sctp_resets.specs.declared.answers.TimerChange.{TimerChange}
@@ -182,18 +181,25 @@ expired_changes_if false a = refl
 expired_changes : (a : Shown) (now : ℕ) → ChangesResets a (reconfig_expired a now)
 expired_changes a now = expired_changes_if (is_due a.timers.reconfig.moment now) a
 
-given_up_changes : (a : Shown) (x : Beside)
+goes_on_changes_if : (active : Bool) (a : Shown) (now : ℕ)
     → ChangesResets a
-    (let b = with_beside a x in record b { timers = with_timer names.Reconfig stopped_timer b.timers })
-given_up_changes a (r, m, told) = refl
+    (if active then asks_again a now else record a { timers = with_stopped names.Reconfig a.timers })
+goes_on_changes_if true a now = refl
+goes_on_changes_if false a now = refl
+
+given_up_changes : (a : Shown) (now : ℕ) → ChangesResets a (gives_up a now)
+given_up_changes a now =
+    let x : Beside = given_up a.resets a.streams a.events in
+    let b : Shown = with_beside a x in
+    resets_on a b (gives_up a now) (beside_changes a x) (goes_on_changes_if (is_some b.resets.own.active) b now)
 
 reconfig_timer_changes_if : (expired failure : Bool) (a : Shown) (now : ℕ)
     → ChangesResets a (if expired then
-    (if failure then gives_up (reconfig_expired a now) else asks_again (reconfig_expired a now) now) else a)
+    (if failure then gives_up (reconfig_expired a now) now else asks_again (reconfig_expired a now) now) else a)
 reconfig_timer_changes_if false failure a now = resets_itself a
 reconfig_timer_changes_if true true a now =
     let b = reconfig_expired a now in
-    resets_on a b (gives_up b) (expired_changes a now) (given_up_changes b (given_up b.resets b.streams b.events))
+    resets_on a b (gives_up b now) (expired_changes a now) (given_up_changes b now)
 reconfig_timer_changes_if true false a now =
     let b = reconfig_expired a now in resets_on a b (asks_again b now) (expired_changes a now) refl
 

@@ -1,6 +1,6 @@
 -- Resets that concern streams past their span alone still do after each call, where no other stream is stopped.
 use Rattle.std.proofs.Common.{◌≡◌, refl, ℕ, Bool, true, false, if◌then◌else◌, List, [], ◌∷◌, ◌-◌, ◌==◌, length, fold}
-use Rattle.std.proofs.Common.{Option, Some, None}
+use Rattle.std.proofs.Common.{Option, Some, None, is_some}
 use Rattle.std.specs.List.{AllByRecursion}
 use Rattle.sctp_wire_types.specs.Config.{is_rfc}
 use Rattle.sctp_wire_types.specs.declared.chunk.ChunkPayloadData.{ChunkPayloadData}
@@ -9,7 +9,7 @@ use Rattle.sctp_wire_types.specs.declared.ids.PayloadProtocolIdentifier.{Payload
 use Rattle.sctp_wire_types.specs.declared.param.ParamOutgoingResetRequest.{ParamOutgoingResetRequest}
 use Rattle.sctp_wire.specs.DataPackets.{datagrams_of}
 use Rattle.sctp_parts.specs.declared.timer.Timer.TheVariants as names
-use Rattle.sctp_parts.specs.Timers.{expiry_of, started}
+use Rattle.sctp_parts.specs.Timers.{expiry_of, started, with_stopped}
 use Rattle.sctp_receive_queues.specs.Messages.{ReceivedMessage}
 use Rattle.sctp_streams.specs.declared.event.AssociationError.{AssociationError}
 use Rattle.sctp_streams.specs.declared.event.AssociationError.TheVariants as reasons
@@ -19,7 +19,7 @@ use Rattle.sctp_streams.specs.Streams.{StreamMap, read_in, stream_at}
 use Rattle.sctp_inbound.specs.declared.handshake.Offer.{Offer}
 use Rattle.sctp_inbound.specs.Handshake.{header_of}
 use Rattle.sctp_resets.specs.Channels.{channels}
-use Rattle.sctp_resets.specs.Resets.{ResetsView, event_told, given_up, is_retiring, read_out, request_again}
+use Rattle.sctp_resets.specs.Resets.{Beside, ResetsView, event_told, given_up, is_retiring, read_out, request_again}
 use Rattle.sctp_resets.specs.Resets.{request_asked, request_sent, stopped_reading, waiting_for}
 use Rattle.sctp_resets.specs.Within.{ResetsOver}
 use Rattle.sctp_resets.proofs.KeptOver.{again_over, asked_over, closed_over, expired_over, given_up_over, read_out_over}
@@ -117,6 +117,7 @@ closed_ends false a reason e = record {
   waiting = refl;
   queued = refl;
   active = refl;
+  ahead = refl;
   in_progress = refl;
   owed = refl;
   kept = refl;
@@ -269,23 +270,29 @@ t3_past false failure a now over h = h
 t3_past true true a now over h = same_stays_past a _ refl refl over h
 t3_past true false a now over h = same_stays_past a _ refl refl over h
 
-gives_up_past : (a : Shown) → ResetsNoMore a (gives_up a)
-gives_up_past a over h =
-    same_stays_past (with_beside a (given_up a.resets a.streams a.events)) (gives_up a) refl refl over
-    (beside_is_past over a (given_up a.resets a.streams a.events)
-    (given_up_over over a.resets a.streams a.events h.resets) h)
-
 asks_again_past : (a : Shown) (now : ℕ) → ResetsNoMore a (asks_again a now)
 asks_again_past a now over h =
     others_are_past over a (asks_again a now) (expired_over over a.resets h.resets) refl h
 
+goes_on_past : (active : Bool) (a : Shown) (now : ℕ)
+    → ResetsNoMore a (if active then asks_again a now else record a { timers = with_stopped names.Reconfig a.timers })
+goes_on_past true a now over h = asks_again_past a now over h
+goes_on_past false a now over h = same_stays_past a _ refl refl over h
+
+gives_up_past : (a : Shown) (now : ℕ) → ResetsNoMore a (gives_up a now)
+gives_up_past a now over h =
+    let x : Beside = given_up a.resets a.streams a.events in
+    let b : Shown = with_beside a x in
+    goes_on_past (is_some b.resets.own.active) b now over
+    (beside_is_past over a x (given_up_over over a.resets a.streams a.events h.resets) h)
+
 reconfig_past : (expired failure : Bool) (a : Shown) (now : ℕ)
     → ResetsNoMore a
-    (if expired then (if failure then gives_up (reconfig_expired a now) else asks_again (reconfig_expired a now) now)
-    else a)
+    (if expired then
+    (if failure then gives_up (reconfig_expired a now) now else asks_again (reconfig_expired a now) now) else a)
 reconfig_past false failure a now over h = h
 reconfig_past true true a now over h =
-    gives_up_past (reconfig_expired a now) over (same_stays_past a (reconfig_expired a now) refl refl over h)
+    gives_up_past (reconfig_expired a now) now over (same_stays_past a (reconfig_expired a now) refl refl over h)
 reconfig_past true false a now over h =
     asks_again_past (reconfig_expired a now) now over (same_stays_past a (reconfig_expired a now) refl refl over h)
 

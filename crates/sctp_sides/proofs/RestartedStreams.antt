@@ -1,6 +1,6 @@
 -- As a request of this side ends, its streams alone change; and no DATA of those waits or is in flight.
-use Rattle.std.proofs.Common.{◌≡◌, refl, ap, ◌∙◌, ◌≢◌, ⊎_elim, inl, inr, ℕ, ◌||◌, Bool, true, false, if◌then◌else◌}
-use Rattle.std.proofs.Common.{List, Option, Some, None, Result, Ok, Err}
+use Rattle.std.proofs.Common.{◌≡◌, refl, ap, ◌∙◌, ◌≢◌, ◌⊎◌, ⊎_elim, inl, inr, ℕ, ◌&&◌, ◌||◌, Bool, true, false, not}
+use Rattle.std.proofs.Common.{if◌then◌else◌, List, Option, Some, None, Result, Ok, Err}
 use Rattle.std.proofs.lemmas.Bool.{cases_Bool, false≢true}
 use Rattle.sctp_wire_types.specs.declared.event.StreamResetError.{StreamResetError}
 use Rattle.sctp_wire_types.specs.declared.param.Param.{Param}
@@ -17,11 +17,11 @@ use Rattle.sctp_reset_requests.specs.declared.outcome.Answered.TheVariants as an
 use Rattle.sctp_reset_requests.specs.declared.own_request.OwnRequest.{OwnRequest}
 use Rattle.sctp_reset_requests.specs.declared.own_request.SentRequest.{SentRequest}
 use Rattle.sctp_reset_requests.specs.Ids.{has_id}
-use Rattle.sctp_reset_requests.specs.Own.{OwnView, answered_with, ended_as, has_number, outcome_of, request_sent}
-use Rattle.sctp_reset_requests.specs.Own.{with_active}
+use Rattle.sctp_reset_requests.specs.Own.{OwnView, answered_with, ended_as, has_number, is_confirmed_by, outcome_of}
+use Rattle.sctp_reset_requests.specs.Own.{request_sent, with_active}
 use Rattle.sctp_resets.specs.declared.answers.TimerChange.{TimerChange}
 use Rattle.sctp_resets.specs.declared.performing.Handled.{Handled}
-use Rattle.sctp_resets.specs.Concerned.{active_ids, sent_ids}
+use Rattle.sctp_resets.specs.Concerned.{StayBeside, active_ids, sent_ids}
 use Rattle.sctp_resets.specs.Resets.{Beside, ResetsView, Resetting, confirmed_by, confirmed_where, ended_as_answered}
 use Rattle.sctp_resets.specs.Resets.{handled, responded}
 use Rattle.sctp_resets.proofs.AnsweredBeside.{responded_stays}
@@ -103,26 +103,54 @@ unperformed_restart_nothing a response other =
     ∙ unperformed_unchanged a.resets a.streams a.events
     (has_number a.resets.own.active response.reconfig_response_sequence_number) (outcome_of response.result) other
 
--- A request of the peer that names the active request ends it as a response does that tells of success.
+-- A request of the peer that ends the active request ends it as a response does that tells of success; else it changes
+-- no stream.
+
+-- that response
+abbrev confirming_response : ℕ → ParamReconfigResponse
+confirming_response number =
+    record { reconfig_response_sequence_number = number; result = results.SuccessPerformed }
 
 module _ (r : ResetsView) (m : StreamMap) (told : List Event) where
-  confirmed_if : (names_it : Bool) (o : OwnView) (active : Option SentRequest)
-      → (confirmed_where (if◌then◌else◌ {A = OwnView × Option OwnRequest} names_it
-      (with_active o None, request_sent active) (o, None)) r m told).0.1
-      ≡ (ended_as_answered (if◌then◌else◌ {A = OwnView × Answered} names_it
-      (ended_as (with_active o None, request_sent active) (Ok tt)) (o, answers.Ignored)) r m told).0.1
-  confirmed_if true o None = refl
-  confirmed_if true o (Some s) = refl
-  confirmed_if false o active = refl
+  -- the streams behind such a request
+  abbrev left_by_request : Bool → Option SentRequest → StreamMap
+  left_by_request ends_it active =
+      (confirmed_where (if◌then◌else◌ {A = OwnView × Option OwnRequest} ends_it
+      (with_active r.own None, request_sent active) (r.own, None)) r m told).0.1
 
-  -- that response
-  abbrev confirming_response : ℕ → ParamReconfigResponse
-  confirming_response number =
-      record { reconfig_response_sequence_number = number; result = results.SuccessPerformed }
+  -- those behind that response
+  abbrev left_by_response : Bool → Option SentRequest → StreamMap
+  left_by_response names_it active =
+      (ended_as_answered (if◌then◌else◌ {A = OwnView × Answered} names_it
+      (ended_as (with_active r.own None, request_sent active) (Ok tt)) (r.own, answers.Ignored)) r m told).0.1
 
-  confirmed_as : (number : ℕ)
-      → (confirmed_by number r m told).0.1 ≡ (responded (confirming_response number) r m told).0.1
-  confirmed_as number = confirmed_if (has_number r.own.active number) r.own r.own.active
+  left_alike : (active : Option SentRequest) → left_by_request true active ≡ left_by_response true active
+  left_alike None = refl
+  left_alike (Some s) = refl
+
+  -- a request that the peer put off is ended by a response alone
+  confirmed_if : (names_it put_off : Bool) (active : Option SentRequest)
+      → (left_by_request (names_it && not put_off) active ≡ m)
+      ⊎ (left_by_request (names_it && not put_off) active ≡ left_by_response names_it active)
+  confirmed_if true true active = inl refl
+  confirmed_if true false active = inr (left_alike active)
+  confirmed_if false put_off active = inl refl
+
+  confirmed_as : (active : Option SentRequest) (number : ℕ)
+      → (left_by_request (is_confirmed_by active number) active ≡ m)
+      ⊎ (left_by_request (is_confirmed_by active number) active ≡ left_by_response (has_number active number) active)
+  confirmed_as None number = inl refl
+  confirmed_as (Some s) number = confirmed_if (has_number (Some s) number) s.is_put_off (Some s)
+
+  -- all streams stay but those of the active request
+  confirmed_stays : (number : ℕ) → StayBeside (active_ids r) m (confirmed_by number r m told).0.1
+  confirmed_stays number t apart =
+      ⊎_elim
+      (λ (none : (confirmed_by number r m told).0.1 ≡ m). ap (λ (n : StreamMap). stream_at n t) none)
+      (λ (same : (confirmed_by number r m told).0.1 ≡ (responded (confirming_response number) r m told).0.1).
+      ap (λ (n : StreamMap). stream_at n t) same
+      ∙ responded_stays (confirming_response number) r m told t apart)
+      (confirmed_as r.own.active number)
 
 beside_streams : (a : Shown) (x : Beside) → (with_beside a x).streams ≡ x.1
 beside_streams a (r, m, told) = refl
@@ -137,9 +165,8 @@ confirmation_restarts a request quiet =
     let x = (confirmed_by number a.resets a.streams a.events).0 in
     stays_beside a (with_beside a x) quiet (beside_sender a x)
     (λ t apart.
-    ap (λ (m : StreamMap). stream_at m t)
-    (beside_streams a x ∙ confirmed_as a.resets a.streams a.events number)
-    ∙ responded_stays (confirming_response a.resets a.streams a.events number) a.resets a.streams a.events t apart)
+    ap (λ (m : StreamMap). stream_at m t) (beside_streams a x)
+    ∙ confirmed_stays a.resets a.streams a.events number t apart)
 
 -- where the active request is quiet, both restart the numbers of quiet streams alone
 pub quiet_restarts : (a : Shown) → ActiveIsQuiet a → RestartsQuietly a

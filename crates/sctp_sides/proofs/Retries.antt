@@ -50,6 +50,7 @@ use Rattle.sctp_assoc.specs.Chunks.{taken_where_admitted}
 use Rattle.sctp_assoc.specs.Happened.{acts_if_left, acts_of_checked, acts_of_data, acts_of_deferring, acts_of_finding}
 use Rattle.sctp_assoc.specs.Happened.{acts_of_forward, acts_of_found, acts_of_hidden, acts_of_kind, acts_of_outcome}
 use Rattle.sctp_assoc.specs.Happened.{acts_of_skips_behind, acts_of_stream, acts_of_taking}
+use Rattle.sctp_assoc.specs.Handshake.{keeps_peer}
 use Rattle.sctp_assoc.specs.Happened.{acts_of_taking_where_admitted, acts_unless_faulty, acts_unless_refused}
 use Rattle.sctp_assoc.specs.Probes.{is_probing, opens_window}
 use Rattle.sctp_assoc.specs.ResetActs.{acts_of_draining, acts_of_keeping, acts_of_param, acts_of_second}
@@ -57,6 +58,7 @@ use Rattle.sctp_assoc.specs.ResetActs.{acts_of_settling, spans_end_if}
 use Rattle.sctp_assoc.specs.Resets.{after_param, settled, settling_takes_memory, skips_applied_of}
 use Rattle.sctp_assoc.specs.Shown.{all_waiting}
 use Rattle.sctp_assoc.specs.Skipping.{skips_of, with_passed, with_skips}
+use Rattle.sctp_assoc.proofs.HandshakeFacts.{known_all}
 use Rattle.sctp_assoc.proofs.StreamsFound.{finding_opens}
 use Rattle.sctp_sides.proofs.ActsOfChunks.{timeouts_mark_at_most}
 use Rattle.sctp_sides.proofs.ForwardKinds.{acts_are_one_of}
@@ -212,7 +214,7 @@ kind_acts a header (chunks.SelectiveAck sack) =
     (outcome_acts (sack_outcome a.sender sack.cumulative_tsn_ack sack.gap_ack_blocks) _ _ sack.gap_ack_blocks
     (opens_window (is_probing a.profile a.sender) sack.advertised_receiver_window_credit))
 kind_acts a header (chunks.Init init) =
-    some_if (is_beginning a.state) (Act.PeerKnown init.initial_tsn ∷ []) (tt, tt)
+    some_if (is_beginning a.state) _ (known_all GivesNoneAgain (keeps_peer a init) init.initial_tsn tt)
 kind_acts a header (chunks.InitAck init) =
     some_if (is_cookie_wait a.state) _
     (some_if (comes_back a.handshake header) (Act.PeerKnown init.initial_tsn ∷ []) (tt, tt))

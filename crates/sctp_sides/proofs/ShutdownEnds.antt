@@ -1,5 +1,6 @@
 -- SHUTDOWN COMPLETE alone ends a shutdown, in ShutdownAckSent, and is no fault.
-use Rattle.std.proofs.Common.{◌≡◌, refl, sym, ◌∙◌, ℕ, Bool, true, false, if◌then◌else◌, List, Option, Some, None}
+use Rattle.std.proofs.Common.{◌≡◌, refl, sym, ◌∙◌, ℕ, Bool, true, false, ◌&&◌, if◌then◌else◌, List, Option, Some}
+use Rattle.std.proofs.Common.{None}
 use Rattle.std.proofs.lemmas.Bool.{false≢true}
 use Rattle.sctp_wire_types.specs.declared.chunk.Chunk.{Chunk}
 use Rattle.sctp_wire_types.specs.declared.chunk.Chunk.TheVariants as chunks
@@ -10,6 +11,8 @@ use Rattle.sctp_wire_types.specs.declared.chunk.ChunkReconfig.{ChunkReconfig}
 use Rattle.sctp_wire_types.specs.declared.chunk.GapAckBlock.{GapAckBlock}
 use Rattle.sctp_wire_types.specs.declared.chunk.SkippedStream.{SkippedStream}
 use Rattle.sctp_wire_types.specs.declared.error.Error.{Error}
+use Rattle.sctp_wire_types.specs.declared.error.Error.TheVariants as errors
+use Rattle.sctp_wire_types.specs.Config.{is_rfc}
 use Rattle.sctp_wire_types.specs.declared.packet.CommonHeader.{CommonHeader}
 use Rattle.sctp_wire_types.specs.declared.param.Param.{Param}
 use Rattle.sctp_parts.specs.declared.state.AssociationState.{AssociationState}
@@ -24,12 +27,13 @@ use Rattle.sctp_outbound.specs.Sender.{sack_outcome}
 use Rattle.sctp_resets.specs.Resets.{is_hidden}
 use Rattle.sctp_assoc.specs.declared.inbound.Flow.{Flow}
 use Rattle.sctp_assoc.specs.declared.inbound.Flow.TheVariants as flows
-use Rattle.sctp_assoc.specs.Calls.{is_beginning, is_cookie_echoed, is_cookie_wait, is_established, sends_data}
+use Rattle.sctp_assoc.specs.Calls.{is_beginning, is_cookie_echoed, is_cookie_wait, sends_data}
 use Rattle.sctp_assoc.specs.Chunks.{asks, asks_or_faults, deferred_where_admitted, dispatched, on_counted_data}
-use Rattle.sctp_assoc.specs.Chunks.{on_counted_sack}
+use Rattle.sctp_assoc.specs.Chunks.{is_skippable, on_counted_sack, passed_over}
 use Rattle.sctp_assoc.specs.Chunks.{on_data, on_new_data, on_sack, stream_found, taken_where_admitted}
 use Rattle.sctp_assoc.specs.Closing.{is_exhausted}
-use Rattle.sctp_assoc.specs.Handshake.{echoed, on_cookie_ack, on_cookie_echo, on_heartbeat, on_init, on_init_ack}
+use Rattle.sctp_assoc.specs.Handshake.{acknowledges_again, echoed, on_cookie_ack, on_cookie_echo, on_heartbeat}
+use Rattle.sctp_assoc.specs.Handshake.{on_init, on_init_ack}
 use Rattle.sctp_assoc.specs.Resets.{after_param, behind_first, behind_params, on_reconfig, settled}
 use Rattle.sctp_assoc.specs.Shown.{Shown}
 use Rattle.sctp_assoc.specs.Shutdown.{on_shutdown_complete}
@@ -190,13 +194,13 @@ init_ack_ends_none true true a header init trigger now e f =
 init_ack_ends_none true false a header init trigger now e f = rw (e, f) refl
 init_ack_ends_none false back a header init trigger now e f = rw e refl
 
-pub echo_ends_none : (issued beginning established : Bool) (a : Shown) (cookie : List ℕ) (trigger : AckTrigger)
+pub echo_ends_none : (issued beginning again : Bool) (a : Shown) (cookie : List ℕ) (trigger : AckTrigger)
     → has_issued a.handshake cookie ≡ issued
-    → is_beginning a.state ≡ beginning → is_established a.state ≡ established
+    → is_beginning a.state ≡ beginning → acknowledges_again a ≡ again
     → ends_of (on_cookie_echo a cookie trigger).1 ≡ false
 unfolding on_cookie_echo
-echo_ends_none false beginning established a cookie trigger e f g = rw e refl
-echo_ends_none true true established a cookie trigger e f g = rw (e, f) refl
+echo_ends_none false beginning again a cookie trigger e f g = rw e refl
+echo_ends_none true true again a cookie trigger e f g = rw (e, f) refl
 echo_ends_none true false true a cookie trigger e f g = rw (e, f, g) refl
 echo_ends_none true false false a cookie trigger e f g = rw (e, f, g) refl
 
@@ -217,6 +221,11 @@ heartbeat_ends_none a heartbeat trigger = refl
 pub record EndsShutdown (c : Chunk) (a : Shown) : Type 0 where
   pub complete : c ≡ chunks.ShutdownComplete
   pub awaited : a.state ≡ states.ShutdownAckSent
+
+passed_ends_none : (passes : Bool) (fault : Error) (trigger : AckTrigger)
+    → ends_of (passed_over passes fault trigger) ≡ false
+passed_ends_none true fault trigger = refl
+passed_ends_none false fault trigger = refl
 
 pub kind_ends : (header : CommonHeader) (c : Chunk) (a : Shown) (trigger : AckTrigger) (now : ℕ)
     → ends_of (dispatched a header c trigger now).1 ≡ true → EndsShutdown c a
@@ -245,4 +254,11 @@ kind_ends header (chunks.Shutdown x) a trigger now e = absurd (false≢true e)
 kind_ends header chunks.ShutdownAck a trigger now e = absurd (false≢true e)
 kind_ends header chunks.ShutdownComplete a trigger now e =
     record { complete = refl; awaited = complete_ends a.state trigger e }
-kind_ends header c a trigger now e = absurd (false≢true e)
+kind_ends header (chunks.Error x) a trigger now e =
+    absurd (false≢true (sym (passed_ends_none (is_rfc a.profile) errors.ErrAbortChunk trigger) ∙ e))
+kind_ends header (chunks.HeartbeatAck x) a trigger now e =
+    absurd (false≢true (sym (passed_ends_none (is_rfc a.profile) errors.ErrChunkTypeUnhandled trigger) ∙ e))
+kind_ends header (chunks.Other kind flags value) a trigger now e =
+    absurd (false≢true (sym (passed_ends_none (is_skippable kind && is_rfc a.profile) errors.ErrChunkTypeUnhandled
+    trigger) ∙ e))
+kind_ends header (chunks.Abort x) a trigger now e = absurd (false≢true e)

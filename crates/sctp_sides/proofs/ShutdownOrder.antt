@@ -42,9 +42,9 @@ use Rattle.sctp_assoc.specs.Handshake.{sends_init, t1_cookie_expired, t1_init_ex
 use Rattle.sctp_assoc.specs.Resets.{after_reconfig_timer, with_reconfig_run}
 use Rattle.sctp_assoc.specs.Shown.{Shown, uses_forward_tsn}
 use Rattle.sctp_assoc.specs.Shutdown.{after_t2_shutdown, all_acknowledged, awaits_answer, due_again, due_at_shutdown}
-use Rattle.sctp_assoc.specs.Shutdown.{due_behind_data, shutdown_ack_sent, shutdown_answered, shutdown_begun}
-use Rattle.sctp_assoc.specs.Shutdown.{shutdown_continued, shutdown_sent, shutdown_taken, state_at_shutdown}
-use Rattle.sctp_assoc.specs.Shutdown.{state_behind_data}
+use Rattle.sctp_assoc.specs.Shutdown.{due_behind_data, shutdown_ack_sent, shutdown_again, shutdown_answered}
+use Rattle.sctp_assoc.specs.Shutdown.{shutdown_begun, shutdown_continued, shutdown_sent, shutdown_taken}
+use Rattle.sctp_assoc.specs.Shutdown.{state_at_shutdown, state_behind_data}
 use Rattle.sctp_assoc.specs.Timeouts.{after_timeouts}
 use Rattle.sctp_assoc.proofs.GivenApart.{ChangesControl, with_own_control}
 use Rattle.sctp_sides.specs.Ending.{AreInOrder, IsDueOrTimed, IsInOrder, is_any_due}
@@ -294,6 +294,37 @@ taken_if acknowledged timed states.ShutdownSent due h = record {
 pub taken_order : (a : Shown) → IsInOrder a → IsInOrder (shutdown_taken a)
 taken_order a h = record {
   order = taken_if (all_acknowledged a) (is_armed names.T2Shutdown a.timers) a.state a.shutdown_due h.order;
+}
+
+-- SHUTDOWN or SHUTDOWN ACK goes out again where an answer is awaited
+again_if : (acknowledged timed : Bool) (s : AssociationState) (due : ShutdownDue)
+    → AreInOrder acknowledged s due timed → AreInOrder acknowledged s (due_again s due) timed
+again_if acknowledged timed states.Closed due h = h
+again_if acknowledged timed states.CookieWait due h = h
+again_if acknowledged timed states.CookieEchoed due h = h
+again_if acknowledged timed states.Established due h = h
+again_if acknowledged timed states.ShutdownAckSent due h = record {
+  behind_data = h.behind_data;
+  before_data = h.before_data;
+  asked = λ e. refl;
+  agreed = λ e. refl;
+  answered = h.answered;
+  lives = λ e. inl (second_of due.shutdown true due.shutdown_complete refl);
+}
+again_if acknowledged timed states.ShutdownPending due h = h
+again_if acknowledged timed states.ShutdownReceived due h = h
+again_if acknowledged timed states.ShutdownSent due h = record {
+  behind_data = h.behind_data;
+  before_data = h.before_data;
+  asked = λ e. refl;
+  agreed = h.agreed;
+  answered = h.answered;
+  lives = λ e. inl refl;
+}
+
+pub again_order : (a : Shown) → IsInOrder a → IsInOrder (shutdown_again a)
+again_order a h = record {
+  order = again_if (all_acknowledged a) (is_armed names.T2Shutdown a.timers) a.state a.shutdown_due h.order;
 }
 
 -- SHUTDOWN ACK comes

@@ -38,7 +38,7 @@ use Rattle.sctp_outbound.specs.Sender.{sack_outcome, t3_cleared, t3_disarmed, t3
 use Rattle.sctp_resets.specs.Resets.{is_hidden, is_retiring, refusal_of}
 use Rattle.sctp_assoc.specs.declared.inbound.Flow.{Flow}
 use Rattle.sctp_assoc.specs.declared.inbound.Flow.TheVariants as flows
-use Rattle.sctp_assoc.specs.Calls.{is_beginning, is_cookie_echoed, is_cookie_wait, is_established, sends_data}
+use Rattle.sctp_assoc.specs.Calls.{is_beginning, is_cookie_echoed, is_cookie_wait, sends_data}
 use Rattle.sctp_assoc.specs.Chunks.{after_chunks, after_packet, after_packet_of, after_sack, asks, asks_or_faults}
 use Rattle.sctp_assoc.specs.Chunks.{checked_first, counted_data, counted_sack, deferred, deferred_unless}
 use Rattle.sctp_assoc.specs.Chunks.{deferred_where_admitted, dispatched, ended, goes_on, goes_unread}
@@ -48,13 +48,13 @@ use Rattle.sctp_assoc.specs.Chunks.{taken_unless, taken_where_admitted, then_ski
 use Rattle.sctp_assoc.specs.Closing.{closed_open, is_closed_state, is_exhausted, out_of_resource}
 use Rattle.sctp_assoc.specs.Control.{queued}
 use Rattle.sctp_assoc.specs.Finding.{found_for}
-use Rattle.sctp_assoc.specs.Handshake.{acknowledged_cookie, answered, connected, echoed, information_returned}
-use Rattle.sctp_assoc.specs.Handshake.{learned, on_cookie_ack, on_cookie_echo, on_heartbeat, on_init}
-use Rattle.sctp_assoc.specs.Handshake.{on_init_ack, sends_cookie}
+use Rattle.sctp_assoc.specs.Handshake.{acknowledged_cookie, acknowledges_again, connected, echoed}
+use Rattle.sctp_assoc.specs.Handshake.{information_returned, keeps_peer, on_cookie_ack, on_cookie_echo}
+use Rattle.sctp_assoc.specs.Handshake.{on_heartbeat, on_init, on_init_ack, sends_cookie}
 use Rattle.sctp_assoc.specs.Probes.{forgiven_if, is_probing, marked_if}
 use Rattle.sctp_assoc.specs.Resets.{on_reconfig, settled, skips_applied_of}
 use Rattle.sctp_assoc.specs.Shown.{Shown, all_waiting, uses_forward_tsn}
-use Rattle.sctp_assoc.specs.Shutdown.{awaits_answer, shutdown_continued}
+use Rattle.sctp_assoc.specs.Shutdown.{awaits_answer, shutdown_again, shutdown_continued}
 use Rattle.sctp_assoc.specs.Skipping.{acknowledged_at_once, asks_behind, on_forward, skips_of, unrecognized_chunk}
 use Rattle.sctp_assoc.specs.Skipping.{with_passed, with_skip, with_skips}
 use Rattle.sctp_assoc.specs.Skipping as skipping
@@ -63,7 +63,7 @@ use Rattle.sctp_assoc.proofs.StreamsFound.{found_for_keeps}
 use Rattle.sctp_sides.proofs.ForwardKinds.{with_use}
 use Rattle.sctp_sides.proofs.ResetsBeside.{reconfig_changes, settling_changes, skips_of_change}
 use Rattle.sctp_sides.specs.Ending.{IsInOrder}
-use Rattle.sctp_sides.proofs.ShutdownOrder.{IsOrderedOrRests, answered_order, continued_order, in_use}
+use Rattle.sctp_sides.proofs.ShutdownOrder.{IsOrderedOrRests, again_order, answered_order, continued_order, in_use}
 use Rattle.sctp_sides.proofs.ShutdownOrder.{order_beside, order_by, taken_order}
 use Rattle.sctp_sides.proofs.TimersOverChunks.{closed_rests}
 use Rattle.sctp_sides.proofs.TimersRun.{rest_by}
@@ -341,11 +341,12 @@ module _ (a : Shown) (trigger : AckTrigger) (h : IsInOrder a) where
       window trigger now e (order_by a (counted_sack a) refl refl refl refl h))
   sack_order false cumulative_tsn_ack blocks window now e = rw e h
 
-  init_order : (c : Bool) (header : CommonHeader) (init : ChunkInit) → is_beginning a.state ≡ c
-      → IsInOrder (on_init a header init trigger).0
+  init_order : (c kept : Bool) (header : CommonHeader) (init : ChunkInit) → is_beginning a.state ≡ c
+      → keeps_peer a init ≡ kept → IsInOrder (on_init a header init trigger).0
   unfolding on_init
-  init_order true header init e = rw e (order_by a (answered (learned a header init)) refl refl refl refl h)
-  init_order false header init e = rw e h
+  init_order true true header init e f = rw (e, f) (order_by a _ refl refl refl refl h)
+  init_order true false header init e f = rw (e, f) (order_by a _ refl refl refl refl h)
+  init_order false kept header init e f = rw e h
 
   init_ack_order : (waits back : Bool) (header : CommonHeader) (init : ChunkInit) (now : ℕ)
       → is_cookie_wait a.state ≡ waits → comes_back a.handshake header ≡ back
@@ -357,14 +358,15 @@ module _ (a : Shown) (trigger : AckTrigger) (h : IsInOrder a) where
   init_ack_order true false header init now e f = rw (e, f) (order_by a _ refl refl refl refl h)
   init_ack_order false back header init now e f = rw e h
 
-  cookie_echo_order : (issued begins established : Bool) (cookie : List ℕ) → has_issued a.handshake cookie ≡ issued
-      → is_beginning a.state ≡ begins → is_established a.state ≡ established
+  cookie_echo_order : (issued begins again : Bool) (cookie : List ℕ) → has_issued a.handshake cookie ≡ issued
+      → is_beginning a.state ≡ begins → acknowledges_again a ≡ again
       → IsInOrder (on_cookie_echo a cookie trigger).0
   unfolding on_cookie_echo
-  cookie_echo_order false begins established cookie e f g = rw e h
-  cookie_echo_order true true established cookie e f g = rw (e, f)
+  cookie_echo_order false begins again cookie e f g = rw e h
+  cookie_echo_order true true again cookie e f g = rw (e, f)
       (acknowledges_in_order (connected a) (connected_order a (beginning_is_not_closing a.state f) h))
-  cookie_echo_order true false true cookie e f g = rw (e, f, g) (acknowledges_in_order a h)
+  cookie_echo_order true false true cookie e f g = rw (e, f, g)
+      (acknowledges_in_order (shutdown_again a) (again_order a h))
   cookie_echo_order true false false cookie e f g = rw (e, f, g) h
 
   cookie_ack_order : (c : Bool) → is_cookie_echoed a.state ≡ c → IsInOrder (on_cookie_ack a trigger).0
@@ -380,7 +382,7 @@ module _ (a : Shown) (trigger : AckTrigger) (h : IsInOrder a) where
   kind_order header (chunks.Data piece) now = data_order a piece trigger h
   kind_order header (chunks.SelectiveAck k) now =
       sack_order (sends_data a.state) k.cumulative_tsn_ack k.gap_ack_blocks k.advertised_receiver_window_credit now refl
-  kind_order header (chunks.Init x) now = init_order (is_beginning a.state) header x refl
+  kind_order header (chunks.Init x) now = init_order (is_beginning a.state) (keeps_peer a x) header x refl refl
   kind_order header (chunks.InitAck x) now =
       init_ack_order (is_cookie_wait a.state) (comes_back a.handshake header) header x now refl refl
   kind_order header (chunks.Heartbeat x) now = heartbeat_order x
@@ -390,7 +392,7 @@ module _ (a : Shown) (trigger : AckTrigger) (h : IsInOrder a) where
   kind_order header chunks.ShutdownAck now = answered_order a h
   kind_order header (chunks.Error x) now = h
   kind_order header (chunks.CookieEcho x) now =
-      cookie_echo_order (has_issued a.handshake x) (is_beginning a.state) (is_established a.state) x refl refl refl
+      cookie_echo_order (has_issued a.handshake x) (is_beginning a.state) (acknowledges_again a) x refl refl refl
   kind_order header chunks.CookieAck now = cookie_ack_order (is_cookie_echoed a.state) refl
   kind_order header chunks.ShutdownComplete now = h
   kind_order header (chunks.Reconfig x) now =

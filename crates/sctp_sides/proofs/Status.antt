@@ -9,10 +9,11 @@ use Rattle.sctp_wire_types.specs.declared.error.Error.{Error}
 use Rattle.sctp_wire_types.specs.declared.error.Error.TheVariants as errors
 use Rattle.sctp_wire_types.specs.declared.packet.CommonHeader.{CommonHeader}
 use Rattle.sctp_wire_types.specs.Checks.{checked_chunk}
+use Rattle.sctp_wire_types.specs.Config.{is_rfc}
 use Rattle.sctp_parts.specs.declared.state.AssociationState.{AssociationState}
 use Rattle.sctp_parts.specs.declared.state.AssociationState.TheVariants as states
 use Rattle.sctp_parts.specs.declared.timer.Timer.TheVariants as names
-use Rattle.sctp_parts.specs.Timers.{expiry_of}
+use Rattle.sctp_parts.specs.Timers.{expiry_of, with_stopped}
 use Rattle.sctp_wire_types.specs.declared.chunk.ChunkReconfig.{ChunkReconfig}
 use Rattle.sctp_wire_types.specs.declared.event.StreamResetError.TheVariants as failures
 use Rattle.sctp_wire_types.specs.declared.param.Param.{Param}
@@ -29,8 +30,8 @@ use Rattle.sctp_resets.specs.declared.answers.TimerChange.{TimerChange}
 use Rattle.sctp_resets.specs.declared.performing.Handled.{Handled}
 use Rattle.sctp_resets.specs.declared.performing.Settled.{Settled}
 use Rattle.sctp_resets.specs.Answers.{Answering, answering, failed_each, with_told}
-use Rattle.sctp_resets.specs.Resets.{Beside, ResetsView, Resetting, event_told, given_up, given_up_where, is_hidden}
-use Rattle.sctp_resets.specs.Resets.{is_retiring, refusal_of, responded}
+use Rattle.sctp_resets.specs.Resets.{Beside, ResetsView, Resetting, event_told, given_up, given_up_for_now}
+use Rattle.sctp_resets.specs.Resets.{given_up_where, is_hidden, is_retiring, refusal_of, responded}
 use Rattle.sctp_resets.specs.Resets.{skips_done, skips_done_of}
 use Rattle.sctp_resets.specs.Resets as resets
 use Rattle.sctp_assoc.specs.declared.control.Control.{Control}
@@ -41,9 +42,9 @@ use Rattle.sctp_assoc.specs.Chunks.{asks, asks_or_faults, deferred_unless, defer
 use Rattle.sctp_assoc.specs.Chunks.{taken_where_admitted, then_skips, with_message}
 use Rattle.sctp_assoc.specs.Gather.{IsPlainControl}
 use Rattle.sctp_assoc.specs.Resets.{after_param, after_reconfig_timer, asking_if, asks_again, behind_first}
-use Rattle.sctp_assoc.specs.Resets.{behind_params, channels_of, gives_up, handled_with, on_reconfig, on_request}
-use Rattle.sctp_assoc.specs.Resets.{on_response, reconfig_expired, responded_with, responding, settled, settled_with}
-use Rattle.sctp_assoc.specs.Resets.{stopped_if, with_answer, with_beside, with_resetting}
+use Rattle.sctp_assoc.specs.Resets.{behind_params, channels_of, gives_up, goes_on, handled_with, on_reconfig}
+use Rattle.sctp_assoc.specs.Resets.{on_request, on_response, reconfig_expired, responded_with, responding, settled}
+use Rattle.sctp_assoc.specs.Resets.{settled_with, stopped_if, with_answer, with_beside, with_resetting}
 use Rattle.sctp_streams.specs.declared.event.Event.{Event}
 use Rattle.sctp_streams.specs.Stream.{StreamView}
 use Rattle.sctp_streams.specs.Streams.{StreamMap, generation_left, is_readable_in, pushed_in, refusal_in}
@@ -61,14 +62,15 @@ use Rattle.sctp_outbound.specs.Sacks.{before_acknowledging}
 use Rattle.sctp_outbound.specs.Sender.{sack_outcome}
 use Rattle.sctp_wire_types.specs.declared.ids.PayloadProtocolIdentifier.{PayloadProtocolIdentifier}
 use Rattle.sctp_assoc.specs.Calls.{accepted_from, after_ack_delay, after_t3, event_from, is_beginning, is_cookie_echoed}
-use Rattle.sctp_assoc.specs.Calls.{is_cookie_wait, is_established, retransmits, sends_data, t3_expired, written_at}
+use Rattle.sctp_assoc.specs.Calls.{is_cookie_wait, retransmits, sends_data, t3_expired, written_at}
 use Rattle.sctp_assoc.specs.Chunks.{after_sack, checked_first, counted_data, dispatched, counted_sack}
 use Rattle.sctp_assoc.specs.Chunks.{on_chunk, on_counted_sack, on_data, on_new_data, on_sack, stream_found, taken_in}
 use Rattle.sctp_assoc.specs.Chunks.{goes_unread, left_or_handed_over, told}
 use Rattle.sctp_assoc.specs.Finding.{found_for}
-use Rattle.sctp_assoc.specs.Handshake.{after_t1_init, cookie_queued, echoed, information_returned, init_queued}
-use Rattle.sctp_assoc.specs.Handshake.{on_cookie_ack, on_cookie_echo, on_heartbeat, on_init, on_init_ack, sends_cookie}
-use Rattle.sctp_assoc.specs.Handshake.{sends_init, t1_cookie_expired, t1_init_expired}
+use Rattle.sctp_assoc.specs.Handshake.{acknowledges_again, after_t1_init, cookie_queued, echoed, information_returned}
+use Rattle.sctp_assoc.specs.Handshake.{init_queued, keeps_peer, on_cookie_ack, on_cookie_echo, on_heartbeat}
+use Rattle.sctp_assoc.specs.Handshake.{on_init, on_init_ack, sends_cookie, sends_init, t1_cookie_expired}
+use Rattle.sctp_assoc.specs.Handshake.{t1_init_expired}
 use Rattle.sctp_assoc.specs.Gather.{single_chunk_packet}
 use Rattle.sctp_assoc.specs.Skipping.{acknowledged_at_once as forward_acknowledged}
 use Rattle.sctp_assoc.specs.Skipping.{asks_behind, on_forward, skips_of, unrecognized_chunk, with_passed, with_skip}
@@ -506,11 +508,12 @@ works_by : (a b : Shown) → b.failed ≡ a.failed → b.lost ≡ a.lost → b.s
     → KeepsWorking a b
 works_by a b failed lost size = record { failed = failed; lost = lost; size = size }
 
-init_works : (c : Bool) (a : Shown) (header : CommonHeader) (init : ChunkInit) (trigger : AckTrigger)
-    → is_beginning a.state ≡ c → KeepsWorking a (on_init a header init trigger).0
+init_works : (c kept : Bool) (a : Shown) (header : CommonHeader) (init : ChunkInit) (trigger : AckTrigger)
+    → is_beginning a.state ≡ c → keeps_peer a init ≡ kept → KeepsWorking a (on_init a header init trigger).0
 unfolding on_init
-init_works true a header init trigger e = rw e (works_by a _ refl refl refl)
-init_works false a header init trigger e = rw e (works_same a)
+init_works true true a header init trigger e f = rw (e, f) (works_by a _ refl refl refl)
+init_works true false a header init trigger e f = rw (e, f) (works_by a _ refl refl refl)
+init_works false kept a header init trigger e f = rw e (works_same a)
 
 cookie_works : (o : Option (List ℕ)) (a : Shown) → KeepsWorking a (cookie_queued o a)
 cookie_works None a = works_same a
@@ -538,13 +541,13 @@ init_ack_works true true a header init trigger now e f =
 init_ack_works true false a header init trigger now e f = rw (e, f) (works_by a _ refl refl refl)
 init_ack_works false back a header init trigger now e f = rw e (works_same a)
 
-cookie_echo_works : (issued begins established : Bool) (a : Shown) (cookie : List ℕ) (trigger : AckTrigger)
+cookie_echo_works : (issued begins again : Bool) (a : Shown) (cookie : List ℕ) (trigger : AckTrigger)
     → has_issued a.handshake cookie ≡ issued
-    → is_beginning a.state ≡ begins → is_established a.state ≡ established
+    → is_beginning a.state ≡ begins → acknowledges_again a ≡ again
     → KeepsWorking a (on_cookie_echo a cookie trigger).0
 unfolding on_cookie_echo
-cookie_echo_works false begins established a cookie trigger e f g = rw e (works_same a)
-cookie_echo_works true true established a cookie trigger e f g = rw (e, f) (works_by a _ refl refl refl)
+cookie_echo_works false begins again a cookie trigger e f g = rw e (works_same a)
+cookie_echo_works true true again a cookie trigger e f g = rw (e, f) (works_by a _ refl refl refl)
 cookie_echo_works true false true a cookie trigger e f g = rw (e, f, g) (works_by a _ refl refl refl)
 cookie_echo_works true false false a cookie trigger e f g = rw (e, f, g) (works_same a)
 
@@ -571,7 +574,8 @@ kind_leaves header (chunks.Data piece) a trigger now = data_status a piece trigg
 kind_leaves header (chunks.SelectiveAck k) a trigger now =
     sack_stage (sends_data a.state) a k.cumulative_tsn_ack k.gap_ack_blocks k.advertised_receiver_window_credit
     trigger now refl
-kind_leaves header (chunks.Init x) a trigger now = init_works (is_beginning a.state) a header x trigger refl
+kind_leaves header (chunks.Init x) a trigger now =
+    init_works (is_beginning a.state) (keeps_peer a x) a header x trigger refl refl
 kind_leaves header (chunks.InitAck x) a trigger now =
     init_ack_works (is_cookie_wait a.state) (comes_back a.handshake header) a header x trigger now refl refl
 kind_leaves header (chunks.Heartbeat x) a trigger now = heartbeat_works a x trigger
@@ -581,7 +585,7 @@ kind_leaves header (chunks.Shutdown x) a trigger now = works_by a _ refl refl re
 kind_leaves header chunks.ShutdownAck a trigger now = works_by a _ refl refl refl
 kind_leaves header (chunks.Error x) a trigger now = works_same a
 kind_leaves header (chunks.CookieEcho x) a trigger now =
-    cookie_echo_works (has_issued a.handshake x) (is_beginning a.state) (is_established a.state) a x trigger
+    cookie_echo_works (has_issued a.handshake x) (is_beginning a.state) (acknowledges_again a) a x trigger
     refl refl refl
 kind_leaves header chunks.CookieAck a trigger now = cookie_ack_works (is_cookie_echoed a.state) a trigger refl
 kind_leaves header chunks.ShutdownComplete a trigger now = works_same a
@@ -713,32 +717,49 @@ t3_beside true false a now = (status_by a _ refl refl refl refl refl refl refl, 
 failed_streams : (a : Answering) (x : DebtsView × List Event) → (with_told a x).streams ≡ a.streams
 failed_streams a (d, events) = refl
 
-given_up_streams : (x : OwnView × Option OwnRequest) (r : ResetsView) (m : StreamMap) (events : List Event)
+ended_streams : (x : OwnView × Option OwnRequest) (r : ResetsView) (m : StreamMap) (events : List Event)
     → (given_up_where x r m events).1 ≡ m
-given_up_streams (own, None) r m events = refl
-given_up_streams (own, Some q) r m events =
+ended_streams (own, None) r m events = refl
+ended_streams (own, Some q) r m events =
     failed_streams (answering r.debts m events) (failed_each failures.Failed q.ids (r.debts, events))
+
+given_up_streams_if : (by_rfcs : Bool) (r : ResetsView) (m : StreamMap) (events : List Event)
+    → (if by_rfcs then given_up_for_now r m events else given_up_where (own_requests.ended r.own) r m events).1 ≡ m
+given_up_streams_if true r m events = refl
+given_up_streams_if false r m events = ended_streams (own_requests.ended r.own) r m events
+
+given_up_streams : (r : ResetsView) (m : StreamMap) (events : List Event) → (given_up r m events).1 ≡ m
+given_up_streams r m events = given_up_streams_if (is_rfc r.own.profile) r m events
 
 beside_streams : (a : Shown) (x : Beside) → (with_beside a x).streams ≡ x.1
 beside_streams a (r, m, events) = refl
 
-gives_up_beside : (a : Shown) → IsSameBeside a (gives_up a)
-gives_up_beside a =
+goes_on_beside_if : (active : Bool) (a : Shown) (now : ℕ)
+    → IsSameBeside a (if active then asks_again a now else record a { timers = with_stopped names.Reconfig a.timers })
+goes_on_beside_if true a now = (status_by a _ refl refl refl refl refl refl refl, refl)
+goes_on_beside_if false a now = (status_by a _ refl refl refl refl refl refl refl, refl)
+
+goes_on_beside : (a : Shown) (now : ℕ) → IsSameBeside a (goes_on a now)
+goes_on_beside a now = goes_on_beside_if (is_some a.resets.own.active) a now
+
+gives_up_beside : (a : Shown) (now : ℕ) → IsSameBeside a (gives_up a now)
+gives_up_beside a now =
     let x = given_up a.resets a.streams a.events in
-    let b : Shown = with_beside a x in (
-      status_on a b (gives_up a) (beside_status a x) (status_by b (gives_up a) refl refl refl refl refl refl refl),
-      beside_streams a x ∙ given_up_streams (own_requests.ended a.resets.own) a.resets a.streams a.events,
+    let b : Shown = with_beside a x in
+    let on = goes_on_beside b now in (
+      status_on a b (gives_up a now) (beside_status a x) on.0,
+      on.1 ∙ beside_streams a x ∙ given_up_streams a.resets a.streams a.events,
     )
 
 reconfig_beside : (expired failure : Bool) (a : Shown) (now : ℕ)
     → IsSameBeside a
-    (if expired then (if failure then gives_up (reconfig_expired a now) else asks_again (reconfig_expired a now) now)
-    else a)
+    (if expired then
+    (if failure then gives_up (reconfig_expired a now) now else asks_again (reconfig_expired a now) now) else a)
 reconfig_beside false failure a now = (status_same a, refl)
 reconfig_beside true true a now =
     let b : Shown = reconfig_expired a now in
-    let last = gives_up_beside b in
-    (status_on a b (gives_up b) (status_by a b refl refl refl refl refl refl refl) last.0, last.1)
+    let last = gives_up_beside b now in
+    (status_on a b (gives_up b now) (status_by a b refl refl refl refl refl refl refl) last.0, last.1)
 reconfig_beside true false a now = (status_by a _ refl refl refl refl refl refl refl, refl)
 
 ack_delay_beside : (expired : Bool) (a b : Shown) (now : ℕ) → (expiry_of names.Ack now b.timers).expired ≡ expired

@@ -1,7 +1,7 @@
 -- The chunks of a packet keep the timers where they should run, and a fault stops them all.
 use Rattle.std.proofs.Common.{◌≡◌, refl, sym, ap, ◌∙◌, subst, ◌⊎◌, inl, inr, ℕ, ◌<◌, arith, Bool, true, false}
 use Rattle.std.proofs.Common.{ltb, if◌then◌else◌, List, [], ◌∷◌, length, map, Option, Some, None, is_some, Result}
-use Rattle.std.proofs.Common.{Ok, Err}
+use Rattle.std.proofs.Common.{Ok, Err, ◌&&◌}
 use Rattle.std.proofs.lemmas.Bool.{false≢true, ltb-false, ltb-true, true≢false}
 use Rattle.std.proofs.lemmas.List.{length-map}
 use Rattle.sctp_wire_types.specs.declared.chunk.Chunk.{Chunk}
@@ -10,6 +10,8 @@ use Rattle.sctp_wire_types.specs.declared.chunk.ChunkPayloadData.{ChunkPayloadDa
 use Rattle.sctp_wire_types.specs.declared.chunk.ChunkHeartbeat.{ChunkHeartbeat}
 use Rattle.sctp_wire_types.specs.declared.chunk.ChunkInit.{ChunkInit}
 use Rattle.sctp_wire_types.specs.declared.error.Error.{Error}
+use Rattle.sctp_wire_types.specs.declared.error.Error.TheVariants as errors
+use Rattle.sctp_wire_types.specs.Config.{is_rfc}
 use Rattle.sctp_wire_types.specs.declared.packet.CommonHeader.{CommonHeader}
 use Rattle.sctp_wire_types.specs.Checks.{checked_chunk}
 use Rattle.sctp_wire.specs.declared.packet.Packet.{Packet}
@@ -40,16 +42,17 @@ use Rattle.sctp_assoc.specs.declared.inbound.Flow.{Flow}
 use Rattle.sctp_assoc.specs.declared.inbound.Flow.TheVariants as flows
 use Rattle.sctp_assoc.specs.Calls.{is_beginning, is_cookie_echoed, is_cookie_wait}
 use Rattle.sctp_assoc.specs.Closing.{closed_open, is_closed_state, is_exhausted}
-use Rattle.sctp_assoc.specs.Calls.{is_established, sends_data}
-use Rattle.sctp_assoc.specs.Shutdown.{on_shutdown_complete, shutdown_continued}
-use Rattle.sctp_assoc.specs.Handshake.{acknowledged_cookie, answered, connected, echoed, information_returned, learned}
-use Rattle.sctp_assoc.specs.Handshake.{on_cookie_ack, on_cookie_echo, on_heartbeat, on_init, on_init_ack, sends_cookie}
+use Rattle.sctp_assoc.specs.Calls.{sends_data}
+use Rattle.sctp_assoc.specs.Shutdown.{on_shutdown_complete, shutdown_again, shutdown_continued}
+use Rattle.sctp_assoc.specs.Handshake.{acknowledged_cookie, acknowledges_again, connected, echoed}
+use Rattle.sctp_assoc.specs.Handshake.{information_returned, keeps_peer, on_cookie_ack, on_cookie_echo}
+use Rattle.sctp_assoc.specs.Handshake.{on_heartbeat, on_init, on_init_ack, sends_cookie}
 use Rattle.sctp_assoc.specs.Chunks.{after_chunks, after_packet, after_packet_of, after_sack, checked_first}
 use Rattle.sctp_assoc.specs.Chunks.{counted_data, goes_unread, left_or_handed_over, taken_unless}
 use Rattle.sctp_assoc.specs.Chunks.{counted_sack, dispatched, ended, goes_on, on_chunk, on_counted_data}
 use Rattle.sctp_assoc.specs.Chunks.{on_counted_sack, on_data, on_new_data, on_sack, stream_found, taken_in, told}
 use Rattle.sctp_assoc.specs.Chunks.{asks, asks_or_faults, deferred, deferred_unless, deferred_where_admitted}
-use Rattle.sctp_assoc.specs.Chunks.{taken_where_admitted, then_skips, with_acknowledged}
+use Rattle.sctp_assoc.specs.Chunks.{is_skippable, passed_over, taken_where_admitted, then_skips, with_acknowledged}
 use Rattle.sctp_sides.specs.OneSide.{is_delayed}
 use Rattle.sctp_assoc.specs.Shown.{Shown, all_waiting, uses_forward_tsn}
 use Rattle.sctp_sides.proofs.ForwardKinds.{with_use}
@@ -500,12 +503,14 @@ module _ (a : Shown) (trigger : AckTrigger) (h : Ticks a) where
       (ticks_by a (counted_sack a) (time_by a (counted_sack a) refl refl refl refl refl refl) h))
   sack_ticks false cumulative_tsn_ack blocks window now e = rw e h
 
-  init_ticks : (c : Bool) (header : CommonHeader) (init : ChunkInit) → is_beginning a.state ≡ c
-      → Ticks (on_init a header init trigger).0
+  init_ticks : (c kept : Bool) (header : CommonHeader) (init : ChunkInit) → is_beginning a.state ≡ c
+      → keeps_peer a init ≡ kept → Ticks (on_init a header init trigger).0
   unfolding on_init
-  init_ticks true header init e = rw e (ticks_by a (answered (learned a header init))
-      (time_by a (answered (learned a header init)) refl refl refl refl refl refl) h)
-  init_ticks false header init e = rw e h
+  init_ticks true true header init e f = rw (e, f)
+      (ticks_by a _ (time_by a _ refl refl refl refl refl refl) h)
+  init_ticks true false header init e f = rw (e, f)
+      (ticks_by a _ (time_by a _ refl refl refl refl refl refl) h)
+  init_ticks false kept header init e f = rw e h
 
   init_ack_ticks : (waits back : Bool) (header : CommonHeader) (init : ChunkInit) (now : ℕ)
       → is_cookie_wait a.state ≡ waits → comes_back a.handshake header ≡ back
@@ -519,14 +524,15 @@ module _ (a : Shown) (trigger : AckTrigger) (h : Ticks a) where
       (ticks_by a _ (time_by a _ refl refl refl refl refl refl) h)
   init_ack_ticks false back header init now e f = rw e h
 
-  cookie_echo_ticks : (issued begins established : Bool) (cookie : List ℕ) → has_issued a.handshake cookie ≡ issued
-      → is_beginning a.state ≡ begins → is_established a.state ≡ established
+  cookie_echo_ticks : (issued begins again : Bool) (cookie : List ℕ) → has_issued a.handshake cookie ≡ issued
+      → is_beginning a.state ≡ begins → acknowledges_again a ≡ again
       → Ticks (on_cookie_echo a cookie trigger).0
   unfolding on_cookie_echo
-  cookie_echo_ticks false begins established cookie e f g = rw e h
-  cookie_echo_ticks true true established cookie e f g = rw (e, f)
+  cookie_echo_ticks false begins again cookie e f g = rw e h
+  cookie_echo_ticks true true again cookie e f g = rw (e, f)
       (acknowledges_cookie (connected a) (connected_ticks a f h))
-  cookie_echo_ticks true false true cookie e f g = rw (e, f, g) (acknowledges_cookie a h)
+  cookie_echo_ticks true false true cookie e f g = rw (e, f, g) (acknowledges_cookie (shutdown_again a)
+      (ticks_by a (shutdown_again a) (time_by a (shutdown_again a) refl refl refl refl refl refl) h))
   cookie_echo_ticks true false false cookie e f g = rw (e, f, g) h
 
   cookie_ack_ticks : (c : Bool) → is_cookie_echoed a.state ≡ c → Ticks (on_cookie_ack a trigger).0
@@ -546,18 +552,20 @@ module _ (a : Shown) (trigger : AckTrigger) (h : Ticks a) where
       (sack_ticks (sends_data a.state) k.cumulative_tsn_ack k.gap_ack_blocks k.advertised_receiver_window_credit
       now refl)
   kind_ticks header (chunks.Init x) now = ticks_on (on_init a header x trigger)
-      (init_ticks (is_beginning a.state) header x refl)
+      (init_ticks (is_beginning a.state) (keeps_peer a x) header x refl refl)
   kind_ticks header (chunks.InitAck x) now =
       init_ack_ticks (is_cookie_wait a.state) (comes_back a.handshake header) header x now refl refl
   kind_ticks header (chunks.Heartbeat x) now = heartbeat_ticks x
-  kind_ticks header (chunks.HeartbeatAck x) now = faulty a h
+  kind_ticks header (chunks.HeartbeatAck x) now =
+      ticks_on (a, passed_over (is_rfc a.profile) errors.ErrChunkTypeUnhandled trigger) h
   kind_ticks header (chunks.Abort x) now = faulty a h
   kind_ticks header (chunks.Shutdown x) now = shutdown_taken_ticks a h
   kind_ticks header chunks.ShutdownAck now = shutdown_answered_ticks a h
-  kind_ticks header (chunks.Error x) now = faulty a h
+  kind_ticks header (chunks.Error x) now =
+      ticks_on (a, passed_over (is_rfc a.profile) errors.ErrAbortChunk trigger) h
   kind_ticks header (chunks.CookieEcho x) now =
       ticks_on (on_cookie_echo a x trigger) (cookie_echo_ticks (has_issued a.handshake x) (is_beginning a.state)
-      (is_established a.state) x refl refl refl)
+      (acknowledges_again a) x refl refl refl)
   kind_ticks header chunks.CookieAck now = ticks_on (on_cookie_ack a trigger)
       (cookie_ack_ticks (is_cookie_echoed a.state) refl)
   kind_ticks header chunks.ShutdownComplete now = ticks_on (a, on_shutdown_complete a.state trigger) h
@@ -568,7 +576,8 @@ module _ (a : Shown) (trigger : AckTrigger) (h : Ticks a) where
   kind_ticks header (chunks.IForwardTsn x) now =
       ticks_on (on_forward a x.new_cumulative_tsn (skips_of x.entries) trigger now)
       (forward_ticks a x.new_cumulative_tsn (skips_of x.entries) trigger now h)
-  kind_ticks header (chunks.Other kind flags value) now = faulty a h
+  kind_ticks header (chunks.Other kind flags value) now =
+      ticks_on (a, passed_over (is_skippable kind && is_rfc a.profile) errors.ErrChunkTypeUnhandled trigger) h
 
   checked_ticks : (r : Result (Unit {0}) Error) (header : CommonHeader) (c : Chunk) (now : ℕ)
       → TicksOn (checked_first r a header c trigger now)

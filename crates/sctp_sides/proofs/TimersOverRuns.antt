@@ -33,6 +33,7 @@ use Rattle.sctp_sides.specs.Witnesses.{LossesStopTheTimers, LostSidesWaitForNoth
 use Rattle.sctp_sides.specs.Witnesses.{NoHandshakeTimerRunsOnceEstablished, NothingInFlightIsNotTimed}
 use Rattle.sctp_sides.specs.Witnesses.{OutstandingDataIsTimed, SentInitsAreTimed, WaitsForNothing}
 use Rattle.sctp_sides.proofs.PollsLeave.{control_leaves, silent_poll}
+use Rattle.sctp_sides.proofs.RequestsLeft.{stopped_reading_leaves}
 use Rattle.sctp_sides.proofs.ResetsBeside.{draining_changes, stop_changes}
 use Rattle.sctp_sides.proofs.TimersRun.{AtRest, IsQuiet, IsSameTime, Ticks, closed_waits_for_nothing, ticks_beside}
 use Rattle.sctp_sides.proofs.TimersRun.{begun_shakes_no_hands, closed_gives_nothing, closed_is_not_established}
@@ -58,22 +59,18 @@ use Rattle.sctp_reset_requests.specs.Own.{OwnView, sent_first, sent_from}
 use Rattle.sctp_reset_requests.specs.Peer.{boundary_of}
 use Rattle.sctp_resets.specs.Channels.{channels}
 use Rattle.sctp_resets.specs.Draining.{Reading, drained_out}
-use Rattle.sctp_generations.specs.Generations.{discarded}
-use Rattle.sctp_resets.specs.Resets.{Beside, Resetting, ResetsView, ended_unless, event_told, event_told_at, is_blocked}
-use Rattle.sctp_resets.specs.Resets.{is_retiring, read_out, stopped_reading, waiting_for, with_event, with_generations}
-use Rattle.sctp_resets.specs.Resets.{with_own, with_read}
+use Rattle.sctp_resets.specs.Resets.{Beside, Resetting, ResetsView, event_told, event_told_at, is_retiring, read_out}
+use Rattle.sctp_resets.specs.Resets.{stopped_reading, waiting_for, with_event, with_own, with_read}
 use Rattle.sctp_resets.specs.Telling.{next_told}
 use Rattle.std.specs.Prelude.{remove}
-use Rattle.std.specs.List.{filter}
-use Rattle.std.proofs.Common.{◌&&◌, fold, not, slice_get}
+use Rattle.std.proofs.Common.{◌&&◌, fold, slice_get}
 use Rattle.std.proofs.lemmas.Bool.{cond-true}
 use Rattle.sctp_assoc.specs.Closing.{exhausted, is_exhausted, out_of_resource, relieved}
 use Rattle.sctp_assoc.specs.Control.{queued}
 use Rattle.sctp_receive_queues.specs.Messages.{ReceivedMessage}
 use Rattle.sctp_streams.specs.declared.setting.Setting.TheVariants as settings
-use Rattle.sctp_streams.specs.Events.{is_told_of}
-use Rattle.sctp_streams.specs.Stream.{is_read_half_open, without_unread}
-use Rattle.sctp_streams.specs.Streams.{StreamMap, changed_stream, read_in}
+use Rattle.sctp_streams.specs.Stream.{is_read_half_open}
+use Rattle.sctp_streams.specs.Streams.{StreamMap, read_in}
 
 -- What is used of a failure.
 pub record Fell (a b : Shown) : Type 0 where
@@ -299,28 +296,23 @@ stop_sound true before a id h =
     eased_sound before b (ticks_beside a b (stop_changes a id) h)
 stop_sound false before a id h = inl h
 
-beside_rests : (a : Shown) (x : Beside) → x.0.own ≡ a.resets.own → AtRest a → AtRest (with_beside a x)
-beside_rests a (r, m, told) own h = rest_by a _ refl refl refl refl own h
-
-ended_keeps_requests : (blocked : Bool) (r : ResetsView) (id : ℕ) (m : StreamMap) (told : List Event)
-    → (ended_unless blocked r id m told).0.own ≡ r.own
-ended_keeps_requests true r id m told = refl
-ended_keeps_requests false r id m told = refl
-
-stopped_reading_keeps_requests : (id : ℕ) (r : ResetsView) (m : StreamMap) (told : List Event)
-    → (stopped_reading id r m told).0.own ≡ r.own
-stopped_reading_keeps_requests id r m told =
-    let s : ResetsView = with_generations r (discarded r.generations id) in
-    ended_keeps_requests (is_blocked s id) s id (changed_stream without_unread m id)
-    (filter (λ (e : Event). not (is_told_of id e)) told)
+beside_rests : (a : Shown) (x : Beside) → (IsQuiet a.resets.own → IsQuiet x.0.own) → AtRest a
+    → AtRest (with_beside a x)
+beside_rests a (r, m, told) quiet h = rest_quietly a _ refl refl refl refl quiet h
 
 -- a stream that waits to be reset is in no request yet
-open_stop_rests : (retires : Bool) (x : Beside) (a : Shown) (id : ℕ) → x.0.own ≡ a.resets.own → AtRest a
+unread_is_quiet : (id : ℕ) (r : ResetsView) (m : StreamMap) (told : List Event) → IsQuiet r.own
+    → IsQuiet (stopped_reading id r m told).0.own
+unread_is_quiet id r m told quiet =
+    stopped_reading_leaves (λ (z : ResetsView). IsQuiet z.own) id r m told quiet (quiet.0, quiet.1)
+
+open_stop_rests : (retires : Bool) (x : Beside) (a : Shown) (id : ℕ) → (IsQuiet a.resets.own → IsQuiet x.0.own)
+    → AtRest a
     → AtRest
     (if retires then with_beside a x else
     record a { streams = unread_dropped (is_rfc a.profile) a.streams id; resets = waiting_for a.resets id })
-open_stop_rests true x a id own h = beside_rests a x own h
-open_stop_rests false x a id own h = rest_quietly a _ refl refl refl refl (λ q. (q.0, q.1)) h
+open_stop_rests true x a id quiet h = beside_rests a x quiet h
+open_stop_rests false x a id quiet h = rest_quietly a _ refl refl refl refl (λ q. (q.0, q.1)) h
 
 stop_rests : (opened : Bool) (before : ℕ) (a : Shown) (id : ℕ) → AtRest a
     → AtRest (if opened then eased before (stopped_open a id) else a)
@@ -328,7 +320,7 @@ stop_rests true before a id h =
     let b : Shown = without_read_half_of a id in
     eased_rests before (stopped_open a id)
     (open_stop_rests (is_retiring a.resets id) (stopped_reading id b.resets b.streams b.events) b id
-    (stopped_reading_keeps_requests id b.resets b.streams b.events)
+    (unread_is_quiet id b.resets b.streams b.events)
     (rest_by a b refl refl refl refl refl h))
 stop_rests false before a id h = h
 

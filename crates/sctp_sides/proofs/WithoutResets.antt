@@ -3,6 +3,7 @@ use Rattle.std.proofs.Common.{◌≡◌, refl, sym, ap, ◌∙◌, ℕ, ◌+◌,
 use Rattle.std.proofs.Common.{if◌then◌else◌, List, [], ◌∷◌, ◌++◌, length, filter, fold, take, min, Option, Some, None}
 use Rattle.std.proofs.Common.{is_some}
 use Rattle.std.specs.List.{AllByRecursion, list_any}
+use Rattle.sctp_wire_types.specs.Config.{is_rfc}
 use Rattle.sctp_wire_types.specs.declared.chunk.SkippedStream.{SkippedStream}
 use Rattle.sctp_wire_types.specs.declared.event.StreamEvent.{StreamEvent}
 use Rattle.sctp_wire_types.specs.declared.event.StreamEvent.TheVariants as told
@@ -19,16 +20,19 @@ use Rattle.sctp_reset_requests.specs.declared.own_request.OwnRequest.{OwnRequest
 use Rattle.sctp_reset_requests.specs.declared.own_request.SentRequest.{SentRequest}
 use Rattle.sctp_reset_requests.specs.Debts.{DebtsView, bars, no_debt}
 use Rattle.sctp_reset_requests.specs.Ids.{has_id}
-use Rattle.sctp_reset_requests.specs.Own.{OwnView, asked, asked_for, ended, expired, most_ids, open_requests, open_with}
+use Rattle.sctp_reset_requests.specs.Own.{OwnView, asked, asked_for, ended, expired, failing_ids, most_ids}
+use Rattle.sctp_reset_requests.specs.Own.{open_requests, open_with}
 use Rattle.sctp_reset_requests.specs.Own.{param_again, quiet_ids, repeated, resets, sent_first, sent_from, with_active}
-use Rattle.sctp_reset_requests.specs.Own.{with_repeat}
+use Rattle.sctp_reset_requests.specs.Own.{with_given_up, with_repeat}
 use Rattle.sctp_reset_requests.specs.Own as own
 use Rattle.sctp_reset_requests.specs.Peer.{PeerView, advanced_with, boundary_for, boundary_of, is_one_due}
 use Rattle.sctp_reset_requests.specs.Request.{PeerRequestView}
+use Rattle.sctp_resets.specs.Answers.{failures_told}
 use Rattle.sctp_resets.specs.Channels.{channels}
 use Rattle.sctp_resets.specs.Draining.{Reading, passed_times}
-use Rattle.sctp_resets.specs.Resets.{Beside, Resetting, ResetsView, given_up, given_up_where, is_blocked, is_hidden}
-use Rattle.sctp_resets.specs.Resets.{is_retiring, request_again, request_asked, request_sent, settled_where}
+use Rattle.sctp_resets.specs.Resets.{Beside, Resetting, ResetsView, given_up, given_up_for_now, given_up_where}
+use Rattle.sctp_resets.specs.Resets.{is_blocked, is_hidden, is_retiring, request_again, request_asked, request_sent}
+use Rattle.sctp_resets.specs.Resets.{settled_where}
 use Rattle.sctp_resets.specs.Resets.{timer_expired}
 use Rattle.sctp_resets.specs.Resets.{with_asked, with_generations, with_own, with_read, with_skips_done}
 use Rattle.sctp_resets.specs.Resets.{without_unordered}
@@ -177,13 +181,15 @@ all_that_waits a kept below =
 
 -- no stream is to be reset, and none is kept from being used
 pub none_is_blocked : (r : ResetsView) (id : ℕ) → r.own.waiting ≡ [] → r.own.queued ≡ [] → r.own.active ≡ None
-    → r.debts ≡ no_debt → r.generations ≡ no_generations → is_blocked r id ≡ false
-none_is_blocked r id waiting queued active owed kept =
-    ap (λ (w : List ℕ). has_id id w || list_any (resets id) (open_requests r.own) || bars r.debts id
-    || is_retiring r id) waiting
-    ∙ ap (λ (o : Option SentRequest). list_any (resets id) (open_with o r.own.queued) || bars r.debts id
-    || is_retiring r id) active
-    ∙ ap (λ (q : List OwnRequest). list_any (resets id) q || bars r.debts id || is_retiring r id) queued
+    → r.own.ahead ≡ [] → r.debts ≡ no_debt → r.generations ≡ no_generations → is_blocked r id ≡ false
+none_is_blocked r id waiting queued active ahead owed kept =
+    ap (λ (w : List ℕ). has_id id w || (list_any (resets id) (open_requests r.own) || has_id id r.own.ahead)
+    || bars r.debts id || is_retiring r id) waiting
+    ∙ ap (λ (o : Option SentRequest). (list_any (resets id) (open_with o r.own.queued) || has_id id r.own.ahead)
+    || bars r.debts id || is_retiring r id) active
+    ∙ ap (λ (q : List OwnRequest). (list_any (resets id) q || has_id id r.own.ahead) || bars r.debts id
+    || is_retiring r id) queued
+    ∙ ap (λ (ids : List ℕ). has_id id ids || bars r.debts id || is_retiring r id) ahead
     ∙ ap (λ (d : DebtsView). bars d id || is_retiring r id) owed
     ∙ none_retires r id kept
 
@@ -193,11 +199,30 @@ no_request_expires r active =
     ap (λ (o : Option SentRequest). record r { own = with_active r.own (with_repeat true o) }) active
     ∙ ap (λ (o : Option SentRequest). record r { own = with_active r.own o }) (sym active)
 
-pub no_request_is_given_up : (r : ResetsView) (m : StreamMap) (told : List Event) → r.own.active ≡ None
-    → given_up r m told ≡ (r, m, told)
-no_request_is_given_up r m told active =
+no_request_ends : (r : ResetsView) (m : StreamMap) (told : List Event) → r.own.active ≡ None
+    → given_up_where (ended r.own) r m told ≡ (r, m, told)
+no_request_ends r m told active =
     ap (λ (o : Option SentRequest). given_up_where (with_active r.own None, own.request_sent o) r m told) active
     ∙ ap (λ (o : Option SentRequest). (record r { own = with_active r.own o }, m, told)) (sym active)
+
+no_request_is_marked : (r : ResetsView) (m : StreamMap) (told : List Event) → r.own.active ≡ None
+    → given_up_for_now r m told ≡ (r, m, told)
+no_request_is_marked r m told active =
+    ap (λ (o : Option SentRequest). (
+      record r { own = with_active r.own (with_given_up o) },
+      m,
+      failures_told r.debts m (failing_ids o) told,
+    )) active
+    ∙ ap (λ (o : Option SentRequest). (record r { own = with_active r.own o }, m, told)) (sym active)
+
+given_up_as_if : (by_rfcs : Bool) (r : ResetsView) (m : StreamMap) (told : List Event) → r.own.active ≡ None
+    → (if by_rfcs then given_up_for_now r m told else given_up_where (ended r.own) r m told) ≡ (r, m, told)
+given_up_as_if true r m told active = no_request_is_marked r m told active
+given_up_as_if false r m told active = no_request_ends r m told active
+
+pub no_request_is_given_up : (r : ResetsView) (m : StreamMap) (told : List Event) → r.own.active ≡ None
+    → given_up r m told ≡ (r, m, told)
+no_request_is_given_up r m told active = given_up_as_if (is_rfc r.own.profile) r m told active
 
 -- its timer is not started
 pub no_request_is_timed : (a : Shown) (now : ℕ) → a.resets.own.active ≡ None → with_reconfig_run a now ≡ a

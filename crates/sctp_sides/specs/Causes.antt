@@ -1,7 +1,7 @@
 -- What closes an association: the chunks that are faults, by what stands in them and in the state (RFC 4960
 -- sections 3.3, 5 and 6.2.1), and the SHUTDOWN COMPLETE that ends a shutdown (section 9.2).
 use Rattle.std.specs.Prelude.{◌≡◌, ◌≢◌, ◌⊎◌, ◌↔◌, ◌≤◌, ◌<◌, ℕ, zero, suc, ◌+◌, ◌%◌, ◌^◌, true, false, List, [], ◌∷◌}
-use Rattle.std.specs.Prelude.{length, ◌-◌, min, Bool}
+use Rattle.std.specs.Prelude.{length, ◌-◌, min, Bool, ◌&&◌}
 use Rattle.std.specs.Prelude.{slice_get, Option, Some, None, Err, ⊤}
 use Rattle.sctp_wire_types.specs.Checks.{checked_chunk}
 use Rattle.sctp_serial.specs.Serial.{tsn_gt, tsn}
@@ -12,6 +12,7 @@ use Rattle.sctp_wire_types.specs.declared.chunk.ChunkPayloadData.{ChunkPayloadDa
 use Rattle.sctp_wire_types.specs.declared.chunk.ChunkReconfig.{ChunkReconfig}
 use Rattle.sctp_wire_types.specs.declared.chunk.ChunkSelectiveAck.{ChunkSelectiveAck}
 use Rattle.sctp_wire_types.specs.declared.error.Error.{Error}
+use Rattle.sctp_wire_types.specs.Config.{is_rfc}
 use Rattle.sctp_wire_types.specs.declared.packet.CommonHeader.{CommonHeader}
 use Rattle.sctp_wire_types.specs.declared.param.Param.{Param}
 use Rattle.sctp_wire_types.specs.declared.param.Param.TheVariants as params
@@ -35,7 +36,7 @@ use Rattle.sctp_assoc.specs.Happened.{acts_of_chunk}
 use Rattle.sctp_assoc.specs.Leads.{Binds, parts}
 use Rattle.sctp_directions.specs.Acts.{History, IsNewTsn, Parts, done_all, reach_in}
 use Rattle.sctp_fit.specs.Incoming.{tsn_before}
-use Rattle.sctp_assoc.specs.Chunks.{on_chunk}
+use Rattle.sctp_assoc.specs.Chunks.{is_skippable, on_chunk}
 use Rattle.sctp_sides.specs.Intake.{HasStreamFor, MayKeepApart, MayTakeIn, is_for_later, later_refusal_of, refusal_of}
 use Rattle.sctp_sides.specs.Laws.{closes}
 use Rattle.sctp_sides.specs.SideLaws.{CouldPassOver}
@@ -157,9 +158,9 @@ is_second_of_reset (Some param) = is_of_reset param
 abbrev pub HasOtherParameter : ChunkReconfig → Type 0
 HasOtherParameter reconfig = (is_of_reset reconfig.first ≡ false) ⊎ (is_second_of_reset reconfig.second ≡ false)
 
--- what a chunk of each kind is a fault by; an ABORT or an ERROR always is one, and so is a chunk of a kind that is not
--- processed. A SHUTDOWN COMPLETE that answers this side's SHUTDOWN ACK is no fault, but closes, too (RFC 4960 section
--- 9.2).
+-- what a chunk of each kind is a fault by; an ABORT always is one. ERROR, HEARTBEAT ACK and kinds that are not
+-- processed are, unless the rules of the RFCs pass over them. A SHUTDOWN COMPLETE that answers this side's SHUTDOWN ACK
+-- is no fault, but closes, too (RFC 4960 section 9.2).
 abbrev pub IsCauseOfItsKind : Shown → History → CommonHeader → Chunk → Type 0
 IsCauseOfItsKind a h header (chunks.Data piece) =
     FitsNoMessage a h piece ⊎ (FitsNoLaterMessage a h piece ⊎ LeavesNothingToRead a h header piece)
@@ -178,8 +179,9 @@ IsCauseOfItsKind a h header (chunks.Shutdown cumulative_tsn_ack) = ⊥
 IsCauseOfItsKind a h header chunks.ShutdownAck = ⊥
 IsCauseOfItsKind a h header chunks.ShutdownComplete = a.state ≡ states.ShutdownAckSent
 IsCauseOfItsKind a h header (chunks.Abort abort) = ⊤
-IsCauseOfItsKind a h header (chunks.Error error) = ⊤
-IsCauseOfItsKind a h header chunk = ⊤
+IsCauseOfItsKind a h header (chunks.Error error) = is_rfc a.profile ≡ false
+IsCauseOfItsKind a h header (chunks.HeartbeatAck heartbeat) = is_rfc a.profile ≡ false
+IsCauseOfItsKind a h header (chunks.Other kind flags value) = (is_skippable kind && is_rfc a.profile) ≡ false
 
 -- a cause for an association to close
 abbrev pub IsCause : Shown → History → CommonHeader → Chunk → Type 0

@@ -37,13 +37,15 @@ abbrev pub IsOfNoReset : Control → Type 0
 IsOfNoReset (controls.Packet p) = IsNoReconfig p.chunk
 IsOfNoReset controls.OwnRequest = ⊥
 
--- No reset is under way: of this side no stream waits to be reset and no request is open; no request of the peer waits;
--- the application is owed the end of none, and none failed; no generation of a stream that ended is still read, and
--- nothing is kept for one that is not read yet; and nothing that waits to go out is of a reset.
+-- No reset is under way: of this side no stream waits to be reset, no request is open, and the peer reset its half of
+-- each stream that this side reset first; no request of the peer waits; the application is owed the end of none, and
+-- none failed; no generation of a stream that ended is still read, and nothing is kept for one that is not read yet;
+-- and nothing that waits to go out is of a reset.
 pub record HasNoReset (a : Shown) : Type 0 where
   pub waiting : a.resets.own.waiting ≡ []
   pub queued : a.resets.own.queued ≡ []
   pub active : a.resets.own.active ≡ None
+  pub ahead : a.resets.own.ahead ≡ []
   pub in_progress : a.resets.peer.in_progress ≡ None
   pub owed : a.resets.debts ≡ no_debt
   pub kept : a.resets.generations ≡ no_generations

@@ -42,7 +42,8 @@ CompletedNumbersAreRepeats =
     → is_current a.resets.peer.in_progress param.reconfig_request_sequence_number ≡ false → IsRepeat a param
 
 -- A request of the peer names a number of this side's requests, too, and ends the active one of this side if that has
--- the number: what this leaves of the resets, the streams and the events, and whether one ended.
+-- the number; by the rules of the RFCs not one of which the peer answered that it is in progress. What this leaves of
+-- the resets, the streams and the events, and whether one ended.
 abbrev pub confirming : Shown → ParamOutgoingResetRequest → Beside × Bool
 confirming a param = confirmed_by param.reconfig_response_sequence_number a.resets a.streams a.events
 
@@ -65,7 +66,7 @@ abbrev pub RepeatsRetireNothing : Type 0
 RepeatsRetireNothing =
     (a : Shown) (param : ParamOutgoingResetRequest) → IsRepeat a param → IsAnsweredAlone a param
 
--- a repeat that names no active request of this side changes nothing but what waits to go out
+-- a repeat that ends no active request of this side changes nothing but what waits to go out
 abbrev pub RepeatsAreOnlyAnswered : Type 0
 RepeatsAreOnlyAnswered =
     (a : Shown) (param : ParamOutgoingResetRequest) → IsRepeat a param

@@ -54,8 +54,9 @@ JoinedSidesAreQuiet = (config : Settings) (size : ℕ) (remote_addr : SocketAddr
     (own peer : ChunkInit)
     → ActiveIsQuiet (joined config size remote_addr local_ip own peer)
 
--- A write that nothing refuses is on a stream that is not blocked: it waits for no reset, the end of none is owed, its
--- last one did not fail, and no generation of it that ended is still read. So it is not being reset.
+-- A write that nothing refuses is on a stream that is not blocked: it waits for no reset, the peer reset its half if
+-- this side was first, the end of none is owed, its last one did not fail, and no generation of it that ended is still
+-- read. So it is not being reset.
 abbrev pub WritesWaitForResets : Type 0
 WritesWaitForResets = (a : Shown) (id size : ℕ) → write_refusal a id size ≡ None
     → (is_blocked a.resets id ≡ false) × (is_being_reset a id ≡ false)

@@ -142,7 +142,8 @@ abbrev pub PollsTimeRequests : Type 0
 PollsTimeRequests = (a : Shown) (now : ℕ) → is_some (polled a now).0.resets.own.active ≡ true
     → is_armed names.Reconfig (polled a now).0.timers ≡ true
 
--- Timeouts leave it running as long as the request is not answered. Past its limit of retries the request is given up.
+-- Timeouts leave it running as long as the request is not answered. Past its limit of retries the request is given up;
+-- by the rules of the RFCs it goes on all the same.
 abbrev pub TimeoutsLeaveRequestsTimed : Type 0
 TimeoutsLeaveRequestsTimed = (a : Shown) (now : ℕ) → is_armed names.Reconfig a.timers ≡ true
     → is_some (after_timeouts a now).resets.own.active ≡ true

@@ -21,7 +21,8 @@ use Rattle.sctp_assoc.specs.Inbound.{taken_packet}
 use Rattle.sctp_assoc.specs.Shown.{Shown}
 use Rattle.sctp_driver.specs.declared.tags.DatagramAnswer.{DatagramAnswer}
 use Rattle.sctp_driver.specs.declared.tags.DatagramAnswer.TheVariants as fates
-use Rattle.sctp_driver.specs.Driving.{Driving, RunsOutOfMemory, with_association}
+use Rattle.sctp_driver.specs.Driving.{Driving, RunsOutOfMemory}
+use Rattle.sctp_driver.specs.Late.{with_datagram}
 use Rattle.sctp_driver.specs.Tags.{answer_to, packet_in}
 use Rattle.sctp_watch.specs.declared.ends.End.{End}
 use Rattle.sctp_watch.specs.declared.ends.End.TheVariants as ends
@@ -94,14 +95,13 @@ module _ (d e : Driving) (now : ℕ) (alive : d.association.lost ≡ false) (los
       let z : false ≡ true = sym alive ∙ sym kept ∙ lost in
       absurd cc
 
-  by_packet : (packet : Option Packet) → e ≡ with_association d (after_packet d.association packet now)
-      → IsSome packet
+  by_packet : (packet : Option Packet) → e.association ≡ after_packet d.association packet now → IsSome packet
   by_packet (Some packet) is = refl
   by_packet None is =
-      absurd (same_not (is ∙ ap (with_association d) (no_packet d.association.lost d.association)))
+      absurd (differ d.association e.association alive lost (is ∙ no_packet d.association.lost d.association))
 
   by_fate : (fate : DatagramAnswer) (packet : Option Packet)
-      → (fate ≡ fates.Taken → e ≡ with_association d (after_packet d.association packet now))
+      → (fate ≡ fates.Taken → e.association ≡ after_packet d.association packet now)
       → (fate ≢ fates.Taken → e ≡ d) → IsSome packet
   by_fate fates.Taken packet taken left = by_packet packet (taken refl)
   by_fate fates.NoPacket packet taken left = absurd (same_not (left (λ is. absurd cc)))
@@ -116,15 +116,14 @@ module _ (d e : Driving) (now : ℕ) (alive : d.association.lost ≡ false) (los
   by_error packet answer refused memory (inr is) = absurd (⊎_elim same_not memory_not (memory is))
 
   pub packet_came : (datagram : List ℕ) (answer : Result DatagramAnswer Error)
-      → OnOk answer (answer_to d datagram ≡ fates.Taken
-      → e ≡ with_association d (after_packet d.association (packet_in datagram) now))
+      → OnOk answer (answer_to d datagram ≡ fates.Taken → e ≡ with_datagram d datagram now)
       → (answer_to d datagram ≢ fates.Taken → e ≡ d)
       → (IsErrOf answer errors.ErrAssociationFailed → e ≡ d)
       → (IsErrOf answer errors.ErrNoMemory → (e ≡ d) ⊎ RunsOutOfMemory d e)
       → OnErr answer ((answer ≡ Err errors.ErrAssociationFailed) ⊎ (answer ≡ Err errors.ErrNoMemory))
       → IsSome (packet_in datagram)
   packet_came datagram (Ok fate) taken left refused memory only =
-      by_fate (answer_to d datagram) (packet_in datagram) taken left
+      by_fate (answer_to d datagram) (packet_in datagram) (λ t. ap (λ (x : Driving). x.association) (taken t)) left
   packet_came datagram (Err error) taken left refused memory only =
       by_error (packet_in datagram) (Err error) refused memory only
 

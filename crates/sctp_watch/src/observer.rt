@@ -1,11 +1,11 @@
 // An observer of the datagrams that pass.
 ghost use Rattle.std.specs.Prelude.{◌≡◌, ◌≢◌, ◌↔◌, ◌⊎◌, [], ℕ, List, length, true, Err, IsErrOf, IfOk};
 ghost use Rattle.std.specs.Prelude.{OnErr, OnOk};
-ghost use Rattle.sctp_assoc.specs.Chunks.{after_packet};
 ghost use Rattle.sctp_assoc.specs.Closing.{tells_exhaustion};
 ghost use Rattle.sctp_assoc.specs.Gather.{has_something_to_give};
-ghost use Rattle.sctp_driver.specs.Driving.{RunsOutOfMemory, with_association};
+ghost use Rattle.sctp_driver.specs.Driving.{RunsOutOfMemory};
 ghost use Rattle.sctp_driver.specs.Sending.{Sends, asked};
+ghost use Rattle.sctp_driver.specs.Late.{with_datagram};
 ghost use Rattle.sctp_driver.specs.Tags.{answer_to, packet_in};
 ghost use Rattle.sctp_driver.specs.declared.tags.DatagramAnswer.TheVariants as fates;
 ghost use Rattle.sctp_watch.specs.declared.ends.End.TheVariants as ends;
@@ -53,7 +53,7 @@ pub fn handle_datagram_observed<O: Observer>(
     ensures answer { IfOk result (λ answer. answer ≡ answer_to driver.old datagram.now) }
     ensures left { answer_to driver.old datagram.now ≢ fates.Taken → driver.new ≡ driver.old }
     ensures taken { OnOk result (answer_to driver.old datagram.now ≡ fates.Taken → driver.new
-        ≡ with_association driver.old (after_packet driver.old.association (packet_in datagram.now) now)) }
+        ≡ with_datagram driver.old datagram.now now) }
     ensures failed { IsErrOf result Error.ErrAssociationFailed ↔ (driver.old.association.failed ≡ true) }
     ensures refused { IsErrOf result Error.ErrAssociationFailed → driver.new ≡ driver.old }
     ensures memory { IsErrOf result Error.ErrNoMemory

@@ -2,12 +2,12 @@
 ghost use Rattle.std.specs.Prelude.{◌≡◌, ◌≢◌, ◌↔◌, ◌⊎◌, [], if◌then◌else◌, length, true, false, Some, Err};
 ghost use Rattle.std.specs.Prelude.{IsErrOf, IfOk, IfSome, OnErr, OnOk};
 ghost use Rattle.sctp_assoc.specs.Calls.{RefusesOrLacksMemory, event_polled, failed_refusal};
-ghost use Rattle.sctp_assoc.specs.Chunks.{after_packet};
 ghost use Rattle.sctp_assoc.specs.Closing.{closed_by, is_closed_state, tells_exhaustion};
 ghost use Rattle.sctp_assoc.specs.Gather.{has_something_to_give};
 ghost use Rattle.sctp_driver.specs.Aborting.{Aborts, IsTooLong};
 ghost use Rattle.sctp_driver.specs.Driving.{RunsOutOfMemory, with_association};
 ghost use Rattle.sctp_driver.specs.Sending.{Sends, asked};
+ghost use Rattle.sctp_driver.specs.Late.{with_datagram};
 ghost use Rattle.sctp_driver.specs.Tags.{answer_to, packet_in};
 ghost use Rattle.sctp_streams.specs.declared.event.AssociationError.TheVariants as reasons;
 ghost use Rattle.sctp_driver.specs.declared.tags.DatagramAnswer.TheVariants as fates;
@@ -86,7 +86,7 @@ impl Watch {
         ensures answer { IfOk result (λ answer. answer ≡ answer_to driver.old datagram.now) }
         ensures left { answer_to driver.old datagram.now ≢ fates.Taken → driver.new ≡ driver.old }
         ensures taken { OnOk result (answer_to driver.old datagram.now ≡ fates.Taken → driver.new
-            ≡ with_association driver.old (after_packet driver.old.association (packet_in datagram.now) now)) }
+            ≡ with_datagram driver.old datagram.now now) }
         ensures failed { IsErrOf result Error.ErrAssociationFailed ↔ (driver.old.association.failed ≡ true) }
         ensures refused { IsErrOf result Error.ErrAssociationFailed → driver.new ≡ driver.old }
         ensures memory { IsErrOf result Error.ErrNoMemory

@@ -11,7 +11,7 @@ pub enum StreamResetError {
 /// Something that happened on a stream. An association tells all of these but `Writable`, `Stopped` and `Available`.
 #[derive(Clone, Copy, Debug, PartialEq, Eq)]
 pub enum StreamEvent {
-    /// DATA came for a stream that was not there, and made it.
+    /// DATA came for a stream that was not there, or a FORWARD TSN that passes over messages of it, and made it.
     Opened {
         id: StreamId,
     },

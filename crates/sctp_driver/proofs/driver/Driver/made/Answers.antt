@@ -1,4 +1,8 @@
+use Rattle.std.proofs.Common.{◌≡◌, subst, None}
 use Rattle.std.specs.Option.{option_copied}
+use Rattle.sctp_wire_types.specs.Config.{Settings}
+use Rattle.sctp_assoc.specs.Created.{created}
+use Rattle.sctp_driver.specs.Driving.{by_rfcs}
 use Rattle.sctp_driver.proofs.MadeDrivers.{made_driver}
 use Rattle.sctp_driver.proofs.driver.Driver.made.Goals as goal
 
@@ -6,9 +10,16 @@ pub returns-clause-created : goal.returns-clause-created
 returns-clause-created c =
     made_driver record {
       of_server = option_copied c.args.server_config;
-      config = c.args.config.now;
+      config = by_rfcs c.args.config.now;
       size = c.args.max_payload_size;
       tag = c.args.local_tag;
       initial_tsn = c.args.initial_tsn;
       cookie = c.args.cookie;
-    } c.nowhere.result c.in_ok-association.ensures.created c.from_nanos.ensures c.of.ensures
+    } c.nowhere.result
+    (subst
+    (λ (chosen : Settings).
+    c.in_ok-association.association
+    ≡ created (option_copied c.args.server_config) chosen c.args.max_payload_size c.args.local_tag
+    c.args.initial_tsn c.args.cookie c.nowhere.result None c.from_nanos.result)
+    c.in_ok-config.ensures.chosen c.in_ok-association.ensures.created)
+    c.from_nanos.ensures c.of.ensures
