@@ -48,6 +48,7 @@ static const struct {
     CASE(lost_complete),
     CASE(channels_reused),
     CASE(channels_cancelled),
+    CASE(channels_end),
     CASE(channels_negotiated),
 };
 

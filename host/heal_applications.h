@@ -32,15 +32,17 @@ static struct {
 /* A stream as the application at one end sees it. */
 struct stream {
     bool is_stopping; /* it was stopped or closed here, and the end of that was not told */
+    bool is_closed;   /* .. and it was not opened since by either side. A close before an earlier use was read ends the
+                         next one, too, once the peer has reset that */
     bool is_readable;
     bool is_reset_failed; /* told, and no end of a reset since */
     bool is_finished;     /* told, and no end of a reset since */
     bool has_begun;       /* a message was written in this use */
     bool has_loose;       /* .. that may be given up */
     bool is_opened_by_peer;
-    bool is_clean; /* opened here after its last reset was complete, and not closed since */
+    int ends, finishes; /* how often it was told here that both halves were reset, and the peer's */
     bool is_reliable, is_unordered;
-    uint64_t opened_at, complete_at;
+    uint64_t complete_at;
     uint32_t next_number;  /* after that of the last ordered message that was read here */
     uint64_t unread_bytes; /* written here, and neither read nor excused .. */
     uint32_t owed;         /* .. and the messages of these that are reliable */
@@ -65,7 +67,7 @@ static const uint16_t stream_ids[STREAMS] = {0, 1, 2, 3, 4, 5, 63, 64, 300, 9000
 static struct application applications[2];
 static struct message *messages;
 static uint32_t message_count, message_room;
-static uint64_t last_close[STREAMS]; /* by either application */
+static int closed_uses[STREAMS]; /* of the uses of a stream, those up to the last one that either side closed */
 static uint8_t wanted[65536];
 
 /* ---- Random numbers ---- */
@@ -179,14 +181,17 @@ static void note_end_of_reset(int end, int place) {
     struct stream *stream = &applications[end].streams[place];
     stream->is_stopping = stream->is_finished = stream->is_reset_failed = false;
     stream->complete_at = now;
+    stream->ends++;
 }
 
 static void note_finished(int end, int place) {
     struct stream *stream = &applications[end].streams[place];
     stream->is_finished = true;
-    if (stream->is_clean && !set.has_deaf_pauses)
-        find(SELF_CLOSED, "%c stream %u, opened at %llu ms, last closed at %llu ms", "AB"[end], stream_ids[place],
-             (unsigned long long)(stream->opened_at / MS), (unsigned long long)(last_close[place] / MS));
+    if (stream->is_closed)
+        excuse(end, place);
+    if (stream->finishes++ >= closed_uses[place] && !set.has_deaf_pauses)
+        find(SELF_CLOSED, "%c stream %u, use %d of which %d were closed", "AB"[end], stream_ids[place],
+             stream->finishes, closed_uses[place]);
 }
 
 static void note_event(int end, const sctp_assoc_event *event) {
@@ -210,6 +215,7 @@ static void note_event(int end, const sctp_assoc_event *event) {
     case SCTP_ASSOC_EVENT_OPENED:
         done(sctp_assoc_accept_stream(&ends[end], &id));
         stream->is_opened_by_peer = true;
+        stream->is_closed = false;
         break;
     case SCTP_ASSOC_EVENT_READABLE:
         stream->is_readable = true;
@@ -294,9 +300,7 @@ static sctp_assoc_code open_one(int end, int place) {
     sctp_assoc_code code = noted(end, sctp_assoc_open_stream(&ends[end], stream_ids[place], SCTP_ASSOC_PPID_BINARY));
     if (code == SCTP_ASSOC_DONE) {
         say("%c opens stream %u", "AB"[end], stream_ids[place]);
-        stream->has_begun = stream->has_loose = false;
-        stream->opened_at = now;
-        stream->is_clean = stream->complete_at > last_close[place];
+        stream->has_begun = stream->has_loose = stream->is_closed = false;
     }
     return code;
 }
@@ -315,10 +319,10 @@ static void write_some(int end) {
 
 static void note_close(int end, int place) {
     struct stream *stream = &applications[end].streams[place];
-    last_close[place] = now;
     for (int each = 0; each < 2; each++)
-        applications[each].streams[place].is_clean = false;
-    stream->is_stopping = true;
+        if (closed_uses[place] <= applications[each].streams[place].ends)
+            closed_uses[place] = applications[each].streams[place].ends + 1;
+    stream->is_stopping = stream->is_closed = true;
     stream->is_readable = false;
     excuse(end, place);
 }

@@ -21,7 +21,7 @@ static void is_of_use_anew(size_t read_before) {
     HOLDS(told(A, SCTP_ASSOC_EVENT_FINISHED, STREAM) == 1 && told(B, SCTP_ASSOC_EVENT_FINISHED, STREAM) == 1);
 }
 
-/* A closes a stream, its second request is lost once, and B opens the stream anew. */
+/* A closes a stream, a second request would be lost once, and B opens the stream anew. */
 static void reused(void) {
     join();
     lose(loses_second_request);
@@ -34,7 +34,7 @@ static void reused(void) {
     end_pair();
 }
 
-/* Both sides close a stream at once, the second request of A is lost once, and B opens the stream anew. */
+/* Both sides close a stream at once, a second request of A would be lost once, and B opens the stream anew. */
 static void crossing(void) {
     join();
     lose(loses_second_request);
@@ -81,8 +81,8 @@ static void dead_resets(void) {
     pass(2000);
     CHECK(read_counts[B][OTHER_STREAM] == 1);
     HOLDS(closes(A, OTHER_STREAM));
-    pass(5000);
-    HOLDS(are_told_complete(OTHER_STREAM, 1));
+    pass(70000); /* the request that was given up goes out again within a minute, and this one behind it */
+    HOLDS(are_told_complete(STREAM, 1) && are_told_complete(OTHER_STREAM, 1));
     CHECK(opens(A, THIRD_STREAM) && writes(A, THIRD_STREAM, 5));
     pass(2000);
     CHECK(read_counts[B][THIRD_STREAM] == 1);
@@ -126,8 +126,8 @@ static void unused_abandoned(void) {
     end_pair();
 }
 
-/* B has not read what came before A reset the stream, and closes it when A uses it again. What A writes in that use is
- * read all the same. */
+/* B has not read what came before A reset the stream, and closes it when A uses it again. That use is reset, too, and
+ * the next one is read. */
 static void retiring(void) {
     join();
     is_reading[B] = false;
@@ -138,12 +138,12 @@ static void retiring(void) {
     CHECK(opens(A, STREAM) && writes(A, STREAM, 5));
     pass(1000);
     CHECK(closes(B, STREAM));
-    pass(1000);
+    pass(5000);
     is_reading[B] = true;
-    CHECK(writes(A, STREAM, 5));
-    pass(60000);
-    CHECK(is_acknowledged(A, STREAM));
-    HOLDS(read_counts[B][STREAM] == 2);
+    HOLDS(are_told_complete(STREAM, 2));
+    HOLDS(opens(A, STREAM) && writes(A, STREAM, 5));
+    pass(1000);
+    HOLDS(read_counts[B][STREAM] == 1 && is_acknowledged(A, STREAM));
     end_pair();
 }
 

@@ -100,7 +100,7 @@ static bool loses_second_request_of_b(int from, const uint8_t *datagram, size_t 
     return from == B && is_request(datagram) && ++number_seen == 2;
 }
 
-/* B closes A's channel, its second request is lost once, and A opens another channel. */
+/* B closes A's channel, a second request of it would be lost once, and A opens another channel. */
 static void channels_reused(void) {
     uint16_t first, second;
     join_sides();
@@ -120,6 +120,84 @@ static void channels_reused(void) {
     part_sides();
 }
 
+/* ---- Each way in which a channel of A ends ---- */
+
+static void close_at(int side, uint16_t id) {
+    CHECK(done(sctp_channels_close(&sides[side], &ends[side], id)));
+}
+
+static void by_opener(uint16_t id) {
+    close_at(A, id);
+}
+
+static void by_other(uint16_t id) {
+    close_at(B, id);
+}
+
+static void by_both(uint16_t id) {
+    close_at(A, id);
+    close_at(B, id);
+}
+
+static void send_both_ways(uint16_t id) {
+    for (int i = 0; i < 5; i++)
+        CHECK(sends(A, id, 20000) && sends(B, id, 20000));
+}
+
+static void by_opener_under_way(uint16_t id) {
+    send_both_ways(id);
+    close_at(A, id);
+}
+
+static void by_other_under_way(uint16_t id) {
+    send_both_ways(id);
+    close_at(B, id);
+}
+
+static void by_both_under_way(uint16_t id) {
+    send_both_ways(id);
+    by_both(id);
+}
+
+static unsigned number_to_lose;
+
+static bool loses_one(int from, const uint8_t *datagram, size_t length) {
+    (void)from, (void)datagram, (void)length;
+    return ++number_seen == number_to_lose;
+}
+
+/* One datagram of the end is lost. Both sides are told once, and the next channel of the identifier bears messages. */
+static void ends_and_is_opened_anew(void (*end)(uint16_t id), uint64_t opened_for_ms, unsigned lost) {
+    uint16_t id, next;
+    join_sides();
+    CHECK(opens_channel(ordered_reliable, &id));
+    pass(opened_for_ms);
+    number_to_lose = lost;
+    lose(loses_one);
+    end(id);
+    turn_both();
+    pass(10000);
+    HOLDS(is_told_closed(A, id) && is_told_closed(B, id));
+    HOLDS(opens_channel(ordered_reliable, &next) && next == id);
+    pass(5000);
+    size_t before[2] = {received[A][id], received[B][id]};
+    HOLDS(sends(A, id, 5) && sends(B, id, 5));
+    pass(5000);
+    HOLDS(received[A][id] == before[A] + 1 && received[B][id] == before[B] + 1);
+    HOLDS(is_told_closed(A, id) && is_told_closed(B, id) && goes_on());
+    part_sides();
+}
+
+static void channels_end(void) {
+    static void (*const ways[])(uint16_t id) = {by_opener,           by_other,           by_both,
+                                                by_opener_under_way, by_other_under_way, by_both_under_way};
+    for (unsigned lost = 0; lost < 12; lost++) {
+        for (size_t way = 0; way < COUNT_OF(ways); way++)
+            ends_and_is_opened_anew(ways[way], 1000, lost);
+        ends_and_is_opened_anew(by_opener, 0, lost); /* before its OPEN was acknowledged */
+    }
+}
+
 /* A negotiated channel that the peer did not open is closed, and can be opened anew. */
 static void channels_negotiated(void) {
     sctp_channels_options negotiated = {.negotiated = true, .id = 4};
@@ -132,6 +210,8 @@ static void channels_negotiated(void) {
     pass(60000);
     HOLDS(is_told_closed(A, id));
     HOLDS(opens_channel(negotiated, &id));
+    pass(1000);
+    HOLDS(channel_told[A][SCTP_CHANNELS_EVENT_OPENED][id] == 2);
     part_sides();
 }
 

@@ -14,7 +14,7 @@ enum kind {
     EXHAUSTED_SKIPPED,   /* the receive buffer is full of what can never be read, where messages could be given up .. */
     EXHAUSTED_STOPPED,   /* .. where a stream was stopped .. */
     EXHAUSTED,           /* .. where neither is so, or a stream was reset before */
-    SELF_CLOSED,         /* a stream ended that nobody had closed since it was opened anew */
+    SELF_CLOSED,         /* a use of a stream ended that neither side had closed */
     UNREAD_SKIPPED,      /* a reliable message is not read, where the first of its stream could be given up, and that
                             was never reset .. */
     UNREAD,              /* .. or where it could not */
@@ -26,7 +26,7 @@ enum kind {
     BLOCKED,             /* a stream cannot be opened, though the last reset of it was complete */
     HANDSHAKE,           /* a client is neither connected nor told that the handshake failed */
     HANDSHAKE_TWO,       /* .. of two */
-    HANDSHAKE_SHUT_DOWN, /* one end shut down, and the other one is not connected */
+    HANDSHAKE_SHUT_DOWN, /* one end shut down, and the other one is neither connected nor told that it failed */
     HALF_OPEN,           /* one end is connected, and the other one is not told that the handshake failed */
     SHUTDOWN,            /* a shutdown does not end */
     SLOW,                /* all came to its end, later than the timers that ran and what was owed explain */
@@ -76,29 +76,8 @@ static const struct {
     uint32_t kinds;
     const char *why;
 } open_cases[] = {
-    {"reused", OF(SELF_CLOSED) | OF(UNREAD) | OF(EXHAUSTED),
-     "An Outgoing SSN Reset Request of the peer is answered by a second request for a half that an earlier one of this "
-     "side has reset; if that comes late, it resets the next use of the stream."},
-    {"crossing", OF(SELF_CLOSED) | OF(UNREAD) | OF(EXHAUSTED),
-     "The same, where both sides ask for the reset of a stream at once."},
-    {"channels_reused", 0, "The same, for the data channel that is opened next on the stream."},
-    {"dead_resets", OF(RESET_AFTER_FAILED),
-     "A request that was given up leaves the Re-configuration Request Sequence Numbers of both sides apart, and the "
-     "peer performs none of the later ones."},
-    {"unused", OF(RESET_UNUSED) | OF(RESET),
-     "A request for a stream of which no DATA came is performed, and the other half is not reset in answer."},
-    {"channels_negotiated", 0, "The same, for a negotiated data channel that the peer did not open."},
-    {"shut_early", OF(HANDSHAKE_SHUT_DOWN),
-     "A COOKIE ECHO that comes again after a shutdown was begun is not answered, and DATA in the state COOKIE-ECHOED "
-     "is not acknowledged."},
-    {"two_clients", OF(CLOSED) | OF(READ_TWICE),
-     "A copy of an INIT that comes in the state COOKIE-ECHOED sets back the Cumulative TSN Ack Point."},
-    {"retiring", OF(UNREAD) | OF(EXHAUSTED),
-     "Closing a stream of which a reset use is still to be read drops the DATA of the next use, too."},
     {"burst", 0, "After T3-rtx expired, marked DATA goes out in one poll after another past the congestion window."},
     {"burst_full", 0, "DATA that is marked to go out again counts as outstanding against the peer's window."},
-    {"lost_complete", 0,
-     "A SHUTDOWN ACK that comes to a closed end is not answered by a SHUTDOWN COMPLETE (RFC 4960 section 8.4)."},
     {"heap", 0, "Queues keep the room of the greatest length that they had."},
 };
 

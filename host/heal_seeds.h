@@ -170,7 +170,7 @@ static void judge_timers(void) {
 static void write_on_each(int end) {
     for (int place = 0; place < set.streams; place++) {
         struct stream *stream = &applications[end].streams[place];
-        if (open_one(end, place) == SCTP_ASSOC_RESET_PENDING && !applications[end].has_failed_resets)
+        if (open_one(end, place) == SCTP_ASSOC_RESET_PENDING)
             find(BLOCKED, "%c stream %u", "AB"[end], stream_ids[place]);
         stream->is_reliable = true;
         stream->is_unordered = false;
@@ -351,7 +351,7 @@ static void begin_seed(void) {
     for (int i = 0; i < 8; i++)
         pick(2);
     memset(applications, 0, sizeof applications);
-    memset(last_close, 0, sizeof last_close);
+    memset(closed_uses, 0, sizeof closed_uses);
     memset(black_from, 0, sizeof black_from);
     memset(black_until, 0, sizeof black_until);
     message_count = 0;

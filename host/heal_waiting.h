@@ -28,9 +28,10 @@ static enum kind what_waits_on(int end, int place) {
     size_t buffered;
     if (sctp_assoc_buffered_amount(&ends[end], stream_ids[place], &buffered) == SCTP_ASSOC_DONE && buffered > 0)
         return BUFFERED;
-    if (is_any_ending() || stream->is_reset_failed)
+    if (is_any_ending())
         return WELL;
-    if (stream->is_stopping && (applications[A].has_failed_resets || applications[B].has_failed_resets))
+    if (stream->is_reset_failed ||
+        (stream->is_stopping && (applications[A].has_failed_resets || applications[B].has_failed_resets)))
         return RESET_AFTER_FAILED;
     if (stream->is_stopping)
         return is_unknown(!end, place) ? RESET_UNUSED : RESET;
@@ -69,10 +70,10 @@ static bool has_no_handshake(int end) {
 static enum kind what_waits(void) {
     enum kind kind = WELL;
     waiting_end = applications[A].is_connected ? B : A, waiting_place = 0;
+    if (has_no_handshake(A) || has_no_handshake(B))
+        return WELL; /* who was told so has to end it */
     if (is_any_ending() && applications[A].is_connected != applications[B].is_connected && !is_any_failed())
         return HANDSHAKE_SHUT_DOWN;
-    if (has_no_handshake(A) || has_no_handshake(B))
-        return WELL;
     for (int pass = 0; pass < 2; pass++)
         for (waiting_end = 0; waiting_end < 2; waiting_end++)
             for (waiting_place = 0; waiting_place < STREAMS; waiting_place++) {

@@ -436,16 +436,25 @@ static void the_table_has_each_packet_in_each_state_once(void) {
             CHECK(count_rows(packets[i], ways[j].name) == 1);
 }
 
-/* However the association was lost, these packets change nothing. */
+/* What follows a packet whose first chunk is of this type, given as in a packet, once the association was lost. */
+static const char *behind_a_loss(const char *type) {
+    if (strncmp(type, "01", 2) == 0)
+        return "repeated INIT";
+    return strncmp(type, "08", 2) == 0 ? "sends SHUTDOWN_COMPLETE" : "nothing";
+}
+
+/* However the association was lost, these packets change nothing. A SHUTDOWN ACK is answered (RFC 4960 section 8.4). */
 static void after_a_loss_nothing_counts(void) {
     char packet[60];
     for (size_t i = 0; i < COUNT_OF(ways); i++) {
-        for (size_t j = 0; j < COUNT_OF(packets) && is_lost(&ways[i]); j++)
-            check_case(&ways[i], packets[j], j == 0 ? "repeated INIT" : "nothing");
+        for (size_t j = 0; j < COUNT_OF(packets) && is_lost(&ways[i]); j++) {
+            bool is_shutdown_ack = strncmp(packets[j], "to-2 SHUTDOWN_ACK ", 18) == 0;
+            check_case(&ways[i], packets[j], behind_a_loss(j == 0 ? "01" : is_shutdown_ack ? "08" : ""));
+        }
         for (size_t j = 0; j < COUNT_OF(chunks) && is_lost(&ways[i]); j++) {
-            bool is_init = chunks[j].hex[0] == '0' && chunks[j].hex[1] == '1';
+            bool is_init = strncmp(chunks[j].hex, "01", 2) == 0;
             snprintf(packet, sizeof packet, "%s %s", is_init ? "to-0" : "to-2", chunks[j].name);
-            check_case(&ways[i], packet, is_init ? "repeated INIT" : "nothing");
+            check_case(&ways[i], packet, behind_a_loss(chunks[j].hex));
         }
     }
 }

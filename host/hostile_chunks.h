@@ -46,8 +46,9 @@ static const struct part chunks[] = {
     /* The new cumulative TSN 502, stream 3 up to the SSN 2. */
     {"FORWARD_TSN", "c000000c000001f600030002"},
     {"I_FORWARD_TSN", "c2000010000001f60003000000000002"},
-    /* A type that no standard has. */
+    /* A type that no standard has, and PAD (RFC 4820), which may be passed over. */
     {"TYPE_63", "3f000004"},
+    {"TYPE_132", "84000004"},
 
     /* ---- Those that no honest peer sends, or not at such a time ---- */
 

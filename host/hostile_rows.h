@@ -55,6 +55,7 @@ static const char *const packets[] = {
     "to-2 ERROR HEARTBEAT",
     "to-2 HEARTBEAT_ACK HEARTBEAT",
     "to-2 TYPE_63 HEARTBEAT",
+    "to-2 TYPE_132 HEARTBEAT",
 };
 
 #define STATES_OF_TABLE 10 /* of `ways`, the first ones */
@@ -81,8 +82,9 @@ static const struct row table[] = {
     {"to-2 COOKIE_ECHO HEARTBEAT", "CookieWait CookieEchoed",
      "sends COOKIE_ACK, sends HEARTBEAT_ACK, connected, is Established, no timer"},
     {"to-2 COOKIE_ECHO HEARTBEAT", "Established Sending", "sends COOKIE_ACK, sends HEARTBEAT_ACK"},
-    {"to-2 COOKIE_ECHO HEARTBEAT", "ShutdownPending ShutdownReceived ShutdownSent ShutdownAckSent",
-     "sends HEARTBEAT_ACK"},
+    {"to-2 COOKIE_ECHO HEARTBEAT", "ShutdownPending ShutdownReceived", "sends COOKIE_ACK, sends HEARTBEAT_ACK"},
+    {"to-2 COOKIE_ECHO HEARTBEAT", "ShutdownSent", "sends COOKIE_ACK, sends HEARTBEAT_ACK, sends SHUTDOWN"},
+    {"to-2 COOKIE_ECHO HEARTBEAT", "ShutdownAckSent", "sends COOKIE_ACK, sends HEARTBEAT_ACK, sends SHUTDOWN_ACK"},
     {"to-2 OTHER_COOKIE_ECHO HEARTBEAT", "new Closed CookieWait CookieEchoed Established Sending",
      "sends HEARTBEAT_ACK"},
     {"to-2 OTHER_COOKIE_ECHO HEARTBEAT", "ShutdownPending ShutdownReceived ShutdownSent ShutdownAckSent",
@@ -110,10 +112,12 @@ static const struct row table[] = {
      "sends HEARTBEAT_ACK, opened 3, point 502"},
     {"to-2 I_FORWARD_TSN HEARTBEAT", "ShutdownAckSent", "sends HEARTBEAT_ACK, opened 3"},
     {"to-2 RECONFIG HEARTBEAT", "new", "sends RECONFIG in progress, sends HEARTBEAT_ACK"},
-    {"to-2 RECONFIG HEARTBEAT", "Closed CookieWait CookieEchoed Established Sending",
-     "sends RECONFIG performed, sends HEARTBEAT_ACK"},
+    {"to-2 RECONFIG HEARTBEAT", "Closed Established",
+     "sends RECONFIG of 3, sends RECONFIG performed, sends HEARTBEAT_ACK, timer"},
+    {"to-2 RECONFIG HEARTBEAT", "CookieWait CookieEchoed Sending",
+     "sends RECONFIG of 3, sends RECONFIG performed, sends HEARTBEAT_ACK"},
     {"to-2 RECONFIG HEARTBEAT", "ShutdownPending ShutdownReceived ShutdownSent ShutdownAckSent",
-     "sends RECONFIG performed, sends HEARTBEAT_ACK"},
+     "sends RECONFIG of 3, sends RECONFIG performed, sends HEARTBEAT_ACK"},
     {"to-2 RECONFIG_OTHERWISE HEARTBEAT", "new Closed", "nothing"},
     {"to-2 RECONFIG_OTHERWISE HEARTBEAT", "Established", "lost closed, is Closed"},
     {"to-2 RECONFIG_OTHERWISE HEARTBEAT", "Sending ShutdownPending ShutdownReceived",
@@ -158,24 +162,21 @@ static const struct row table[] = {
      "ended 7, lost closed, is Closed, no timer, buffered 0"},
     {"to-2 ABORT_OTHERWISE HEARTBEAT", "CookieWait CookieEchoed ShutdownSent ShutdownAckSent",
      "lost closed, is Closed, no timer"},
-    {"to-2 ERROR HEARTBEAT", "new Closed", "nothing"},
-    {"to-2 ERROR HEARTBEAT", "Established", "lost closed, is Closed"},
-    {"to-2 ERROR HEARTBEAT", "Sending ShutdownPending ShutdownReceived",
-     "ended 7, lost closed, is Closed, no timer, buffered 0"},
-    {"to-2 ERROR HEARTBEAT", "CookieWait CookieEchoed ShutdownSent ShutdownAckSent",
-     "lost closed, is Closed, no timer"},
-    {"to-2 HEARTBEAT_ACK HEARTBEAT", "new Closed", "nothing"},
-    {"to-2 HEARTBEAT_ACK HEARTBEAT", "Established", "lost closed, is Closed"},
-    {"to-2 HEARTBEAT_ACK HEARTBEAT", "Sending ShutdownPending ShutdownReceived",
-     "ended 7, lost closed, is Closed, no timer, buffered 0"},
-    {"to-2 HEARTBEAT_ACK HEARTBEAT", "CookieWait CookieEchoed ShutdownSent ShutdownAckSent",
-     "lost closed, is Closed, no timer"},
+    {"to-2 ERROR HEARTBEAT", "new Closed CookieWait CookieEchoed Established Sending", "sends HEARTBEAT_ACK"},
+    {"to-2 ERROR HEARTBEAT", "ShutdownPending ShutdownReceived ShutdownSent ShutdownAckSent",
+     "sends HEARTBEAT_ACK"},
+    {"to-2 HEARTBEAT_ACK HEARTBEAT", "new Closed CookieWait CookieEchoed Established Sending", "sends HEARTBEAT_ACK"},
+    {"to-2 HEARTBEAT_ACK HEARTBEAT", "ShutdownPending ShutdownReceived ShutdownSent ShutdownAckSent",
+     "sends HEARTBEAT_ACK"},
     {"to-2 TYPE_63 HEARTBEAT", "new Closed", "nothing"},
     {"to-2 TYPE_63 HEARTBEAT", "Established", "lost closed, is Closed"},
     {"to-2 TYPE_63 HEARTBEAT", "Sending ShutdownPending ShutdownReceived",
      "ended 7, lost closed, is Closed, no timer, buffered 0"},
     {"to-2 TYPE_63 HEARTBEAT", "CookieWait CookieEchoed ShutdownSent ShutdownAckSent",
      "lost closed, is Closed, no timer"},
+    {"to-2 TYPE_132 HEARTBEAT", "new Closed CookieWait CookieEchoed Established Sending", "sends HEARTBEAT_ACK"},
+    {"to-2 TYPE_132 HEARTBEAT", "ShutdownPending ShutdownReceived ShutdownSent ShutdownAckSent",
+     "sends HEARTBEAT_ACK"},
 };
 
 /* The last TSN in order where no SACK tells it: a TSN is new if it is 1 to 65,535 past it, and DATA that is not new is
@@ -192,7 +193,8 @@ static const struct row last_tsns[] = {
     {"to-2 FORWARD_TSN; to-2 TOO_FAR_PAST_0; to-2 FARTHEST_PAST_0", "new",
      "sends ERROR, opened 4, datagram, readable 4, DATA 2"},
     {"to-2 FIRST_OF_FIVE; to-2 RESET_AT_500; to-2 RESET_AT_501", "narrow-Closed",
-     "sends ABORT, opened 3, datagram, sends RECONFIG performed, sends RECONFIG in progress, DATA 1"},
+     "sends ABORT, opened 3, datagram, sends RECONFIG of 9, sends RECONFIG performed, sends RECONFIG in progress, "
+     "timer, DATA 1"},
 };
 
 /* Packets that are refused as a whole: an INIT under a tag, or not alone, and a port 0 (RFC 4960 sections 8.5.1, 6.10
@@ -245,9 +247,10 @@ static const struct row forms[] = {
     {"to-2 LONG_SHUTDOWN", "Established", "sends SHUTDOWN_ACK, is ShutdownAckSent, timer"},
     {"to-2 LONG_COOKIE_ACK", "CookieEchoed", "connected, is Established, no timer"},
     {"to-2 RESETS_AND_MORE HEARTBEAT", "Established",
-     "sends RECONFIG performed, sends RECONFIG performed, sends HEARTBEAT_ACK"},
+     "sends RECONFIG of 9, sends RECONFIG performed, sends RECONFIG performed, sends HEARTBEAT_ACK, timer"},
     {"to-2 HEARTBEAT_OTHERWISE HEARTBEAT", "Established", "sends HEARTBEAT_ACK"},
-    {"to-2 ERROR ERROR; to-2 ERROR", "Established", "lost closed, is Closed"},
+    {"to-2 ERROR ERROR; to-2 ERROR", "Established", "nothing"},
+    {"to-2 TYPE_63 TYPE_63; to-2 TYPE_63", "Established", "lost closed, is Closed"},
 };
 
 /* SACKs, of which messages of three, two and one byte are in flight from TSN 100 on (RFC 4960 sections 3.3.4 and
@@ -293,10 +296,12 @@ static const struct row forwards[] = {
      "opened 3, datagram, sends SACK, timer, point 502, DATA 2"},
 };
 
-/* Requests to reset streams of which one is there, or none (RFC 6525 section 5.2); before an INIT, which says the
- * number that the next one has; and of a stream whose unread rest FORWARD TSN drops. */
+/* Requests to reset streams of which one is there, or none (RFC 6525 section 5.2), which are answered by a request for
+ * all that they list; before an INIT, which says the number that the next one has; and of a stream whose unread rest
+ * FORWARD TSN drops. */
 static const struct row resets[] = {
-    {"to-2 RESET_OF_UNKNOWN HEARTBEAT", "Established", "sends RECONFIG performed, sends HEARTBEAT_ACK"},
+    {"to-2 RESET_OF_UNKNOWN HEARTBEAT", "Established",
+     "sends RECONFIG of 9 10, sends RECONFIG performed, sends HEARTBEAT_ACK, timer"},
     {"to-2 RESET_ALL_BEFORE_DATA HEARTBEAT", "Established", "sends RECONFIG performed, sends HEARTBEAT_ACK"},
     {"to-2 RESET_OLD HEARTBEAT", "Established", "sends RECONFIG performed, sends HEARTBEAT_ACK"},
     {"to-2 RESET_OUT_OF_TURN HEARTBEAT", "Established", "sends RECONFIG bad number, sends HEARTBEAT_ACK"},
@@ -304,27 +309,29 @@ static const struct row resets[] = {
     {"to-2 RESET_TOO_EARLY; to-2 RESET_TOO_EARLY", "Established",
      "sends RECONFIG in progress, sends RECONFIG in progress"},
     {"to-2 RESPONSE_TO_NOTHING HEARTBEAT", "Established", "sends HEARTBEAT_ACK"},
-    {"to-2 RESET_AND_RESPONSE HEARTBEAT", "Established", "sends RECONFIG performed, sends HEARTBEAT_ACK"},
+    {"to-2 RESET_AND_RESPONSE HEARTBEAT", "Established",
+     "sends RECONFIG of 9, sends RECONFIG performed, sends HEARTBEAT_ACK, timer"},
     {"to-2 TWO_RESETS HEARTBEAT", "Established",
-     "sends RECONFIG performed, sends RECONFIG performed, sends HEARTBEAT_ACK"},
+     "sends RECONFIG of 9, sends RECONFIG performed, sends RECONFIG performed, sends HEARTBEAT_ACK, timer"},
     {"to-2 DATA; to-2 RESET_TWICE; to-2 RESET_TWICE", "Established",
-     "sends SACK, opened 3, datagram, readable 3, sends RECONFIG of 3, sends RECONFIG performed, "
+     "sends SACK, opened 3, datagram, readable 3, sends RECONFIG of 3 9, sends RECONFIG performed, "
      "sends RECONFIG performed, timer, point 500, DATA 1"},
     {"to-2 DATA; read 3; to-2 RESET_TWICE", "Established",
-     "sends SACK, opened 3, datagram, readable 3, reads 1, sends RECONFIG of 3, sends RECONFIG performed, ended 3, "
+     "sends SACK, opened 3, datagram, readable 3, reads 1, sends RECONFIG of 3 9, sends RECONFIG performed, ended 3, "
      "finished 3, timer, point 500, DATA 1"},
     {"open 5; to-2 DATA; read 3; to-2 RESET_ALL", "Established",
      "sends SACK, opened 3, datagram, readable 3, reads 1, sends RECONFIG of all, sends RECONFIG performed, ended 3, "
      "finished 3, ended 5, finished 5, timer, point 500, DATA 1"},
     {"to-2 RECONFIG; to-0 INIT; to-2 RECONFIG", "new",
-     "sends RECONFIG in progress, sends INIT_ACK, sends RECONFIG performed, point 499"},
+     "sends RECONFIG in progress, sends INIT_ACK, sends RECONFIG of 3, sends RECONFIG performed, timer, point 499"},
     {"to-2 RECONFIG; to-0 INIT; to-2 DATA_499", "new",
-     "sends RECONFIG in progress, sends INIT_ACK, sends RECONFIG performed, point 499, DATA 1"},
+     "sends RECONFIG in progress, sends INIT_ACK, sends RECONFIG of 3, sends RECONFIG performed, timer, point 499, "
+     "DATA 1"},
     {"to-2 RESET_BEFORE_INIT; to-0 INIT; to-2 DATA; read 3; to-2 RESET_TWICE", "new",
-     "sends RECONFIG performed, sends INIT_ACK, opened 3, datagram, readable 3, reads 1, sends RECONFIG of 3, "
+     "sends RECONFIG of 3, sends RECONFIG performed, sends INIT_ACK, opened 3, datagram, readable 3, reads 1, "
      "sends RECONFIG performed, ended 3, finished 3, timer, point 500, DATA 1"},
     {"to-2 LOOSE_FIRST_500; to-2 RESET_TWICE; to-2 FORWARD_501; read 3", "Established",
-     "opened 3, datagram, sends RECONFIG of 3, sends RECONFIG performed, sends SACK, reads none, finished 3, "
+     "opened 3, datagram, sends RECONFIG of 3 9, sends RECONFIG performed, sends SACK, reads none, finished 3, "
      "ended 3, timer, point 501, DATA 1"},
 };
 

@@ -214,7 +214,8 @@ static bool has_cause(int end, const struct datagram *packet, bool is_closing) {
         bool is_plain_sack = kind == 3 && at + 16 <= packet->length && get(chunk + 12, 2) == 0 &&
                              get(chunk + 4, 4) - (first_tsn - 1) <= unsent_tsn[end] - first_tsn;
         bool can_exhaust = kind == 0 || kind == 192 || kind == 194, ends_shutdown = kind == 8 || kind == 14;
-        bool is_no_fault = kind == 4 || kind == 7 || kind == 10 || kind == 11 || kind == 192 || kind == 194;
+        bool is_passed_over = kind == 5 || kind == 9 || (kind >= 128 && kind != 130);
+        bool is_no_fault = kind == 4 || kind == 7 || kind == 10 || kind == 11 || is_passed_over;
         is_closing |= kind == 7;
         if (lost_reason[end] == SCTP_ASSOC_REASON_BUFFER_EXHAUSTED)
             has_any |= can_exhaust && !is_plain();
@@ -235,6 +236,10 @@ static void hand_in(int end, const struct datagram *came, bool is_honest) {
     CHECK(done(sctp_assoc_handle_datagram(&ends[end], now, came->bytes, came->length, &fate)));
     CHECK((fate == SCTP_ASSOC_NO_PACKET) == !is_right);
     CHECK(fate <= SCTP_ASSOC_REPEATED_INIT);
+    if (was_lost && fate == SCTP_ASSOC_TAKEN && came->length > 12 && came->bytes[12] == 8) {
+        CHECK(drain(end) <= 1); /* a SHUTDOWN ACK behind the end is answered */
+        return;
+    }
     if (fate != SCTP_ASSOC_TAKEN || was_lost) {
         look(end, &after);
         CHECK(memcmp(&before, &after, sizeof before) == 0 && drain(end) == 0);

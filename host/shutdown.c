@@ -7,6 +7,7 @@
 #define LENGTH 6000 /* more than goes out before the first acknowledgement */
 
 static sctp_assoc ends[2];
+static uint32_t profile = SCTP_ASSOC_PROFILE_RFC;
 static unsigned read_count[2];
 static uint8_t bytes[LENGTH], message[LENGTH];
 static size_t length;
@@ -20,6 +21,7 @@ static bool answers(int end, sctp_assoc_code (*question)(sctp_assoc *, bool *)) 
 
 static void begin(void) {
     sctp_assoc_config config = default_config();
+    config.profile = profile;
     shake_hands(ends, &config, 0);
     fill(message, LENGTH, 1);
     for (int end = 0; end < 2; end++) {
@@ -130,9 +132,12 @@ static void goes_again(bool is_answer) {
     free_both(ends);
 }
 
-/* SHUTDOWN COMPLETE is lost: the side that sent it closed, and the other one waits until its program has enough. */
-static void is_not_completed(void) {
+/* SHUTDOWN COMPLETE is lost. The side that sent it closed, and answers the SHUTDOWN ACK that comes again; by the rules
+ * of the port it does not, and the other one waits until its program has enough. */
+static void is_not_completed(uint32_t by) {
+    profile = by;
     begin();
+    profile = SCTP_ASSOC_PROFILE_RFC;
     shut_down(0);
     pass_on(&ends[0], &ends[1], 0);
     CHECK(answers(1, sctp_assoc_is_closing) && !done(sctp_assoc_poll_endpoint_event(&ends[1])));
@@ -140,8 +145,9 @@ static void is_not_completed(void) {
     lose(0, 14);
     is_over(0);
     settle();
-    CHECK(answers(1, sctp_assoc_is_closing));
-    CHECK(done(sctp_assoc_close(&ends[1])));
+    CHECK(answers(1, sctp_assoc_is_closing) == (by == SCTP_ASSOC_PROFILE_PORT));
+    if (by == SCTP_ASSOC_PROFILE_PORT)
+        CHECK(done(sctp_assoc_close(&ends[1])));
     is_over(1);
     free_both(ends);
 }
@@ -166,7 +172,8 @@ int main(void) {
     TRY(crossed());
     TRY(goes_again(false));
     TRY(goes_again(true));
-    TRY(is_not_completed());
+    TRY(is_not_completed(SCTP_ASSOC_PROFILE_RFC));
+    TRY(is_not_completed(SCTP_ASSOC_PROFILE_PORT));
     TRY(out_of_memory());
     puts("shutdown: ok");
     return 0;

@@ -81,16 +81,13 @@ static void closed_before_it_is_read(void) {
     is_told(A, SCTP_ASSOC_EVENT_BUFFERED_LOW);
     is_told(A, SCTP_ASSOC_EVENT_STREAM_ENDED);
     is_told(A, SCTP_ASSOC_EVENT_FINISHED);
-    is_told_no_more(A);
-    CHECK(send_due(A) == 2);
-    deliver(B, 2);
-    is_told(B, SCTP_ASSOC_EVENT_RESET_COMPLETE);
-    CHECK(send_due(B) == 1);
-    deliver(A, 3);
-    deliver(B, 3);
     is_told(A, SCTP_ASSOC_EVENT_RESET_COMPLETE);
     is_told_no_more(A);
+    CHECK(send_due(A) == 1);
+    deliver(B, 2);
+    is_told(B, SCTP_ASSOC_EVENT_RESET_COMPLETE);
     is_told_no_more(B);
+    CHECK(send_due(A) == 0 && send_due(B) == 0);
     CHECK(done(sctp_assoc_open_stream(&ends[A], STREAM, SCTP_ASSOC_PPID_BINARY)));
     free_both(ends);
 }

@@ -220,8 +220,8 @@ static const struct fault {
     {"two ABORTs behind COOKIE ACK", 2, false, 28,
      {11, 0, 0, 4, 6, 0, 0, 10, 0, 12, 0, 6, 'n', 'o', 0, 0, 6, 0, 0, 10, 0, 12, 0, 6, 'h', 'o', 0, 0},
      SCTP_ASSOC_END_ABORT_CAME, 12, "no"},
-    {"ERROR without a cause", 2, false, 4, {9, 0, 0, 4}, SCTP_ASSOC_END_FAULT, 0, ""},
-    {"ERROR with the cause Invalid Stream Identifier", 2, false, 12, {9, 0, 0, 12, 0, 1, 0, 8, 0, 1, 0, 0},
+    {"a chunk of another type", 2, false, 4, {63, 0, 0, 4}, SCTP_ASSOC_END_FAULT, 0, ""},
+    {"a chunk of another type behind ERROR", 2, false, 16, {9, 0, 0, 12, 0, 1, 0, 8, 0, 1, 0, 0, 63, 0, 0, 4},
      SCTP_ASSOC_END_FAULT, 0, ""},
 };
 

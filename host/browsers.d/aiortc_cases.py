@@ -7,6 +7,7 @@ import time
 from aiortc_connection import IS_LOSSY, QUERY, Connection, Failure, expect_equal, within
 
 ROUNDS = 10
+MANY_ROUNDS = 100
 BULK_MESSAGES = int(QUERY["bulk"])
 BULK_LENGTH = 16384
 KINDS = [
@@ -304,24 +305,24 @@ async def many_by_program(connection, count):
     await channels[-1].echo("hello")
 
 
-async def reopened(connection, end):
+async def reopened(connection, rounds, end):
     """Opens a channel, uses it and ends it, and again at once, so that a peer may take the same identifier."""
     await connection.begin()
     identifiers = set()
-    for turn in range(ROUNDS):
+    for turn in range(rounds):
         channel = await connection.create("again")
         identifiers.add(channel.channel.id)
         await channel.echo(f"round {turn}")
         await end(channel)
-    return f"{len(identifiers)} identifiers in {ROUNDS} rounds"
+    return f"{len(identifiers)} identifiers in {rounds} rounds"
 
 
 async def reopened_by_peer(connection):
-    return await reopened(connection, lambda channel: channel.close())
+    return await reopened(connection, ROUNDS, lambda channel: channel.close())
 
 
 async def reopened_by_program(connection):
-    return await reopened(connection, connection.close_by_program)
+    return await reopened(connection, ROUNDS, connection.close_by_program)
 
 
 async def reopened_by_both(connection):
@@ -329,10 +330,10 @@ async def reopened_by_both(connection):
         connection.control.send(f"close {channel.channel.id}")
         await channel.close()
         answer = await connection.answer("close")
-        if answer["code"] not in (0, 43):  # that there is no such channel any more
+        if answer["code"] not in (0, 14, 43):  # the latter: there is no such stream or channel any more
             raise Failure(f"the code of close is {answer['code']}")
 
-    return await reopened(connection, end)
+    return await reopened(connection, MANY_ROUNDS, end)
 
 
 async def reconnection(connection):

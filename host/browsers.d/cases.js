@@ -8,6 +8,7 @@ const isChromium = /Chrome/.test(navigator.userAgent);
 const BULK_MESSAGES = Number(parameters.get('bulk'));
 const BULK_LENGTH = 16384;
 const ROUNDS = 10;
+const MANY_ROUNDS = 100;
 
 const KINDS = [
   {}, { ordered: false },
@@ -24,12 +25,12 @@ async function echoEach(channel) {
   for (const message of ['hello', 'Grüße, 世界 🎈', bytesOf(5, 1), bytesOf(3000, 2), '']) await channel.echo(message);
 }
 
-// A channel may be open here before the program has its OPEN.
+// A channel may be open here before the program has its OPEN, and while the program still has the one that was there.
 async function expectListed(connection, channel) {
   const find = async () =>
     (await connection.command('stats')).channels.find(entry => entry.id === channel.channel.id);
   let listed = await find();
-  for (let i = 0; i < 100 && !listed; i++) {
+  for (let i = 0; i < 100 && listed?.state !== 'open'; i++) {
     await sleep(0.1);
     listed = await find();
   }
@@ -248,27 +249,28 @@ async function manyByProgram(connection, count) {
 }
 
 // Opens a channel, uses it and ends it, and again at once, so that a peer may take the same identifier.
-async function reopened(connection, end) {
+async function reopened(connection, rounds, end) {
   const identifiers = new Set();
   await connection.begin();
-  for (const round of numbers(ROUNDS)) {
+  for (const round of numbers(rounds)) {
     const channel = await connection.create('again');
     identifiers.add(channel.channel.id);
     await channel.echo(`round ${round}`);
     await end(channel);
   }
-  return `${identifiers.size} identifiers in ${ROUNDS} rounds`;
+  return `${identifiers.size} identifiers in ${rounds} rounds`;
 }
 
-const reopenedAfterPeer = connection => reopened(connection, channel => channel.close());
+const reopenedAfterPeer = connection => reopened(connection, ROUNDS, channel => channel.close());
 
-const reopenedAfterProgram = connection => reopened(connection, channel => connection.closeByProgram(channel));
+const reopenedAfterProgram = connection =>
+  reopened(connection, ROUNDS, channel => connection.closeByProgram(channel));
 
-const reopenedAfterBoth = connection => reopened(connection, async channel => {
+const reopenedAfterBoth = connection => reopened(connection, MANY_ROUNDS, async channel => {
   connection.control.send(`close ${channel.channel.id}`);
   await channel.close();
   const { code } = JSON.parse(await connection.control.next());
-  if (code !== 0 && code !== 43) // that there is no such channel any more
+  if (![0, 14, 43].includes(code)) // 14, 43: that there is no such stream or channel any more
     throw new Error(`the code of close is ${code}`);
 });
 

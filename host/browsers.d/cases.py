@@ -35,7 +35,7 @@ CASES = [
     Case("past-2047", "1,030 channels at once by this side, past identifier 2047", 180),
     Case("reopened-by-peer", "a channel opened again after the peer's close, 10 times", 120),
     Case("reopened-by-program", "a channel opened again after this side's close, 10 times", 120),
-    Case("reopened-by-both", "a channel opened again after both sides' close, 10 times", 120),
+    Case("reopened-by-both", "a channel opened again after both sides' close, 100 times", 300),
     Case("reconnection", "a new offer in place of a connection, 5 times", 120),
     Case("end-by-peer", "the end by the peer", program_says="ended: the page (aborted it|closed DTLS)"),
     Case("end-in-order", "the end in order by this side", program_says="ended: it was shut down in order"),

@@ -109,8 +109,8 @@ class Server(http.server.ThreadingHTTPServer):
 
 
 class Run:
-    def __init__(self, peer, role, loss, port, is_ended, tell):
-        self.peer, self.role, self.loss, self.port = peer, role, loss, port
+    def __init__(self, peer, role, loss, delay, port, is_ended, tell):
+        self.peer, self.role, self.loss, self.delay, self.port = peer, role, loss, delay, port
         self.is_ended = is_ended  # tells whether the whole is to end
         self.tell = tell  # gets each result: the run, the case, whether it passed, and a note
         self.results = queue.Queue()
@@ -140,6 +140,7 @@ class Run:
         command = [os.path.join(machine.OUT, "webrtc"), "--address", machine.ADDRESS, "--port", str(self.port)]
         command += ["--client"] if self.role == "client" else []
         command += ["--loss", str(self.loss)] if self.loss else []
+        command += ["--delay", str(self.delay)] if self.delay else []
         self.seen = 0  # of the program's lines, those that came before the case
         self.program = Process("program", command, self.log)
         until = time.monotonic() + 10

@@ -7,7 +7,10 @@ import (
 	"github.com/pion/webrtc"
 )
 
-const rounds = 10
+const (
+	fewRounds  = 10
+	manyRounds = 100
+)
 
 // A case, by the names of cases.py. It gets a connection that was not begun yet, and may give a note for people.
 type testCase func(c *connection) string
@@ -166,7 +169,7 @@ func negotiated(c *connection) string {
 
 func negotiatedAgain(c *connection) string {
 	begun(c)
-	for round := 0; round < rounds; round++ {
+	for round := 0; round < fewRounds; round++ {
 		made := c.negotiate(40)
 		made.echo(text(fmt.Sprint("round ", round)))
 		if round%2 == 0 {
@@ -289,7 +292,7 @@ func manyByProgram(c *connection, count int) string {
 }
 
 // Opens a channel, uses it and ends it, and again at once, so that a peer may take the same identifier.
-func reopened(c *connection, end func(made *channel)) string {
+func reopened(c *connection, rounds int, end func(made *channel)) string {
 	begun(c)
 	identifiers := map[uint16]bool{}
 	for round := 0; round < rounds; round++ {
@@ -301,15 +304,16 @@ func reopened(c *connection, end func(made *channel)) string {
 	return fmt.Sprintf("%d identifiers in %d rounds", len(identifiers), rounds)
 }
 
-func reopenedAfterPeer(c *connection) string { return reopened(c, (*channel).close) }
+func reopenedAfterPeer(c *connection) string { return reopened(c, fewRounds, (*channel).close) }
 
-func reopenedAfterProgram(c *connection) string { return reopened(c, c.closeByProgram) }
+func reopenedAfterProgram(c *connection) string { return reopened(c, fewRounds, c.closeByProgram) }
 
 func reopenedAfterBoth(c *connection) string {
-	return reopened(c, func(made *channel) {
+	return reopened(c, manyRounds, func(made *channel) {
 		c.control.send(text(fmt.Sprintf("close %d", *made.ID())))
 		made.close()
-		if code := c.answer("close").Code; code != 0 && code != 43 { // that there is no such channel any more
+		// 14 and 43: there is no such stream or channel any more
+		if code := c.answer("close").Code; code != 0 && code != 14 && code != 43 {
 			fail("the code of close is %d", code)
 		}
 	})
