@@ -19,8 +19,9 @@
  *      to go out.
  *   4. Sleep until the moment of sctp_assoc_poll_timeout, or until a datagram comes.
  *
- * To end, call sctp_assoc_shutdown and go on with the loop until sctp_assoc_is_drained; or, at once, sctp_assoc_abort,
- * which tells the peer why, or sctp_assoc_close, which tells it nothing.
+ * To end, call sctp_assoc_shutdown and go on with the loop until sctp_assoc_is_drained, and for some seconds behind it,
+ * so that a peer is answered that missed the last datagram; or, at once, sctp_assoc_abort, which tells the peer why, or
+ * sctp_assoc_close, which tells it nothing.
  *
  * Each call may be made in any state, in any order and at any moment. What it can't do it refuses by a code. Beyond
  * that C owes this:
@@ -99,7 +100,8 @@ typedef uint32_t sctp_assoc_code;
 #define SCTP_ASSOC_NO_ROOM 4
 
 /* Refusals. Nothing changed. A stream that SCTP_ASSOC_RESET_PENDING is about can be opened and written again once
- * SCTP_ASSOC_EVENT_FINISHED and SCTP_ASSOC_EVENT_RESET_COMPLETE told its end. */
+ * SCTP_ASSOC_EVENT_FINISHED and SCTP_ASSOC_EVENT_RESET_COMPLETE told its end. Where the peer reset one of which nothing
+ * ever came, nothing tells that: try again. */
 #define SCTP_ASSOC_BAD_PAYLOAD_SIZE 6       /* max_payload_size isn't in 1 to 65,519 */
 #define SCTP_ASSOC_BAD_INITIAL_TSN 7        /* the initial TSN is 0 */
 #define SCTP_ASSOC_BAD_TOKEN 8              /* a token has a tag 0, a number of streams 0 or a window below 1500 */
@@ -141,7 +143,8 @@ typedef struct sctp_assoc_config {
     uint64_t rto_initial_ms;           /* retransmission timeouts, ms, none of them 0 (RFC 4960 section 6.3.1) */
     uint64_t rto_min_ms;
     uint64_t rto_max_ms;
-    size_t max_init_retransmits;       /* how often INIT and COOKIE ECHO go out again; SCTP_ASSOC_NO_LIMIT */
+    size_t max_init_retransmits;       /* how often INIT and COOKIE ECHO go out again, and a request to reset streams
+                                        * until SCTP_ASSOC_EVENT_RESET_FAILED; SCTP_ASSOC_NO_LIMIT */
     size_t max_data_retransmits;       /* timeouts in a row after which DATA is no longer sent again; by
                                         * SCTP_ASSOC_PROFILE_RFC a SACK with a window of 0 ends the row, too.
                                         * Nothing tells of that, so bound the wait for an acknowledgement;
@@ -252,7 +255,9 @@ sctp_assoc_code sctp_assoc_abort(sctp_assoc *slot, const uint8_t *reason, size_t
 #define SCTP_ASSOC_REPEATED_INIT 3 /* an INIT after the handshake; nothing changed */
 
 /* Takes in one datagram that came at `now`: an SCTP packet from its common header on. `fate` says what became of it.
- * Codes: DONE, EMPTY_SLOT, FAILED, NO_MEMORY (all is as before, or the association has failed). */
+ * Behind the end nothing counts any more, but a SHUTDOWN ACK is answered (by SCTP_ASSOC_PROFILE_RFC), as the last
+ * datagram of this side may have been lost: sctp_assoc_poll_transmit gives the answer. Codes: DONE, EMPTY_SLOT, FAILED,
+ * NO_MEMORY (all is as before, or the association has failed). */
 sctp_assoc_code sctp_assoc_handle_datagram(sctp_assoc *slot, uint64_t now, const uint8_t *datagram, size_t length,
                                            uint32_t *fate);
 
@@ -303,7 +308,9 @@ sctp_assoc_code sctp_assoc_handle_timeout(sctp_assoc *slot, uint64_t now);
 #define SCTP_ASSOC_EVENT_BUFFERED_HIGH 9        /* a write took it to the high mark or above */
 #define SCTP_ASSOC_EVENT_FINISHED 10            /* the peer ended its half of `stream`, and all before that was read */
 #define SCTP_ASSOC_EVENT_RESET_COMPLETE 11      /* both halves of `stream` are reset: it can be opened anew */
-#define SCTP_ASSOC_EVENT_RESET_FAILED 12        /* the own half of `stream` wasn't reset; `reason` */
+#define SCTP_ASSOC_EVENT_RESET_FAILED 12        /* the own half of `stream` wasn't reset, or the peer didn't answer so
+                                                 * far: by SCTP_ASSOC_PROFILE_RFC it is asked again, and _RESET_COMPLETE
+                                                 * may follow; `reason` */
 #define SCTP_ASSOC_EVENT_OTHER 13               /* not told so far: an event that this header has no name for */
 
 #define SCTP_ASSOC_REASON_NONE 0
@@ -449,9 +456,10 @@ sctp_assoc_code sctp_assoc_finish(sctp_assoc *slot, uint16_t stream);
  * nothing changes. Codes: DONE, EMPTY_SLOT, FAILED, NO_STREAM, CANNOT_RESET, NO_MEMORY (the association has failed).
  *
  * By SCTP_ASSOC_PROFILE_RFC all that is unread of the stream is so dropped, and what still comes of it until it ends is
- * acknowledged and dropped, too: so none of it takes room in the receive buffer, however much is under way. By
- * SCTP_ASSOC_PROFILE_PORT it takes room until the stream ends, and may leave the buffer exhausted, which ends the
- * association. */
+ * acknowledged and dropped, too: so none of it takes room in the receive buffer, however much is under way. If the peer
+ * reset the stream and DATA of its next use came, that use is reset, too, and told as ended once more. By
+ * SCTP_ASSOC_PROFILE_PORT what is unread takes room until the stream ends, and may leave the buffer exhausted, which
+ * ends the association. */
 sctp_assoc_code sctp_assoc_stop(sctp_assoc *slot, uint16_t stream);
 
 /* Closes both halves of a stream, first as sctp_assoc_finish and then as sctp_assoc_stop does, which says what becomes
@@ -524,7 +532,8 @@ sctp_assoc_code sctp_assoc_set_high_mark(sctp_assoc *slot, uint16_t stream, size
 #define SCTP_ASSOC_END_ABORTED 2          /* sctp_assoc_watched_abort did */
 #define SCTP_ASSOC_END_SHUT_DOWN 3        /* a shutdown of either side went to its end */
 #define SCTP_ASSOC_END_ABORT_CAME 4       /* an ABORT of the peer; `cause` and `reason` */
-#define SCTP_ASSOC_END_FAULT 5            /* another fault of the peer: an ERROR, or a chunk that breaks the protocol */
+#define SCTP_ASSOC_END_FAULT 5            /* another fault of the peer: a chunk that breaks the protocol or is not
+                                           * processed; an ERROR by SCTP_ASSOC_PROFILE_PORT alone */
 #define SCTP_ASSOC_END_BUFFER_EXHAUSTED 6 /* the receive buffer is full of what can never be read */
 
 /* 168 bytes. A number that reaches UINT64_MAX stays there. */

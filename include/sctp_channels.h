@@ -123,10 +123,11 @@ sctp_assoc_code sctp_channels_close(sctp_channels *slot, sctp_assoc *assoc, uint
                                                 * below */
 #define SCTP_CHANNELS_EVENT_CLOSED 6           /* the channel `id` ended, by either side, and all that came before was
                                                 * received. It is gone and `id` is free again, unless the reset of its
-                                                * stream failed: then it stays in SCTP_CHANNELS_STATE_CLOSING */
+                                                * stream failed: then it stays in SCTP_CHANNELS_STATE_CLOSING, and this
+                                                * is told once more if the peer answers later */
 #define SCTP_CHANNELS_EVENT_FAILED 7           /* the peer's stream `id` began with something else than an OPEN and is
-                                                * being reset, or this side's channel `id` could not be begun. There is
-                                                * no such channel */
+                                                * being reset, or this side's channel `id` could not be begun, as where
+                                                * a reset of its stream is still open. There is no such channel */
 #define SCTP_CHANNELS_EVENT_LOST 8             /* the association ended; `reason`. All channels are gone. A watch beside
                                                 * it does not see the events that are taken here: if it was one of
                                                 * these calls that left the receive buffer exhausted, and no datagram,

@@ -89,7 +89,7 @@ pub const SCTP_ASSOC_EVENT_BUFFERED_HIGH: u32 = 9;
 pub const SCTP_ASSOC_EVENT_FINISHED: u32 = 10;
 /// Both halves of `stream` are reset: it can be opened anew.
 pub const SCTP_ASSOC_EVENT_RESET_COMPLETE: u32 = 11;
-/// The own half of `stream` was not reset; `reason`.
+/// The own half of `stream` was not reset, or the peer did not answer so far; `reason`.
 pub const SCTP_ASSOC_EVENT_RESET_FAILED: u32 = 12;
 /// An event that has no name here; none of these is told so far.
 pub const SCTP_ASSOC_EVENT_OTHER: u32 = 13;

@@ -34,7 +34,8 @@ pub struct Config {
     pub rto_min: Duration,
     /// Greatest retransmission timeout; 60 s. The same holds of it.
     pub rto_max: Duration,
-    /// How often INIT and COOKIE ECHO go out again before the handshake fails; 8. None is no limit.
+    /// How often INIT and COOKIE ECHO go out again before the handshake fails, and a request to reset streams before
+    /// [`Event::ResetFailed`](crate::Event::ResetFailed); 8. None is no limit.
     pub max_init_retransmits: Option<usize>,
     /// Timeouts in a row after which DATA is no longer sent again; by [`Profile::Rfc`] a SACK with a window of 0 ends
     /// the row, too. Nothing tells of that, so bound the wait for an acknowledgement. None, the default, is no limit.

@@ -24,7 +24,8 @@ pub enum Error {
     /// This side or the peer opened the stream already.
     StreamExists,
     /// A reset of the stream is open or failed, or its rest is to be read. Once its end was told
-    /// ([`Event::ResetComplete`](crate::Event::ResetComplete)) it can be opened and written again.
+    /// ([`Event::ResetComplete`](crate::Event::ResetComplete)) it can be opened and written again. Where the peer reset
+    /// one of which nothing ever came, nothing tells that: try again.
     ResetPending,
     /// 2^64 streams were opened, and none can be any more.
     NoStreamLeft,

@@ -68,7 +68,8 @@ pub enum Event {
         /// The stream's identifier.
         stream: u16,
     },
-    /// The own half of a stream was not reset.
+    /// The own half of a stream was not reset, or the peer did not answer so far: by
+    /// [`Profile::Rfc`](crate::Profile::Rfc) it is asked again, and [`Event::ResetComplete`] may follow.
     ResetFailed {
         /// The stream's identifier.
         stream: u16,

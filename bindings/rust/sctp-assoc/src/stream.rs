@@ -84,8 +84,9 @@ impl Stream<'_> {
     ///
     /// By [`Profile::Rfc`](crate::Profile::Rfc) all that is unread of the stream is so dropped, and what still comes of
     /// it until it ends is acknowledged and dropped, too: so none of it takes room in the receive buffer, however much
-    /// is under way. By [`Profile::Port`](crate::Profile::Port) it takes room until the stream ends, and may leave the
-    /// buffer exhausted, which ends the association.
+    /// is under way. If the peer reset the stream and DATA of its next use came, that use is reset, too, and told as
+    /// ended once more. By [`Profile::Port`](crate::Profile::Port) what is unread takes room until the stream ends, and
+    /// may leave the buffer exhausted, which ends the association.
     ///
     /// Errors: `Failed`, `NoStream`, `CannotReset`; `NoMemory`: the association failed.
     pub fn stop(&mut self) -> Result<(), Error> {

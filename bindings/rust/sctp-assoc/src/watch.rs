@@ -55,7 +55,8 @@ pub enum End {
     ShutDown,
     /// An ABORT of the peer came, with this cause.
     AbortCame(Cause),
-    /// Another fault of the peer: an ERROR, or a chunk that breaks the protocol.
+    /// Another fault of the peer: a chunk that breaks the protocol or is not processed; an ERROR by
+    /// [`Profile::Port`](crate::Profile::Port) alone.
     Fault,
     /// The receive buffer is full of what can never be read. If a read or a stop left it so, this is told from
     /// [`Event::Lost`](crate::Event::Lost) on.

@@ -29,7 +29,8 @@ pub enum Event {
         id: u16,
     },
     /// This channel ended, by either side, and all that came before was received. It is gone and its identifier is free
-    /// again, unless the reset of its stream failed: then it stays [`Closing`](super::State::Closing).
+    /// again, unless the reset of its stream failed: then it stays [`Closing`](super::State::Closing), and this is told
+    /// once more if the peer answers later.
     Closed {
         /// The channel's identifier.
         id: u16,
