@@ -5,6 +5,7 @@ pub mod Deadlines
 pub mod EmptyPlaces
 pub mod ExpiredUnsent
 pub mod FirstOutstanding
+pub mod FlyingBytes
 pub mod Fronts
 pub mod InOrder
 pub mod Positions

@@ -362,7 +362,7 @@ kept_resent {s} {x} by clocks ms ps i kept there again before after =
     )
 
 -- a sum over what a change leaves as it is
-same_sum : {X : Type 0} (f : X → ℕ) (g : X → X) → ((x : X) → f (g x) ≡ f x) → (xs : List X)
+pub same_sum : {X : Type 0} (f : X → ℕ) (g : X → X) → ((x : X) → f (g x) ≡ f x) → (xs : List X)
     → sum_by f (map g xs) ≡ sum_by f xs
 same_sum f g same [] = refl
 same_sum f g same (x ∷ xs) =

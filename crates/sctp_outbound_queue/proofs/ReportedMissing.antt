@@ -7,8 +7,9 @@ use Rattle.std.proofs.lemmas.List.Sums.{sum_by-cons}
 use Rattle.std.specs.Prelude.{if◌then◌else◌, slice_set, sum_by}
 use Rattle.std.specs.List.{list_any}
 use Rattle.sctp_outbound_queue.specs.declared.message.InFlight.{InFlight}
-use Rattle.sctp_outbound_queue.specs.Message.{is_outstanding, is_third_report, outstanding_bytes, reported_missing}
-use Rattle.sctp_outbound_queue.specs.Outbound.{is_third_report_of, marked_of, outstanding_of, with_report}
+use Rattle.sctp_outbound_queue.specs.Message.{flying_bytes, is_outstanding, is_third_report, outstanding_bytes}
+use Rattle.sctp_outbound_queue.specs.Message.{reported_missing}
+use Rattle.sctp_outbound_queue.specs.Outbound.{flying_of, is_third_report_of, marked_of, outstanding_of, with_report}
 use Rattle.sctp_outbound_queue.proofs.FirstOutstanding.{no_gap}
 
 -- the first so many were reported
@@ -95,3 +96,12 @@ pub as_many_marked : (n : ℕ) (xs : List InFlight)
     → marked_of (map reported_missing (take n xs) ++ drop n xs) ≡ marked_of xs
 as_many_marked n xs =
     same_sum (λ x. if x.retransmit then 1 else 0) (λ x. ap (λ b. if b then 1 else 0) (same_mark x)) n xs
+
+same_flight : (x : InFlight) → flying_bytes (reported_missing x) ≡ flying_bytes x
+same_flight x = ⊎_elim (λ (t : (is_outstanding x && nat_lt x.misses 3) ≡ true). rw t refl)
+    (λ (f : (is_outstanding x && nat_lt x.misses 3) ≡ false). rw f refl)
+    (cases_Bool (is_outstanding x && nat_lt x.misses 3))
+
+pub as_many_flying : (n : ℕ) (xs : List InFlight)
+    → flying_of (map reported_missing (take n xs) ++ drop n xs) ≡ flying_of xs
+as_many_flying n xs = same_sum flying_bytes same_flight n xs

@@ -70,6 +70,11 @@ is_outstanding p = not p.acked && not p.abandoned
 abbrev pub outstanding_bytes : InFlight → ℕ
 outstanding_bytes p = if is_outstanding p then length p.user_data else 0
 
+-- its bytes where it flies: it is outstanding, and the retransmission timer did not mark it (RFC 4960 section 6.2.1,
+-- rule C)
+abbrev pub flying_bytes : InFlight → ℕ
+flying_bytes p = if p.retransmit then 0 else outstanding_bytes p
+
 abbrev pub is_of : ℕ → InFlight → Bool
 is_of id p = p.message.message_id == id
 

@@ -11,7 +11,7 @@ use Rattle.sctp_outbound_queue.specs.declared.queue.Released.{Released}
 use Rattle.sctp_outbound_queue.specs.Waiting.{Waiting}
 use Rattle.sctp_outbound_queue.specs.Message.{message_bytes, piece_count, accepted, sent_once, without_piece, marker_of}
 use Rattle.sctp_outbound_queue.specs.Message.{is_of_stream, is_outstanding, is_third_report, is_waiting_of_stream}
-use Rattle.sctp_outbound_queue.specs.Message.{outstanding_bytes, was_acknowledged}
+use Rattle.sctp_outbound_queue.specs.Message.{flying_bytes, outstanding_bytes, was_acknowledged}
 use Rattle.sctp_outbound_queue.specs.Message.{outstanding_bytes_of, acked, marked_again, flagged, reported_missing}
 use Rattle.sctp_outbound_queue.specs.declared.clocks.Clocks.{Clocks}
 use Rattle.sctp_outbound_queue.specs.Clocks.{AreTimely}
@@ -33,7 +33,11 @@ waiting_of messages = sum_by message_bytes messages
 abbrev pub outstanding_of : List InFlight → ℕ
 outstanding_of pieces = sum_by outstanding_bytes pieces
 
--- those of one message
+-- the bytes that fly: those that are outstanding and not marked to be sent again
+abbrev pub flying_of : List InFlight → ℕ
+flying_of pieces = sum_by flying_bytes pieces
+
+-- those of one message that are outstanding
 abbrev pub outstanding_of_message : ℕ → List InFlight → ℕ
 outstanding_of_message id pieces = sum_by (outstanding_bytes_of id) pieces
 

@@ -4,7 +4,7 @@ ghost use Rattle.std.specs.List.{concat};
 ghost use Rattle.sctp_outbound_queue.specs.Cut.{MayFollow, first_piece, other_pieces};
 ghost use Rattle.sctp_outbound_queue.specs.Message.{message_bytes, piece_count, accepted, sent_once, without_piece};
 ghost use Rattle.sctp_outbound_queue.specs.Message.{marker_of, is_of, is_of_stream, is_waiting_of_stream};
-ghost use Rattle.sctp_outbound_queue.specs.Message.{is_outstanding, outstanding_bytes, acked};
+ghost use Rattle.sctp_outbound_queue.specs.Message.{is_outstanding, outstanding_bytes, flying_bytes, acked};
 ghost use Rattle.sctp_outbound_queue.specs.Message.{marked_again, counted_again, data_length, flagged, is_third_report};
 ghost use Rattle.sctp_outbound_queue.specs.Message.{picks, room_taken, reported_missing};
 ghost use Rattle.sctp_outbound_queue.specs.Message.{deadline_under, waiting_started, sent_started, is_expired};
@@ -322,6 +322,17 @@ impl InFlight {
             self.user_data.len() as u64
         } else {
             0
+        }
+    }
+
+    // Its length in bytes where it is outstanding and not marked to be sent again, else 0.
+    pub(crate) fn flying_bytes(&self) -> u64
+        ensures { result ≡ flying_bytes self.now }
+    {
+        if self.retransmit {
+            0
+        } else {
+            self.outstanding_bytes()
         }
     }
 

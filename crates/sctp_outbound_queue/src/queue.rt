@@ -13,7 +13,7 @@ ghost use Rattle.sctp_outbound_queue.specs.Outbound.{outstanding_of_message, pie
 ghost use Rattle.sctp_outbound_queue.specs.Outbound.{without_first, changed_at, acked_at, piece_at};
 ghost use Rattle.sctp_outbound_queue.specs.Outbound.{all_marked, has_stream, abandoned_in_front_of, tail_dropped};
 ghost use Rattle.sctp_outbound_queue.specs.Outbound.{all_flagged, abandoned_at, is_abandoned_piece, with_missing};
-ghost use Rattle.sctp_outbound_queue.specs.Outbound.{marked_of, past_acknowledged};
+ghost use Rattle.sctp_outbound_queue.specs.Outbound.{flying_of, marked_of, past_acknowledged};
 ghost use Rattle.std.specs.List.{list_any};
 ghost use Rattle.sctp_outbound_queue.specs.Front.{holds_at};
 ghost use Rattle.sctp_outbound_queue.specs.Message.{is_of};
@@ -59,6 +59,8 @@ pub struct OutboundQueue {
     pending_bytes: u64,
     // The bytes in flight that are neither acknowledged nor abandoned.
     outstanding_bytes: u64,
+    // The bytes of those that are not marked to be sent again.
+    flying_bytes: u64,
     // How many pieces in flight are marked to be sent again.
     marked: usize,
     // No piece in flight before this index is outstanding.
@@ -91,7 +93,8 @@ impl fmt::Debug for OutboundQueue {
 }
 
 impl Model for OutboundQueue {
-    ghost use Rattle.sctp_outbound_queue.specs.Outbound.{Outbound, AreKept};
+    ghost use Rattle.sctp_outbound_queue.specs.Outbound.{Outbound, AreKept, flying_of};
+    ghost use Rattle.std.specs.Prelude.{◌≡◌};
     ghost use Rattle.sctp_outbound_queue.specs.PieceSets.{AreStanding};
     ghost use Rattle.sctp_outbound_queue.specs.Front.{AreInOrder, IsFront};
 
@@ -106,7 +109,8 @@ impl Model for OutboundQueue {
 
     ghost invariant = { λ q. AreKept q.pending q.in_flight.items q.pending_bytes q.outstanding_bytes
         q.marked q.settled q.clocks × AreStanding q.sets q.in_flight.items × IsFront q.front q.in_flight.items
-        × AreInOrder q.in_flight.items q.pending q.next_message_id };
+        × AreInOrder q.in_flight.items q.pending q.next_message_id
+        × (q.flying_bytes ≡ flying_of q.in_flight.items) };
 }
 
 impl OutboundQueue {
@@ -122,6 +126,7 @@ impl OutboundQueue {
             next_message_id: 0,
             pending_bytes: 0,
             outstanding_bytes: 0,
+            flying_bytes: 0,
             marked: 0,
             settled: 0,
             clocks: Clocks::new(),
@@ -211,6 +216,14 @@ impl OutboundQueue {
         self.outstanding_bytes
     }
 
+    /// Bytes in flight that fly: neither acknowledged nor abandoned, nor marked to be sent again. They are kept, so no
+    /// piece is gone over.
+    pub fn flying_bytes(&self) -> u64
+        ensures { result ≡ flying_of self.now.in_flight }
+    {
+        self.flying_bytes
+    }
+
     /// Number of pieces in flight that are marked to be sent again (RFC 4960 section 6.3.3). It is kept, so no piece is
     /// gone over.
     pub fn marked_len(&self) -> usize
@@ -272,6 +285,7 @@ impl OutboundQueue {
         self.sets.grow();
         self.pending_bytes -= bytes;
         self.outstanding_bytes += bytes;
+        self.flying_bytes += bytes;
         Ok(())
     }
 
@@ -304,6 +318,7 @@ impl OutboundQueue {
         self.sets.pass();
         self.first_tsn = self.first_tsn.wrapping_add(1);
         self.outstanding_bytes -= piece.outstanding_bytes();
+        self.flying_bytes -= piece.flying_bytes();
         self.marked -= usize::from(piece.retransmit);
         self.settled = self.settled.saturating_sub(1);
         self.front.pop();
@@ -319,6 +334,7 @@ impl OutboundQueue {
         match self.in_flight.get_mut(index) {
             Some(named) => {
                 let bytes = named.outstanding_bytes();
+                self.flying_bytes -= named.flying_bytes();
                 self.marked -= usize::from(named.retransmit);
                 named.acknowledge();
                 self.sets.settle(index, named);
@@ -334,6 +350,7 @@ impl OutboundQueue {
         ensures { self.new ≡ all_marked self.old }
     {
         self.marked = mark_all(&mut self.in_flight, &mut self.sets);
+        self.flying_bytes = 0;
     }
 
     /// Counts that a piece is sent again. One that goes because the timer marked it loses the mark. Goes over no other
@@ -344,9 +361,11 @@ impl OutboundQueue {
     {
         if let Some(piece) = self.in_flight.get_mut(index) {
             self.marked -= usize::from(piece.retransmit);
+            self.flying_bytes -= piece.flying_bytes();
             piece.resend(by);
             self.sets.settle(index, piece);
             self.marked += usize::from(piece.retransmit);
+            self.flying_bytes += piece.flying_bytes();
         }
     }
 
@@ -479,6 +498,7 @@ impl OutboundQueue {
     {
         let lost = flag_all(&mut self.in_flight, &mut self.sets, index, message_id);
         self.outstanding_bytes -= lost.bytes;
+        self.flying_bytes -= lost.flying;
         self.marked -= lost.marks;
         self.front.abandon(&self.in_flight);
         lost.bytes

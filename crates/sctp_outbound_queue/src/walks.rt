@@ -6,10 +6,10 @@ ghost use Rattle.std.specs.List.{list_any, position_or_len};
 ghost use Rattle.std.specs.Option.{option_copied};
 ghost use Rattle.sctp_outbound_queue.specs.Message.{is_of, is_of_stream};
 ghost use Rattle.sctp_outbound_queue.specs.Message.{is_outstanding, outstanding_bytes_of};
-ghost use Rattle.sctp_outbound_queue.specs.Message.{marked_again, flagged};
+ghost use Rattle.sctp_outbound_queue.specs.Message.{marked_again, flagged, flying_bytes};
 ghost use Rattle.sctp_outbound_queue.specs.Message.{sent_started, is_third_report, picks};
 ghost use Rattle.sctp_outbound_queue.specs.Message.{reported_missing};
-ghost use Rattle.sctp_outbound_queue.specs.Outbound.{outstanding_of_message, marked_of};
+ghost use Rattle.sctp_outbound_queue.specs.Outbound.{flying_of, outstanding_of_message, marked_of};
 ghost use Rattle.sctp_outbound_queue.specs.Outbound.{is_outstanding_piece, is_third_report_of, with_report};
 ghost use Rattle.sctp_outbound_queue.specs.Front.{flagged_at, holds_at, piece_ids, NeverFall};
 ghost use Rattle.sctp_outbound_queue.specs.PieceSets.{AreStanding, HavePlace};
@@ -28,6 +28,8 @@ use std::collections::VecDeque;
 pub(crate) struct Lost {
     /// The bytes that are outstanding no more, at most the greatest u64.
     pub(crate) bytes: u64,
+    /// Those of them that flew.
+    pub(crate) flying: u64,
     /// How many pieces are marked no more.
     pub(crate) marks: usize,
 }
@@ -91,9 +93,11 @@ pub(crate) fn flag_all(
     requires sets { AreStanding sets.old pieces.old.items }
     requires order { NeverFall 0 (piece_ids pieces.old.items) }
     requires at { holds_at (is_of message_id) (slice_get pieces.old.items index) ≡ true }
+    requires flying { flying_of pieces.old.items < 2 ^ 64 }
     ensures flagged { pieces.new.items ≡ map (flagged message_id) pieces.old.items }
     ensures sets { AreStanding sets.new pieces.new.items }
     ensures bytes { result.bytes ≡ min (outstanding_of_message message_id pieces.old.items) (2 ^ 64 - 1) }
+    ensures flying { result.flying + flying_of pieces.new.items ≡ flying_of pieces.old.items }
     ensures marks { result.marks + marked_of pieces.new.items ≡ marked_of pieces.old.items }
 {
     let first = first_of(pieces, index, message_id);
@@ -136,12 +140,18 @@ fn flag_from(
     requires order { NeverFall 0 (piece_ids pieces.old.items) }
     requires at { holds_at (is_of message_id) (slice_get pieces.old.items first) ≡ true }
     requires before { list_any (is_of message_id) (take first pieces.old.items) ≡ false }
+    requires flying { flying_of pieces.old.items < 2 ^ 64 }
     ensures flagged { pieces.new.items ≡ map (flagged message_id) pieces.old.items }
     ensures sets { AreStanding sets.new pieces.new.items }
     ensures bytes { result.bytes ≡ min (outstanding_of_message message_id pieces.old.items) (2 ^ 64 - 1) }
+    ensures flying { result.flying + flying_of pieces.new.items ≡ flying_of pieces.old.items }
     ensures marks { result.marks + marked_of pieces.new.items ≡ marked_of pieces.old.items }
 {
-    let mut lost = Lost { bytes: 0, marks: 0 };
+    let mut lost = Lost {
+        bytes: 0,
+        flying: 0,
+        marks: 0,
+    };
     for index in first..pieces.len() {
         if !flag_at(pieces, sets, index, message_id, &mut lost) {
             return lost;
@@ -161,6 +171,7 @@ fn flag_at(
     requires sets { AreStanding sets.old pieces.old.items }
     requires room { lost.old.marks < 2 ^ 64 - 1 }
     requires most { lost.old.bytes < 2 ^ 64 }
+    requires flying { lost.old.flying + flying_of pieces.old.items < 2 ^ 64 }
     ensures is { result ≡ holds_at (is_of message_id) (slice_get pieces.old.items index) }
     ensures flagged { pieces.new.items ≡
         flagged_at message_id (slice_get pieces.old.items index) index pieces.old.items }
@@ -168,6 +179,7 @@ fn flag_at(
     ensures bytes { min (lost.new.bytes + outstanding_of_message message_id pieces.new.items) (2 ^ 64 - 1) ≡
         min (lost.old.bytes + outstanding_of_message message_id pieces.old.items) (2 ^ 64 - 1) }
     ensures most { lost.new.bytes < 2 ^ 64 }
+    ensures flying { lost.new.flying + flying_of pieces.new.items ≡ lost.old.flying + flying_of pieces.old.items }
     ensures marks { lost.new.marks + marked_of pieces.new.items ≡ lost.old.marks + marked_of pieces.old.items }
 {
     match pieces.get_mut(index) {
@@ -186,12 +198,14 @@ fn flag(
 ) -> bool
     requires place { HavePlace index sets.old }
     requires room { lost.old.marks < 2 ^ 64 - 1 }
+    requires flying { lost.old.flying + flying_bytes piece.old < 2 ^ 64 }
     ensures is { result ≡ is_of message_id piece.old }
     ensures flagged { piece.new ≡ flagged message_id piece.old }
     ensures sets { (ps : List Piece) → slice_get ps index ≡ Some piece.old → AreStanding sets.old ps
         → AreStanding sets.new (slice_set ps index piece.new) }
     ensures bytes { lost.new.bytes ≡
         min (lost.old.bytes + outstanding_bytes_of message_id piece.old) (2 ^ 64 - 1) }
+    ensures flying { lost.new.flying + flying_bytes piece.new ≡ lost.old.flying + flying_bytes piece.old }
     ensures marks { lost.new.marks + (if piece.new.retransmit then 1 else 0) ≡
         lost.old.marks + (if piece.old.retransmit then 1 else 0) }
 {
@@ -199,6 +213,7 @@ fn flag(
         return false;
     }
     lost.bytes = lost.bytes.saturating_add(piece.outstanding_bytes());
+    lost.flying += piece.flying_bytes();
     lost.marks += usize::from(piece.retransmit);
     piece.abandon(message_id);
     sets.settle(index, piece);

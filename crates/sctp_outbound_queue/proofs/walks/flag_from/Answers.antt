@@ -11,6 +11,7 @@ loop-index-init c = record {
   sets = c.requires.sets;
   bytes = omega arith;
   most = omega arith;
+  flying = omega arith;
   marks = omega arith;
 }
 
@@ -25,6 +26,7 @@ loop-index-preserved c = record {
   sets = c.flag_at.ensures.sets;
   bytes = c.flag_at.ensures.bytes ∙ c.loop-index.invariant.bytes;
   most = c.flag_at.ensures.most;
+  flying = c.flag_at.ensures.flying ∙ c.loop-index.invariant.flying;
   marks = c.flag_at.ensures.marks ∙ c.loop-index.invariant.marks;
 }
 

@@ -1,5 +1,6 @@
 use Rattle.std.proofs.Common.{◌≡◌, ap, refl, rules}
 use Rattle.sctp_outbound_queue.specs.Waiting.{Waiting}
+use Rattle.sctp_outbound_queue.proofs.FlyingBytes.{flying_marker}
 use Rattle.sctp_outbound_queue.proofs.Fronts.{front_more}
 use Rattle.sctp_outbound_queue.proofs.QueuedBytes.{kept_marker}
 use Rattle.sctp_outbound_queue.proofs.InOrder.{order_marker}
@@ -20,4 +21,6 @@ invariant_of-self-2 c =
       rw (c.in_ok-push_back.ensures.items, c.pop_front.ensures)
           (order_marker c.self.inside.in_flight.items c.self.inside.pending c.in-Some.first.now c.marker.result c.self.inside.next_message_id (search rules) (search rules)
           c.self.invariant.3),
+      rw c.in_ok-push_back.ensures.items
+          (flying_marker c.self.inside.in_flight.items c.marker.result (rw c.marker.ensures refl) c.self.invariant.4),
     )

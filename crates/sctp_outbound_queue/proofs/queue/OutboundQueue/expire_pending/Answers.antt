@@ -14,6 +14,7 @@ invariant_of-self-in-None c = (
   c.self.invariant.1,
   c.self.invariant.2,
   order_dropped c.args.now c.self.inside.in_flight.items c.self.inside.pending c.drop_expired.new.messages c.self.inside.next_message_id c.in-None.ensures.left c.self.invariant.3,
+  c.self.invariant.4,
 )
 
 pub overflow_sub-self : goal.overflow_sub-self
@@ -29,6 +30,7 @@ invariant_of-self c = (
   c.self.invariant.1,
   c.self.invariant.2,
   rw c.settle.ensures c.self.invariant.3,
+  c.self.invariant.4,
 )
 
 pub invariant_of-self-in-Some : goal.invariant_of-self-in-Some
@@ -42,6 +44,7 @@ invariant_of-self-in-Some c = (
   c.self.invariant.1,
   c.self.invariant.2,
   order_dropped c.args.now c.self.inside.in_flight.items c.self.inside.pending c.drop_expired.new.messages c.self.inside.next_message_id c.in-Some.ensures.left c.self.invariant.3,
+  c.self.invariant.4,
 )
 
 pub returns-in-Some : goal.returns-in-Some

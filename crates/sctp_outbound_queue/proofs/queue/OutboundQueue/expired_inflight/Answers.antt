@@ -17,8 +17,13 @@ returns-then-not-is_over-clause-index c =
     (sym c.is_over.ensures ∙ c.if-not-is_over.true))
 
 pub invariant_of-self : goal.invariant_of-self
-invariant_of-self c =
-    (c.self.invariant.0, c.self.invariant.1, c.first_expired-index.ensures.front, c.self.invariant.3)
+invariant_of-self c = (
+  c.self.invariant.0,
+  c.self.invariant.1,
+  c.first_expired-index.ensures.front,
+  c.self.invariant.3,
+  c.self.invariant.4,
+)
 
 pub invariant_of-self-2 : goal.invariant_of-self-2
 invariant_of-self-2 c = (
@@ -35,4 +40,5 @@ invariant_of-self-2 c = (
   c.self.invariant.1,
   c.first_expired-index.ensures.front,
   c.self.invariant.3,
+  c.self.invariant.4,
 )

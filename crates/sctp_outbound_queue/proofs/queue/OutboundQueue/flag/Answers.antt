@@ -1,4 +1,5 @@
 use Rattle.std.proofs.Common.{◌∙◌, arith}
+use Rattle.sctp_outbound_queue.proofs.FlyingBytes.{flying_within}
 use Rattle.sctp_outbound_queue.proofs.QueuedBytes.{flagged_sum, kept_flagged}
 use Rattle.sctp_outbound_queue.proofs.Fronts.{front_flagged, kept_less}
 use Rattle.sctp_outbound_queue.proofs.InOrder.{order_flagged, pieces_in_order}
@@ -22,6 +23,7 @@ invariant_of-self c = (
       c.self.invariant.2),
   order_flagged c.args.message_id c.self.inside.in_flight.items c.flag_all-lost.new.pieces.items c.self.inside.pending c.self.inside.next_message_id c.flag_all-lost.ensures.flagged
       c.self.invariant.3,
+  omega (arith, c.self.invariant.4, c.flag_all-lost.ensures.flying),
 )
 
 pub returns-clause-bytes : goal.returns-clause-bytes
@@ -33,6 +35,11 @@ returns-clause-bytes c =
 
 pub flag_all-lost-requires-clause-order : goal.flag_all-lost-requires-clause-order
 flag_all-lost-requires-clause-order c = pieces_in_order c.self.inside.in_flight.items c.self.inside.pending c.self.inside.next_message_id c.self.invariant.3
+
+pub flag_all-lost-requires-clause-flying : goal.flag_all-lost-requires-clause-flying
+flag_all-lost-requires-clause-flying c =
+    let within = flying_within c.self.inside.in_flight.items in
+    omega (arith, within, c.self.invariant.0.1, c.self.invariant.0.2)
 
 pub abandon-requires : goal.abandon-requires
 abandon-requires c =

@@ -1,6 +1,7 @@
 use Rattle.std.proofs.Common.{ap, arith, sym, ◌∙◌}
-use Rattle.sctp_outbound_queue.specs.Outbound.{outstanding_of}
+use Rattle.sctp_outbound_queue.specs.Outbound.{flying_of, outstanding_of}
 use Rattle.sctp_outbound_queue.specs.Message.{marked_again}
+use Rattle.sctp_outbound_queue.proofs.FlyingBytes.{flying_marked}
 use Rattle.sctp_outbound_queue.proofs.QueuedBytes.{marked_sum}
 use Rattle.sctp_outbound_queue.proofs.FirstOutstanding.{after_change, marked}
 use Rattle.sctp_outbound_queue.proofs.Timely.{marked_keeps, timely_changed}
@@ -25,4 +26,5 @@ invariant_of-self c = (
       (front_alike c.self.inside.front c.self.inside.in_flight.items _ (alike_each marked_again outline_marked c.self.inside.in_flight.items) c.self.invariant.2),
   rw c.mark_all-self-inside.ensures.marked
       (order_alike c.self.inside.in_flight.items _ c.self.inside.pending c.self.inside.next_message_id (alike_each marked_again outline_marked c.self.inside.in_flight.items) c.self.invariant.3),
+  sym (ap flying_of c.mark_all-self-inside.ensures.marked ∙ flying_marked c.self.inside.in_flight.items),
 )

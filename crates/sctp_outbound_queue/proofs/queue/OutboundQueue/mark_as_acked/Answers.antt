@@ -3,6 +3,7 @@ use Rattle.std.proofs.Math.Bool.{cond}
 use Rattle.std.proofs.lemmas.Bool.{cases_Bool}
 use Rattle.sctp_outbound_queue.proofs.QueuedBytes.{kept_acked}
 use Rattle.sctp_outbound_queue.proofs.FirstOutstanding.{item_there}
+use Rattle.sctp_outbound_queue.proofs.FlyingBytes.{flying_acked}
 use Rattle.sctp_outbound_queue.proofs.Fronts.{alike_at, front_alike, order_alike, outline}
 use Rattle.sctp_outbound_queue.proofs.queue.OutboundQueue.mark_as_acked.Goals as goal
 
@@ -21,4 +22,6 @@ invariant_of-self c =
       c.settle.ensures c.self.inside.in_flight.items c.self.invariant.1,
       front_alike c.self.inside.front c.self.inside.in_flight.items _ alike c.self.invariant.2,
       order_alike c.self.inside.in_flight.items _ c.self.inside.pending c.self.inside.next_message_id alike c.self.invariant.3,
+      flying_acked c.self.inside.in_flight.items c.index_of-index.result c.self.invariant.4 there c.flying_bytes.ensures
+          c.acknowledge.ensures,
     )

@@ -2,6 +2,7 @@ use Rattle.std.proofs.Common.{◌≡◌, true, false, ⊎_elim, ap, slice_get, S
 use Rattle.std.proofs.Math.Bool.{cond}
 use Rattle.std.proofs.lemmas.Bool.{cases_Bool}
 use Rattle.sctp_outbound_queue.proofs.QueuedBytes.{kept_popped}
+use Rattle.sctp_outbound_queue.proofs.FlyingBytes.{flying_popped}
 use Rattle.sctp_outbound_queue.proofs.StandingPieces.{standing_behind}
 use Rattle.sctp_outbound_queue.proofs.InOrder.{order_behind}
 use Rattle.sctp_outbound_queue.proofs.queue.OutboundQueue.pop.Goals as goal
@@ -22,4 +23,5 @@ invariant_of-self-2 c =
           c.pass.ensures c.self.invariant.1),
       c.pop.ensures c.in_ok-piece.piece _ (rw c.in_ok-piece.ensures.items at c.self.invariant.2),
       rw left (order_behind c.self.inside.in_flight.items c.self.inside.pending c.self.inside.next_message_id c.self.invariant.3),
+      flying_popped c.self.inside.in_flight.items c.self.invariant.4 there left c.flying_bytes.ensures,
     )

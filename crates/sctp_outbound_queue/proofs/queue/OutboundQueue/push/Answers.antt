@@ -20,4 +20,5 @@ invariant_of-self-2 c =
       order_pushed c.self.inside.in_flight.items c.self.inside.pending c.push_back.new.self
           (accepted c.self.inside.next_message_id c.args.message) c.self.inside.next_message_id refl
           (c.in_ok-push_back.ensures.ok ∙ ap (λ z. c.self.inside.pending ++ z ∷ []) c.accept.ensures) c.self.invariant.3,
+      c.self.invariant.4,
     )

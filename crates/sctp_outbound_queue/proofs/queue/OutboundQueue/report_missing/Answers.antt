@@ -1,8 +1,8 @@
 use Rattle.std.proofs.Common.{◌∙◌, ap, arith, sym}
-use Rattle.sctp_outbound_queue.specs.Outbound.{marked_of, outstanding_of}
+use Rattle.sctp_outbound_queue.specs.Outbound.{flying_of, marked_of, outstanding_of}
 use Rattle.sctp_outbound_queue.specs.Message.{reported_missing}
 use Rattle.sctp_outbound_queue.proofs.FirstOutstanding.{after_reports, reported}
-use Rattle.sctp_outbound_queue.proofs.ReportedMissing.{as_many_marked, as_many_outstanding}
+use Rattle.sctp_outbound_queue.proofs.ReportedMissing.{as_many_flying, as_many_marked, as_many_outstanding}
 use Rattle.sctp_outbound_queue.proofs.Timely.{reported_keeps, timely_first}
 use Rattle.sctp_outbound_queue.proofs.Fronts.{alike_first, front_alike, order_alike, outline_reported}
 use Rattle.sctp_outbound_queue.proofs.queue.OutboundQueue.report_missing.Goals as goal
@@ -34,4 +34,6 @@ invariant_of-self c = (
   rw c.report_missing.ensures.counted
       (order_alike c.self.inside.in_flight.items _ c.self.inside.pending c.self.inside.next_message_id (alike_first reported_missing outline_reported c.args.count c.self.inside.in_flight.items)
       c.self.invariant.3),
+  c.self.invariant.4
+      ∙ sym (ap flying_of c.report_missing.ensures.counted ∙ as_many_flying c.args.count c.self.inside.in_flight.items),
 )

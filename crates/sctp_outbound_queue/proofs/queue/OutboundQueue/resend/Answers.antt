@@ -2,6 +2,7 @@ use Rattle.std.proofs.Common.{◌≡◌, true, false, ⊎_elim, refl, arith, ap,
 use Rattle.std.proofs.Math.Bool.{cond}
 use Rattle.std.proofs.lemmas.Bool.{cases_Bool}
 use Rattle.sctp_outbound_queue.proofs.FirstOutstanding.{item_there, none_past}
+use Rattle.sctp_outbound_queue.proofs.FlyingBytes.{flying_resent, flying_room}
 use Rattle.sctp_outbound_queue.proofs.QueuedBytes.{kept_resent}
 use Rattle.sctp_outbound_queue.proofs.Fronts.{alike_at, front_alike, order_alike, outline, outline_resent}
 use Rattle.sctp_outbound_queue.proofs.queue.OutboundQueue.resend.Goals as goal
@@ -25,6 +26,8 @@ invariant_of-self c =
       c.settle.ensures c.self.inside.in_flight.items c.self.invariant.1,
       front_alike c.self.inside.front c.self.inside.in_flight.items _ alike c.self.invariant.2,
       order_alike c.self.inside.in_flight.items _ c.self.inside.pending c.self.inside.next_message_id alike c.self.invariant.3,
+      flying_resent c.self.inside.in_flight.items c.args.index _ c.self.invariant.4 there c.flying_bytes.ensures
+          c.flying_bytes-in-Some.ensures,
     )
 
 pub returns-in-Some : goal.returns-in-Some
@@ -40,3 +43,12 @@ returns-in_default c =
       none_past c.self.inside.in_flight.items c.args.index
           (λ l. c.in_default.ensures.variant.1 (omega (arith, l, c.self.inside.in_flight.ok.0))),
     ) refl
+
+pub overflow_add-self-in-Some : goal.overflow_add-self-in-Some
+overflow_add-self-in-Some c =
+    let item = c.in-Some.ensures.item in
+    let there = item_there c.self.inside.in_flight.items c.args.index c.in-Some.piece.now item.3.0 item.1 in
+    let small =
+    flying_room c.args.by c.self.inside.in_flight.items c.args.index c.self.invariant.4 c.self.invariant.0.1
+    (omega (arith, c.self.invariant.0.2)) there c.resend.ensures c.flying_bytes.ensures c.flying_bytes-in-Some.ensures in
+    omega (arith, small)

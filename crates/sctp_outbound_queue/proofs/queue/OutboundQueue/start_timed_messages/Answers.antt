@@ -1,5 +1,6 @@
 use Rattle.std.proofs.Common.{arith, sym, ◌∙◌}
 use Rattle.sctp_outbound_queue.proofs.QueuedBytes.{kept_started}
+use Rattle.sctp_outbound_queue.proofs.FlyingBytes.{flying_started}
 use Rattle.sctp_outbound_queue.proofs.StandingPieces.{standing_started}
 use Rattle.sctp_outbound_queue.proofs.Timely.{all_started_already, sent_run_already}
 use Rattle.sctp_outbound_queue.proofs.Fronts.{front_started}
@@ -24,6 +25,7 @@ invariant_of-self c = (
       c.start_sent-next_sent.ensures.started c.self.invariant.2),
   order_started c.args.now c.self.inside.in_flight.items c.start_sent-next_sent.new.pieces.items c.self.inside.pending c.start-next.new.self c.self.inside.next_message_id
       c.start_sent-next_sent.ensures.started c.start-next.ensures.started c.self.invariant.3,
+  flying_started c.args.now c.self.inside.in_flight.items c.self.invariant.4 c.start_sent-next_sent.ensures.started,
 )
 
 pub returns-then-self : goal.returns-then-self
