@@ -40,6 +40,7 @@ static const struct {
     CASE(heap),
     CASE(burst),
     CASE(burst_full),
+    CASE(max_burst),
     CASE(bottleneck),
     CASE(no_rto),
     CASE(two_tags),

@@ -239,18 +239,24 @@ static void heap(void) {
 
 /* ---- Retransmission ---- */
 
-/* So many messages in flight are lost all at once, where the congestion window is as large, and T3-rtx expires. Answers
- * how many datagrams go out then. */
-static uint64_t lose_flight(unsigned count) {
+/* How many bytes of A are in flight. */
+static uint64_t flight(void) {
     sctp_assoc_path_values path;
+    CHECK(done(sctp_assoc_path(&ends[A], &path)));
+    return path.bytes_in_flight;
+}
+
+/* A sends until so many bytes are in flight. All that is on the way is lost, and T3-rtx expires. Answers how many
+ * datagrams go out then. */
+static uint64_t lose_flight(uint64_t least) {
     join();
-    CHECK(opens(A, STREAM) && writes_many(A, STREAM, LONG, 60));
-    pass(20000);
-    CHECK(is_acknowledged(A, STREAM));
-    is_black = true;
-    CHECK(writes_many(A, STREAM, LONG, count));
-    is_black = false;
-    CHECK(done(sctp_assoc_path(&ends[A], &path)) && path.bytes_in_flight == (uint64_t)count * LONG);
+    CHECK(opens(A, STREAM) && writes_many(A, STREAM, LONG, 100));
+    for (int i = 0; flight() < least; i++) {
+        CHECK(i < 2000);
+        pass(1);
+    }
+    while (first_on_way)
+        free(take_first());
     now = due_at(A);
     uint64_t sent_before = watches[A].datagrams_sent;
     turn(A);
@@ -259,15 +265,32 @@ static uint64_t lose_flight(unsigned count) {
 
 /* After T3-rtx expired one packet goes out (RFC 4960 sections 6.3.3, rule E3, and 7.2.3). */
 static void burst(void) {
-    HOLDS(lose_flight(15) == 1);
+    HOLDS(lose_flight(15 * LONG) == 1);
     HOLDS(is_acknowledged_within(A, STREAM, 3000));
     end_pair();
 }
 
 /* The same where the flight filled the peer's window: it is soon sent again. */
 static void burst_full(void) {
-    HOLDS(lose_flight(16) == 1);
+    HOLDS(lose_flight(16 * LONG - PAYLOAD_SIZE) == 1);
     HOLDS(is_acknowledged_within(A, STREAM, 3000));
+    end_pair();
+}
+
+/* At most four packets of new DATA go beyond what came (Max.Burst, RFC 4960 section 6.1, rule D): from idle, where the
+ * windows are large, and behind each SACK of two packets. */
+static void max_burst(void) {
+    join();
+    CHECK(opens(A, STREAM) && writes_many(A, STREAM, LONG, 60));
+    HOLDS(is_acknowledged_within(A, STREAM, 3000));
+    uint64_t sent_before = watches[A].datagrams_sent;
+    CHECK(writes_many(A, STREAM, LONG, 10));
+    HOLDS(watches[A].datagrams_sent - sent_before == 4);
+    turn(A);
+    HOLDS(watches[A].datagrams_sent - sent_before == 4);
+    pass(2 * CASE_DELAY / MS);
+    HOLDS(watches[A].datagrams_sent - sent_before <= 4 + 2 * (2 + 4));
+    HOLDS(is_acknowledged_within(A, STREAM, 1000));
     end_pair();
 }
 

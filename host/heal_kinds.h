@@ -76,8 +76,6 @@ static const struct {
     uint32_t kinds;
     const char *why;
 } open_cases[] = {
-    {"burst", 0, "After T3-rtx expired, marked DATA goes out in one poll after another past the congestion window."},
-    {"burst_full", 0, "DATA that is marked to go out again counts as outstanding against the peer's window."},
     {"heap", 0, "Queues keep the room of the greatest length that they had."},
 };
 

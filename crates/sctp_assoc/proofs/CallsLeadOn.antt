@@ -32,9 +32,10 @@ use Rattle.sctp_inbound.specs.declared.handshake.Offer.{Offer}
 use Rattle.sctp_inbound.specs.Greeting.{first_cookie, information_of}
 use Rattle.sctp_inbound.specs.Handshake.{comes_back, has_issued}
 use Rattle.sctp_inbound.specs.Receiver.{past_of}
-use Rattle.sctp_outbound_queue.specs.Outbound.{Outbound, outstanding_of}
+use Rattle.sctp_outbound_queue.specs.Outbound.{Outbound}
 use Rattle.sctp_wire_types.specs.declared.chunk.GapAckBlock.{GapAckBlock}
-use Rattle.sctp_outbound.specs.Sacks.{all_acknowledged, before_acknowledging, progress_of, reports_of, sack_taken}
+use Rattle.sctp_outbound.specs.Sacks.{all_acknowledged, before_acknowledging, brought_by, progress_of, reports_of}
+use Rattle.sctp_outbound.specs.Sacks.{sack_taken}
 use Rattle.sctp_outbound.proofs.MissingPieces.{reports_are}
 use Rattle.sctp_outbound.specs.declared.sender.Sender.{Sender}
 use Rattle.sctp_outbound.specs.declared.progress.Progress.{Progress}
@@ -146,8 +147,7 @@ reported_parts a cumulative_tsn_ack blocks window now h within small =
       history = record h { base = h.base + n };
     }))
     (sym (reports_are a.sender cumulative_tsn_ack blocks window now a.estimate a.streams n
-    (outstanding_of a.sender.queue.in_flight)
-    refl))
+    (brought_by a.sender cumulative_tsn_ack blocks) refl))
 
 -- where a SACK leads
 module _ (a : Shown) (cumulative_tsn_ack : ℕ) (blocks : List GapAckBlock) (window : ℕ) (trigger : AckTrigger)
@@ -304,7 +304,7 @@ module _ (a : Shown) (trigger : AckTrigger) (h : History) (binds : Binds a h) wh
   kind_leads : (header : CommonHeader) (c : Chunk) (now : ℕ)
       → (k : History) × Leads (acts_of_kind a header c) a h (dispatched a header c trigger now).0 k
   kind_leads header (chunks.Data piece) now =
-      data_leads a piece trigger h binds
+      data_leads a piece _ h binds
   kind_leads header (chunks.SelectiveAck sack) now =
       sack_leads a sack.cumulative_tsn_ack sack.gap_ack_blocks sack.advertised_receiver_window_credit trigger now h
       binds (sends_data a.state) refl

@@ -14,7 +14,7 @@ use Rattle.sctp_outbound_queue.specs.Message.{counted_again, is_outstanding, pic
 use Rattle.sctp_outbound_queue.specs.Outbound.{Outbound, pieces_waiting, sent_next, tsn_at}
 use Rattle.sctp_streams.specs.Streams.{StreamMap}
 use Rattle.sctp_outbound.specs.declared.sender.Sender.{Sender}
-use Rattle.sctp_outbound.specs.Sender.{alone_length_of, both_windows, window_left, can_send_next}
+use Rattle.sctp_outbound.specs.Sender.{alone_length_of, both_windows, can_send_next, resend_window}
 use Rattle.sctp_outbound.specs.Sender.{chunk_of, first_chunk}
 use Rattle.sctp_outbound.specs.Sender.{after_marked, after_missing, fast_room, marked_by, missing_by}
 use Rattle.sctp_outbound.specs.Sender.{first_counted, fits_windows, resends_alone, resent_chunks}
@@ -161,7 +161,7 @@ marks_give_if : (alone : Bool) (s : Sender) (m : StreamMap) (h : History) → s.
     (if alone then first_chunk s.queue.first_tsn s.queue.in_flight else
     resent_chunks causes.Timer s.queue.first_tsn 0 (both_windows s) s.queue.in_flight)
 marks_give_if true s m h tied right alone =
-    first_again_gives s.queue.in_flight (window_left s) (sending s m h) refl tied right alone
+    first_again_gives s.queue.in_flight (resend_window s) (sending s m h) refl tied right alone
 marks_give_if false s m h tied right alone =
     resending causes.Timer s.queue.in_flight [] (both_windows s) (sending s m h) refl tied right
 

@@ -2,7 +2,7 @@
 use Rattle.std.proofs.Common.{refl, ℕ, Bool, true, false, [], ◌∷◌}
 use Rattle.sctp_parts.specs.declared.timer.Timer.TheVariants as names
 use Rattle.sctp_parts.specs.Timers.{without_retries}
-use Rattle.sctp_outbound_queue.specs.Outbound.{all_marked}
+use Rattle.sctp_outbound.specs.Sender.{probe_marked}
 use Rattle.sctp_directions.specs.Acts.{Act, History}
 use Rattle.sctp_assoc.specs.Happened.{marks_if}
 use Rattle.sctp_assoc.specs.Leads.{Binds, Leads}
@@ -10,11 +10,10 @@ use Rattle.sctp_assoc.specs.Probes.{answers_probes, forgiven_if, marked_if, open
 use Rattle.sctp_assoc.specs.Shown.{Shown}
 use Rattle.sctp_assoc.proofs.Leading.{leads_by, leads_nowhere, leads_on, past_itself}
 
--- what holds still once the retries of T3-rtx are forgotten, and once all that is outstanding is marked
+-- what holds still once the retries of T3-rtx are forgotten, and once a probe is marked
 module _ (P : Shown → Type 0)
     (forgiven : (a : Shown) → P a → P (record a { timers = without_retries names.T3RTX a.timers }))
-    (marked : (a : Shown) → P a
-    → P (record a { sender = (let s = a.sender in record s { queue = all_marked s.queue }) }))
+    (marked : (a : Shown) → P a → P (record a { sender = probe_marked a.sender }))
   where
     forgiven_keeps : (c : Bool) (a : Shown) → P a → P (forgiven_if c a)
     forgiven_keeps true a p = forgiven a p

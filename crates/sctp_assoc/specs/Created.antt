@@ -56,7 +56,7 @@ fresh_association config size remote_addr local_ip side state handshake peer_las
   profile = unwrap_or config.profile profiles.Port;
   handshake = handshake;
   receiver = fresh_receiver config.max_receive_buffer_size config.max_receive_message_size peer_last_tsn;
-  sender = fresh_sender size handshake.my_initial_tsn window;
+  sender = fresh_sender (unwrap_or config.profile profiles.Port) size handshake.my_initial_tsn window;
   streams = no_stream;
   to_accept = [];
   events = [];

@@ -8,6 +8,7 @@ use Rattle.sctp_outbound_queue.specs.Outbound.{all_marked}
 use Rattle.sctp_outbound.specs.declared.congestion.CongestionWindow.{CongestionWindow}
 use Rattle.sctp_outbound.specs.declared.sender.Sender.{Sender}
 use Rattle.sctp_outbound.specs.Congestion.{timed_out}
+use Rattle.sctp_outbound.specs.Sender.{after_t3_timeout, probe_marked}
 use Rattle.sctp_assoc.specs.Shown.{Shown}
 
 -- By the rules of the RFCs a piece that is in flight alone is a probe while the peer's window, as its last SACK told
@@ -21,9 +22,21 @@ abbrev pub congestion_behind : Bool → Sender → CongestionWindow
 congestion_behind true s = s.congestion
 congestion_behind false s = timed_out s.mtu s.congestion
 
+-- a probe leaves the sender as it was, and else it is as T3-rtx leaves it
+abbrev pub sender_behind : Bool → Sender → Sender
+sender_behind true s = s
+sender_behind false s = after_t3_timeout s
+
 -- all that is outstanding is to be sent again (RFC 4960 section 6.3.3), which may be a probe
 abbrev pub timed_out_by : Bool → Sender → Sender
-timed_out_by probing s = record s { queue = all_marked s.queue; congestion = congestion_behind probing s }
+timed_out_by probing s = record s {
+  queue = all_marked s.queue;
+  congestion = congestion_behind probing s;
+  recovery_exit = (sender_behind probing s).recovery_exit;
+  is_fast_due = (sender_behind probing s).is_fast_due;
+  is_after_timeout = (sender_behind probing s).is_after_timeout;
+  burst_room = (sender_behind probing s).burst_room;
+}
 
 abbrev pub timed_out_sender : Shown → Sender
 timed_out_sender a = timed_out_by (is_probing a.profile a.sender) a.sender
@@ -44,7 +57,7 @@ forgiven_if false a = a
 
 -- what is outstanding is to be sent again
 abbrev pub marked_if : Bool → Shown → Shown
-marked_if true a = record a { sender = (let s = a.sender in record s { queue = all_marked s.queue }) }
+marked_if true a = record a { sender = probe_marked a.sender }
 marked_if false a = a
 
 -- What a SACK with this window does about probes, where what was in flight before it was one or not: it answers them,

@@ -310,7 +310,7 @@ impl Association {
                 config.max_receive_message_size(),
                 peer_last_tsn,
             ),
-            sender: Sender::new(alloc, max_payload_size, initial_tsn, window),
+            sender: Sender::new(alloc, profile, max_payload_size, initial_tsn, window),
             streams: Streams::new(alloc),
             to_accept: VecDeque::new(alloc),
             events: Events::new(alloc),

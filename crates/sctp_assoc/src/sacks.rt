@@ -72,7 +72,7 @@ impl Association {
             self.timers.reset_retrans(Timer::T3RTX);
         }
         if opens_window(probing, window) {
-            self.sender.queue.mark_all_to_retransmit();
+            self.sender.mark_probe();
         }
     }
 

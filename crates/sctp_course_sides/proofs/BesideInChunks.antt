@@ -417,7 +417,7 @@ reconfig_keeps a reconfig trigger =
 
 kind_keeps : (header : CommonHeader) (chunk : Chunk) (a : Shown) (trigger : AckTrigger) (now : ℕ)
     → Keeps a (dispatched a header chunk trigger now).0
-kind_keeps header (chunks.Data piece) a trigger now = data_keeps a piece trigger
+kind_keeps header (chunks.Data piece) a trigger now = data_keeps a piece _
 kind_keeps header (chunks.SelectiveAck k) a trigger now =
     sack_keeps (sends_data a.state) a k.cumulative_tsn_ack k.gap_ack_blocks k.advertised_receiver_window_credit trigger
     now refl

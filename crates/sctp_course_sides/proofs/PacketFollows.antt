@@ -117,7 +117,7 @@ module _ (P : ChunkPayloadData → Type 0) (initial id : ℕ) where
       → Follows P initial id a h c
       → LeadsFollowing P initial id (dispatched a header chunk trigger now).0 c
   kind_follows a h c header (chunks.Data piece) trigger now other came so shakes f =
-      data_follows P initial id piece trigger so a h c came f
+      data_follows P initial id piece _ so a h c came f
   kind_follows a h c header (chunks.SelectiveAck x) trigger now other came so shakes f = absurd other
   kind_follows a h c header (chunks.Init x) trigger now other came so shakes f = absurd shakes
   kind_follows a h c header (chunks.InitAck x) trigger now other came so shakes f = absurd shakes

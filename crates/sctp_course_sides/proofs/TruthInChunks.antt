@@ -208,7 +208,7 @@ module _ (initial id : ℕ) (c d : Course) (few : length c.asked < 2 ^ 31) (smal
   kind_steps : (header : CommonHeader) (k : Chunk) (a : Shown) (trigger : AckTrigger) (now : ℕ) → IsNoGreeting k
       → ChunkComes initial id c k → Steps initial d 2 a (dispatched a header k trigger now).0
   kind_steps header (chunks.Data piece) a trigger now plain comes =
-      at_least_two initial d a _ (data_steps initial d a piece trigger)
+      at_least_two initial d a _ (data_steps initial d a piece _)
   kind_steps header (chunks.SelectiveAck k) a trigger now plain comes =
       still initial d 2 a _
       (sack_stays initial d (sends_data a.state) a k.cumulative_tsn_ack k.gap_ack_blocks

@@ -348,7 +348,7 @@ module _ {Open : GenerationsView → PeerView → Type 0} {T : GenerationsView �
 
   dispatched_carries : (a : Shown) (header : CommonHeader) (c : Chunk) (trigger : AckTrigger) (now : ℕ)
       → IsOpen a → HoldsWhereThere IsOpen (between_params c a) → Carries T a (dispatched a header c trigger now).0
-  dispatched_carries a header (chunks.Data piece) trigger now opens inside = on_data_carries rules a piece trigger
+  dispatched_carries a header (chunks.Data piece) trigger now opens inside = on_data_carries rules a piece _
   dispatched_carries a header (chunks.SelectiveAck k) trigger now opens inside =
       sack_carries (sends_data a.state) a k.cumulative_tsn_ack k.gap_ack_blocks k.advertised_receiver_window_credit
       trigger now refl

@@ -6,24 +6,25 @@ use Rattle.sctp_received.specs.Received.{is_named}
 use Rattle.sctp_parts.specs.Estimate.{Estimate}
 use Rattle.sctp_streams.specs.Streams.{StreamMap}
 use Rattle.sctp_outbound_queue.specs.declared.message.InFlight.{InFlight}
-use Rattle.sctp_outbound_queue.specs.Outbound.{outstanding_of}
+use Rattle.sctp_outbound_queue.specs.Outbound.{marked_of, outstanding_of}
+use Rattle.sctp_outbound.specs.declared.growth.Brought.{Brought}
+use Rattle.sctp_outbound.specs.declared.progress.Progress.{Progress}
 use Rattle.sctp_outbound.specs.declared.sender.Sender.{Sender}
 use Rattle.sctp_outbound.specs.Progress.{last_new}
 use Rattle.sctp_outbound.specs.GapAcks.{acked_among, with_blocks}
 use Rattle.sctp_outbound.specs.Recovery.{in_front_of, missing_of, past_recovery}
-use Rattle.sctp_outbound.specs.Sacks.{all_acknowledged, before_acknowledging, grown_by, newest_of, reported_by}
-use Rattle.sctp_outbound.specs.Sacks.{reports_of}
-use Rattle.sctp_outbound.specs.Sacks.{sack_taken}
+use Rattle.sctp_outbound.specs.Sacks.{all_acknowledged, before_acknowledging, brought_by, grown_by, newest_of}
+use Rattle.sctp_outbound.specs.Sacks.{progress_of, reported_by, reports_of, sack_taken}
 use Rattle.sctp_outbound.specs.Sender.{acknowledged, after_first, sender_after, sender_after_first, tsns_up_to}
 use Rattle.sctp_outbound.specs.Sender.{with_in_flight}
 use Rattle.sctp_outbound.proofs.NewPieces.{left_behind}
 
--- all that a SACK does, where it acknowledges so many, so many bytes were outstanding, and this is the last index that
--- its blocks newly acknowledge
-abbrev pub done_by : ℕ → ℕ → Option ℕ → List GapAckBlock → ℕ → ℕ → Sender → Estimate → StreamMap
+-- all that a SACK does, where it acknowledges so many, brings this, and this is the last index that its blocks newly
+-- acknowledge
+abbrev pub done_by : ℕ → Brought → Option ℕ → List GapAckBlock → ℕ → ℕ → Sender → Estimate → StreamMap
     → Sender × Estimate × StreamMap
-done_by n before last blocks window now s e m =
-    reported_by (nat_lt 0 n) last (grown_by (nat_lt 0 n) before (all_acknowledged n blocks window now s e m))
+done_by n brought last blocks window now s e m =
+    reported_by (nat_lt 0 n) last (grown_by brought (all_acknowledged n blocks window now s e m))
 
 -- What a SACK reports missing is decided by what its cumulative TSN ack leaves in flight.
 
@@ -57,26 +58,34 @@ blocks_length : (now : ℕ) (blocks : List GapAckBlock) (x : Sender × Estimate 
     → length (with_blocks now blocks x).0.queue.in_flight ≡ length x.0.queue.in_flight
 blocks_length now blocks (s, e, m) = acked_length (λ j. is_named (j + 1) blocks) 0 s.queue.in_flight
 
+-- what it brings, by its parts
+pub brought_is : {n k before : ℕ} {p : Progress} (s : Sender) (cumulative_tsn_ack : ℕ) (blocks : List GapAckBlock)
+    → n ≡ tsns_up_to s cumulative_tsn_ack → p ≡ progress_of s cumulative_tsn_ack blocks
+    → k ≡ marked_of s.queue.in_flight → before ≡ outstanding_of s.queue.in_flight
+    → record { moved = nat_lt 0 n; any_new = p.any_new; any_marked = nat_lt 0 k; before = before }
+    ≡ brought_by s cumulative_tsn_ack blocks
+brought_is s cumulative_tsn_ack blocks count progress marks bytes = rw (count, progress, marks, bytes) refl
+
 -- A SACK is taken in.
 module _ (s : Sender) (cumulative_tsn_ack : ℕ) (blocks : List GapAckBlock) (window now : ℕ) (e : Estimate)
     (m : StreamMap) where
-  pub counts_with : {n before : ℕ} {last : Option ℕ} → n ≡ tsns_up_to s cumulative_tsn_ack
-      → before ≡ outstanding_of s.queue.in_flight → last ≡ newest_of s cumulative_tsn_ack blocks
-      → sack_taken cumulative_tsn_ack blocks window now s e m ≡ done_by n before last blocks window now s e m
-  counts_with {n = n} {before = before} count bytes newest =
-      ap (λ k. done_by k (outstanding_of s.queue.in_flight) (newest_of s cumulative_tsn_ack blocks) blocks window now
-      s e m) (sym count)
-      ∙ ap (λ b. done_by n b (newest_of s cumulative_tsn_ack blocks) blocks window now s e m) (sym bytes)
-      ∙ ap (λ l. done_by n before l blocks window now s e m) (sym newest)
+  pub counts_with : {n : ℕ} {brought : Brought} {last : Option ℕ} → n ≡ tsns_up_to s cumulative_tsn_ack
+      → brought ≡ brought_by s cumulative_tsn_ack blocks → last ≡ newest_of s cumulative_tsn_ack blocks
+      → sack_taken cumulative_tsn_ack blocks window now s e m ≡ done_by n brought last blocks window now s e m
+  counts_with {n = n} {brought = brought} count brings newest =
+      ap (λ k. done_by k (brought_by s cumulative_tsn_ack blocks) (newest_of s cumulative_tsn_ack blocks) blocks
+      window now s e m) (sym count)
+      ∙ ap (λ b. done_by n b (newest_of s cumulative_tsn_ack blocks) blocks window now s e m) (sym brings)
+      ∙ ap (λ l. done_by n brought l blocks window now s e m) (sym newest)
 
-  pub reports_are : (n before : ℕ) → n ≡ tsns_up_to s cumulative_tsn_ack
+  pub reports_are : (n : ℕ) (brought : Brought) → n ≡ tsns_up_to s cumulative_tsn_ack
       → missing_of (nat_lt 0 n) (newest_of s cumulative_tsn_ack blocks)
-      (grown_by (nat_lt 0 n) before (all_acknowledged n blocks window now s e m)).0
+      (grown_by brought (all_acknowledged n blocks window now s e m)).0
       ≡ reports_of s cumulative_tsn_ack blocks
-  reports_are n before count =
+  reports_are n brought count =
       let x = acknowledged n now (before_acknowledging n window s, e, m) in
       same_missing (nat_lt 0 n) (newest_of s cumulative_tsn_ack blocks)
-      (grown_by (nat_lt 0 n) before (with_blocks now blocks x)).0
+      (grown_by brought (with_blocks now blocks x)).0
       (with_in_flight (past_recovery n s) (drop n s.queue.in_flight))
       (blocks_exit now blocks x ∙ exit_stays n now (before_acknowledging n window s) e m)
       (blocks_length now blocks x ∙ ap length (left_behind n now (before_acknowledging n window s) e m))

@@ -21,8 +21,8 @@ use Rattle.sctp_outbound.specs.declared.sender.Attempt.{Attempt}
 use Rattle.sctp_outbound.specs.declared.sender.Attempt.TheVariants as attempts
 use Rattle.sctp_outbound.specs.declared.sender.Sender.{Sender}
 use Rattle.sctp_outbound.specs.Abandonment.{is_spent, looks_for, next_given_up, reached_at, spent_index}
-use Rattle.sctp_outbound.specs.Sender.{after_marked, alone_length_of, both_windows, chunk_of, marked_by, resends_alone}
-use Rattle.sctp_outbound.specs.Sender.{resent_chunks, resent_pieces, tried_again, window_left, with_in_flight}
+use Rattle.sctp_outbound.specs.Sender.{after_marked, alone_length_of, both_windows, chunk_of, marked_by, resend_window}
+use Rattle.sctp_outbound.specs.Sender.{resends_alone, resent_chunks, resent_pieces, tried_again, with_in_flight}
 use Rattle.sctp_outbound.proofs.GivenUp.{GivesUpOn, pass_step}
 use Rattle.sctp_outbound.proofs.MarkedPieces.{all_stay, none_of, none_resent}
 use Rattle.sctp_outbound.proofs.SenderSteps.{ResendsOn, chunks_sent, chunks_skip, drop_get, pieces_skip}
@@ -231,12 +231,12 @@ not_alone window (p ∷ ps) none = rw (none_of p ps none).0 refl
 
 pub unmarked_stay : (s : Sender) → marked_of s.queue.in_flight ≡ 0 → after_marked s ≡ s
 unmarked_stay s none =
-    let alone : resends_alone s ≡ false = not_alone (window_left s) s.queue.in_flight none in
+    let alone : resends_alone s ≡ false = not_alone (resend_window s) s.queue.in_flight none in
     rw alone (ap (with_in_flight s) (all_stay (both_windows s) s.queue.in_flight none))
 
 pub none_marked : (s : Sender) → marked_of s.queue.in_flight ≡ 0 → marked_by s ≡ []
 none_marked s none =
-    let alone : resends_alone s ≡ false = not_alone (window_left s) s.queue.in_flight none in
+    let alone : resends_alone s ≡ false = not_alone (resend_window s) s.queue.in_flight none in
     rw alone (none_resent s.queue.first_tsn 0 (both_windows s) s.queue.in_flight none)
 
 -- what is given up

@@ -10,7 +10,7 @@ use Rattle.sctp_outbound_queue.specs.Message.{picks, room_taken}
 use Rattle.sctp_outbound_queue.specs.Outbound.{marked_of}
 use Rattle.sctp_outbound.specs.declared.sender.Sender.{Sender}
 use Rattle.sctp_outbound.specs.Sender.{after_marked, alone_length_of, both_windows, fast_room, first_counted}
-use Rattle.sctp_outbound.specs.Sender.{missing_counted, resends_alone, resent_pieces, window_left}
+use Rattle.sctp_outbound.specs.Sender.{missing_counted, resend_window, resends_alone, resent_pieces}
 use Rattle.sctp_outbound.specs.Abandonment.{first_spent, is_pass_due, is_spent, pass_room, spent_index}
 use Rattle.sctp_outbound.specs.Laws.{IsSparing, SpentAreSpared}
 use Rattle.sctp_outbound.proofs.MarkedPieces.{none_of}
@@ -93,7 +93,7 @@ marked_spared s e =
     let none = marked_index s e in
     ⊎_elim
     (λ (a : resends_alone s ≡ true).
-    rw a (alone (window_left s) (both_windows s) s.queue.in_flight a none))
+    rw a (alone (resend_window s) (both_windows s) s.queue.in_flight a none))
     (λ (a : resends_alone s ≡ false).
     rw a (sparing causes.Timer 0 (both_windows s) s.queue.in_flight none))
     (cases_Bool (resends_alone s))

@@ -71,7 +71,7 @@ spent_index k index room [] = None
 spent_index k index room (p ∷ ps) =
     spent_from (reached_at k room p) index (λ left. spent_index k (index + 1) left ps)
 
--- the room of a pass at its start: the lesser of both windows, or that of one packet. A first piece that goes alone is
+-- the room of a pass at its start: that of marked DATA, or that of one packet. A first piece that goes alone may be
 -- longer than that
 abbrev pub pass_room : Retransmission → Sender → ℕ
 pass_room causes.Timer s = both_windows s

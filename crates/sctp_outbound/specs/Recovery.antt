@@ -3,8 +3,9 @@ use Rattle.std.specs.Prelude.{ℕ, ◌&&◌, ◌||◌, not, Bool, false, length,
 use Rattle.std.specs.Prelude.{Some, None}
 use Rattle.std.specs.List.{list_any}
 use Rattle.sctp_serial.specs.Serial.{tsn_past}
+use Rattle.sctp_wire_types.specs.Config.{is_rfc}
 use Rattle.sctp_outbound_queue.specs.Message.{is_third_report}
-use Rattle.sctp_outbound_queue.specs.Outbound.{tsn_at, with_missing}
+use Rattle.sctp_outbound_queue.specs.Outbound.{marked_of, tsn_at, with_missing}
 use Rattle.sctp_outbound.specs.declared.sender.Sender.{Sender}
 use Rattle.sctp_outbound.specs.Congestion.{halved}
 
@@ -33,10 +34,14 @@ abbrev pub missing_of : Bool → Option ℕ → Sender → ℕ
 missing_of moved last s =
     if recovers s then (if moved then length s.queue.in_flight else 0) else in_front_of last
 
--- the reports find a loss: one of the first n in flight is reported missing for the third time, and none is recovered
--- from
+-- no loss is found beside this: one is recovered from, or, by the rules of the RFCs, what T3-rtx marked is still to go
+-- again
+abbrev pub bars_loss : Sender → Bool
+bars_loss s = recovers s || (is_rfc s.profile && nat_lt 0 (marked_of s.queue.in_flight))
+
+-- the reports find a loss: one of the first n in flight is reported missing for the third time, and nothing bars it
 abbrev pub finds_loss : ℕ → Sender → Bool
-finds_loss n s = list_any is_third_report (take n s.queue.in_flight) && not (recovers s)
+finds_loss n s = list_any is_third_report (take n s.queue.in_flight) && not (bars_loss s)
 
 -- the first n in flight are reported missing, and where that finds a loss the congestion window falls and the TSN
 -- behind them ends the recovery

@@ -1,19 +1,22 @@
 -- What a SACK does that is taken (RFC 4960 sections 6.2.1 and 7.2).
-use Rattle.std.specs.Prelude.{ℕ, ◌+◌, ◌-◌, ◌||◌, Bool, List, Option, drop, length, if◌then◌else◌, is_some, nat_lt}
-use Rattle.std.specs.Prelude.{position}
+use Rattle.std.specs.Prelude.{ℕ, ◌+◌, ◌-◌, ◌^◌, ◌&&◌, ◌||◌, not, Bool, List, Option, drop, length, if◌then◌else◌}
+use Rattle.std.specs.Prelude.{is_some, max, min, nat_lt, position}
+use Rattle.sctp_wire_types.specs.Config.{is_rfc}
 use Rattle.sctp_wire_types.specs.declared.chunk.GapAckBlock.{GapAckBlock}
 use Rattle.sctp_parts.specs.Estimate.{Estimate}
 use Rattle.sctp_streams.specs.Streams.{StreamMap}
 use Rattle.sctp_received.specs.Received.{is_named}
 use Rattle.sctp_outbound_queue.specs.Message.{is_outstanding}
-use Rattle.sctp_outbound_queue.specs.Outbound.{outstanding_of}
+use Rattle.sctp_outbound_queue.specs.Outbound.{marked_of, outstanding_of}
+use Rattle.sctp_outbound.specs.declared.congestion.CongestionWindow.{CongestionWindow}
+use Rattle.sctp_outbound.specs.declared.growth.Brought.{Brought}
 use Rattle.sctp_outbound.specs.declared.progress.Progress.{Progress}
 use Rattle.sctp_outbound.specs.declared.sender.Sender.{Sender}
 use Rattle.sctp_outbound.specs.Congestion.{grown}
 use Rattle.sctp_outbound.specs.GapAcks.{with_blocks}
 use Rattle.sctp_outbound.specs.Recovery.{misses_counted, missing_of, past_recovery, recovers}
 use Rattle.sctp_outbound.specs.Progress.{acknowledges_at, any_new_up_to, last_new}
-use Rattle.sctp_outbound.specs.Sender.{acknowledged, tsns_up_to, with_in_flight, with_window}
+use Rattle.sctp_outbound.specs.Sender.{acknowledged, burst_of, tsns_up_to, with_in_flight, with_window}
 
 -- what a SACK acknowledges that was not acknowledged before
 abbrev pub progress_of : Sender → ℕ → List GapAckBlock → Progress
@@ -24,20 +27,42 @@ progress_of s cumulative_tsn_ack blocks =
       earliest = acknowledges_at count blocks (position is_outstanding pieces);
     }
 
--- DATA waits to be sent
-abbrev pub has_more : Sender → Bool
-has_more s = nat_lt 0 (length s.queue.pending)
-
--- the congestion window grows where the cumulative TSN ack point moved, by the bytes that are outstanding no more
-abbrev pub with_growth : Bool → ℕ → Sender → Sender
-with_growth moved before s = record s {
-  congestion = (if moved then
-      grown (before - outstanding_of s.queue.in_flight) (has_more s) (recovers s) s.mtu s.congestion
-      else s.congestion);
+-- what a SACK brings to a sender
+abbrev pub brought_by : Sender → ℕ → List GapAckBlock → Brought
+brought_by s cumulative_tsn_ack blocks = record {
+  moved = nat_lt 0 (tsns_up_to s cumulative_tsn_ack);
+  any_new = (progress_of s cumulative_tsn_ack blocks).any_new;
+  any_marked = nat_lt 0 (marked_of s.queue.in_flight);
+  before = outstanding_of s.queue.in_flight;
 }
 
-abbrev pub grown_by : Bool → ℕ → Sender × Estimate × StreamMap → Sender × Estimate × StreamMap
-grown_by moved before x = (with_growth moved before x.0, x.1, x.2)
+-- the bytes that it acknowledged
+abbrev pub acked_of : Brought → Sender → ℕ
+acked_of b s = b.before - outstanding_of s.queue.in_flight
+
+-- DATA waits to be sent, by the rules of the RFCs also what was marked to be sent again
+abbrev pub has_more : Brought → Sender → Bool
+has_more b s = nat_lt 0 (length s.queue.pending) || (is_rfc s.profile && b.any_marked)
+
+-- the congestion window grows where the cumulative TSN ack point moved, by the bytes that are outstanding no more
+abbrev pub congestion_grown : Brought → Sender → CongestionWindow
+congestion_grown b s =
+    if b.moved then grown (acked_of b s) (has_more b s) (recovers s) s.mtu s.congestion else s.congestion
+
+-- New DATA may take up four packets beyond what was acknowledged since a poll.
+abbrev pub burst_filled : Brought → Sender → ℕ
+burst_filled b s = min (max s.burst_room (burst_of s.mtu) + acked_of b s) (2 ^ 64 - 1)
+
+-- what a SACK lets go: the congestion window grows, and with it what new DATA may take up
+abbrev pub with_growth : Brought → Sender → Sender
+with_growth b s = record s {
+  congestion = congestion_grown b s;
+  is_after_timeout = s.is_after_timeout && not b.any_new;
+  burst_room = burst_filled b s;
+}
+
+abbrev pub grown_by : Brought → Sender × Estimate × StreamMap → Sender × Estimate × StreamMap
+grown_by b x = (with_growth b x.0, x.1, x.2)
 
 -- the last index of those that its cumulative TSN ack leaves in flight that a SACK newly acknowledges by its blocks
 abbrev pub newest_of : Sender → ℕ → List GapAckBlock → Option ℕ
@@ -73,4 +98,4 @@ abbrev pub sack_taken : ℕ → List GapAckBlock → ℕ → ℕ → Sender → 
 sack_taken cumulative_tsn_ack blocks window now s e m =
     let n = tsns_up_to s cumulative_tsn_ack in
     reported_by (nat_lt 0 n) (newest_of s cumulative_tsn_ack blocks)
-    (grown_by (nat_lt 0 n) (outstanding_of s.queue.in_flight) (all_acknowledged n blocks window now s e m))
+    (grown_by (brought_by s cumulative_tsn_ack blocks) (all_acknowledged n blocks window now s e m))

@@ -1,8 +1,10 @@
 -- The sender of DATA (RFC 4960 sections 6 and 7).
-use Rattle.std.specs.Prelude.{ℕ, is_some, zero, suc, not, nat_lt, ◌++◌, slice_set, Bool, false, List, [], ◌∷◌, ◌+◌, ◌-◌}
-use Rattle.std.specs.Prelude.{◌/◌, ◌%◌, ◌^◌, ◌==◌, ◌&&◌, ◌||◌, if◌then◌else◌, find, length, max, min, nat_le, slice_get}
-use Rattle.std.specs.Prelude.{Option, Some, None}
+use Rattle.std.specs.Prelude.{ℕ, is_some, zero, suc, not, nat_lt, ◌++◌, slice_set, Bool, true, false, List, []}
+use Rattle.std.specs.Prelude.{◌∷◌, ◌+◌, ◌-◌, ◌*◌, ◌/◌, ◌%◌, ◌^◌, ◌==◌, ◌&&◌, ◌||◌, if◌then◌else◌, find, length}
+use Rattle.std.specs.Prelude.{max, min, nat_le, slice_get, Option, Some, None}
 use Rattle.sctp_serial.specs.Serial.{tsn_past, tsn_gt, tsn_gte}
+use Rattle.sctp_wire_types.specs.Config.{is_rfc}
+use Rattle.sctp_wire_types.specs.declared.config.Profile.{Profile}
 use Rattle.sctp_wire_types.specs.declared.chunk.ChunkPayloadData.{ChunkPayloadData}
 use Rattle.sctp_wire_types.specs.declared.chunk.GapAckBlock.{GapAckBlock}
 use Rattle.sctp_parts.specs.declared.timer.Timer.TheVariants as names
@@ -11,10 +13,12 @@ use Rattle.sctp_parts.specs.Estimate.{Estimate, measured}
 use Rattle.sctp_outbound_queue.specs.declared.message.Attributes.{Attributes}
 use Rattle.sctp_outbound_queue.specs.declared.message.InFlight.{InFlight}
 use Rattle.sctp_outbound_queue.specs.Waiting.{Waiting}
-use Rattle.sctp_outbound_queue.specs.Message.{is_outstanding, outstanding_bytes, counted_again, picks, room_taken}
+use Rattle.sctp_outbound_queue.specs.Message.{is_outstanding, outstanding_bytes, counted_again, data_length, picks}
+use Rattle.sctp_outbound_queue.specs.Message.{room_taken}
 use Rattle.sctp_outbound_queue.specs.declared.message.Retransmission.{Retransmission}
 use Rattle.sctp_outbound_queue.specs.declared.message.Retransmission.TheVariants as causes
-use Rattle.sctp_outbound_queue.specs.Outbound.{empty_outbound, tsn_at, next_tsn_of, outstanding_of, without_first}
+use Rattle.sctp_outbound_queue.specs.Outbound.{empty_outbound, flying_of, tsn_at, next_tsn_of, outstanding_of}
+use Rattle.sctp_outbound_queue.specs.Outbound.{without_first}
 use Rattle.sctp_outbound_queue.specs.Outbound.{all_marked, marked_of, pieces_waiting, sent_next}
 use Rattle.sctp_streams.specs.Streams.{StreamMap, released_in}
 use Rattle.sctp_outbound.specs.Congestion.{first_congestion, timed_out}
@@ -26,8 +30,13 @@ use Rattle.sctp_outbound.specs.declared.sender.Attempt.TheVariants as attempts
 use Rattle.sctp_outbound.specs.declared.sender.SackOutcome.{SackOutcome}
 use Rattle.sctp_outbound.specs.declared.sender.SackOutcome.TheVariants as outcomes
 
-abbrev pub fresh_sender : ℕ → ℕ → ℕ → Sender
-fresh_sender size tsn window = record {
+-- the room of four packets behind their common headers: so much new DATA goes at most beyond what a SACK newly
+-- acknowledged (Max.Burst, RFC 4960 section 6.1, rule D)
+abbrev pub burst_of : ℕ → ℕ
+burst_of mtu = 4 * (mtu - 12)
+
+abbrev pub fresh_sender : Profile → ℕ → ℕ → ℕ → Sender
+fresh_sender profile size tsn window = record {
   queue = empty_outbound tsn;
   mtu = size + 28;
   max_payload_size = size;
@@ -37,6 +46,9 @@ fresh_sender size tsn window = record {
   recovery_exit = None;
   is_fast_due = false;
   is_forward_due = false;
+  profile = profile;
+  is_after_timeout = false;
+  burst_room = burst_of (size + 28);
 }
 
 -- the peer's receive window less the bytes in flight
@@ -127,9 +139,24 @@ abbrev pub with_window : Sender → ℕ → Sender
 with_window s window = record s { advertised_window = window }
 
 -- T3-rtx expired: all that is outstanding is to be sent again, and the congestion window falls to one packet (RFC 4960
--- sections 6.3.3 and 7.2.3)
+-- sections 6.3.3 and 7.2.3). By the rules of the RFCs that ends the recovery of a loss, and one piece goes until a SACK
+-- acknowledges something new.
+abbrev pub expired_by : Bool → Sender → Sender
+expired_by rfc s = record s {
+  queue = all_marked s.queue;
+  congestion = timed_out s.mtu s.congestion;
+  recovery_exit = (if rfc then None else s.recovery_exit);
+  is_fast_due = (if rfc then false else s.is_fast_due);
+  is_after_timeout = (if rfc then true else s.is_after_timeout);
+  burst_room = (if rfc then burst_of s.mtu else s.burst_room);
+}
+
 abbrev pub after_t3_timeout : Sender → Sender
-after_t3_timeout s = record s { queue = all_marked s.queue; congestion = timed_out s.mtu s.congestion }
+after_t3_timeout s = expired_by (is_rfc s.profile) s
+
+-- a probe of a closed window, which is all that is in flight, is to go again
+abbrev pub probe_marked : Sender → Sender
+probe_marked s = record s { queue = all_marked s.queue; is_after_timeout = false }
 
 -- T3-rtx, without retries where a TSN was acknowledged for the first time
 abbrev pub t3_forgiven : Bool → Timers → Timers
@@ -222,9 +249,14 @@ alone_length_of window None = None
 alone_length_of window (Some p) =
     if p.retransmit && nat_lt window (length p.user_data) then Some (length p.user_data) else None
 
+-- the peer's window for a first piece that is sent again: by the rules of the RFCs what is marked takes up none of it
+-- (RFC 4960 section 6.2.1, rule C)
+abbrev pub resend_window : Sender → ℕ
+resend_window s = if is_rfc s.profile then s.advertised_window else window_left s
+
 -- the length of the first piece in flight, where it is marked and the peer's window is too small for it
 abbrev pub alone_length : Sender → Option ℕ
-alone_length s = alone_length_of (window_left s) (slice_get s.queue.in_flight 0)
+alone_length s = alone_length_of (resend_window s) (slice_get s.queue.in_flight 0)
 
 -- the first piece in flight goes alone
 abbrev pub resends_alone : Sender → Bool
@@ -238,13 +270,29 @@ abbrev pub first_counted : List InFlight → List InFlight
 first_counted [] = []
 first_counted (p ∷ ps) = counted_again causes.Timer p ∷ ps
 
--- the lesser of the congestion window and what is left of the peer's window
-abbrev pub both_windows : Sender → ℕ
-both_windows s = min s.congestion.cwnd (window_left s)
+abbrev pub length_of : Option InFlight → ℕ
+length_of None = 0
+length_of (Some p) = length p.user_data
 
--- the DATA that the timer marked and that goes again: as many bytes of payload as the lesser of both windows, whatever
--- earlier polls sent again, or the first piece alone where the peer's window is too small for it (RFC 4960 section 6.1,
--- rule A)
+-- the first marked piece, where nothing flies
+abbrev pub first_room : Sender → ℕ
+first_room s =
+    if flying_of s.queue.in_flight == 0 then length_of (find (picks causes.Timer) s.queue.in_flight) else 0
+
+-- By the rules of the RFCs: after T3-rtx expired the first marked piece alone; and once a SACK acknowledged something
+-- new what both windows have room for beside what flies (RFC 4960 sections 6.2.1, rule C, 6.3.3, rule E3, and 7.2.3).
+abbrev pub room_by_rfcs : Sender → ℕ
+room_by_rfcs s =
+    if s.is_after_timeout then first_room s else
+    min s.congestion.cwnd s.advertised_window - flying_of s.queue.in_flight
+
+-- the bytes of payload that marked DATA may take up: by the rules of the port the lesser of the congestion window and
+-- what is left of the peer's window, whatever earlier polls sent again
+abbrev pub both_windows : Sender → ℕ
+both_windows s = if is_rfc s.profile then room_by_rfcs s else min s.congestion.cwnd (window_left s)
+
+-- the DATA that the timer marked and that goes again: as many bytes of payload as there is room for, or the first piece
+-- alone where the peer's window is too small for it (RFC 4960 section 6.1, rule A)
 abbrev pub marked_by : Sender → List ChunkPayloadData
 marked_by s =
     if resends_alone s then first_chunk s.queue.first_tsn s.queue.in_flight else
@@ -289,21 +337,39 @@ after_resending s = after_missing (after_marked s)
 abbrev pub resends : Sender → Bool
 resends s = nat_lt 0 (length (resent_by s))
 
+-- nothing that T3-rtx had go again is still to be answered
+abbrev pub is_past_timeout : Sender → Bool
+is_past_timeout s = not s.is_after_timeout || flying_of s.queue.in_flight == 0
+
+-- New DATA goes behind what is sent again: while a piece is marked none does, nor while one flies that T3-rtx had go
+-- again; and no more goes than Max.Burst allows (RFC 4960 section 6.1, rules C and D).
+abbrev pub allows_new : Sender → Waiting → Bool
+allows_new s m =
+    is_past_timeout s && marked_of s.queue.in_flight == 0
+    && nat_le (data_length (length m.user_data)) s.burst_room
+
 abbrev pub fits_windows : Sender → Option Waiting → Bool
 fits_windows s None = false
 fits_windows s (Some m) =
-    nat_le (min (outstanding_of s.queue.in_flight + length m.user_data) (2 ^ 64 - 1)) s.congestion.cwnd
-    && nat_le (length m.user_data) (window_left s)
+    (nat_le (min (outstanding_of s.queue.in_flight + length m.user_data) (2 ^ 64 - 1)) s.congestion.cwnd
+    && nat_le (length m.user_data) (window_left s))
+    && (not (is_rfc s.profile) || allows_new s m)
 
--- the next piece that waits is within the congestion window and the peer's window (RFC 4960 section 6.1)
+-- the next piece that waits is within the congestion window and the peer's window (RFC 4960 section 6.1), and by the
+-- rules of the RFCs nothing stands in front of it
 abbrev pub can_send_next : Sender → Bool
 can_send_next s = fits_windows s (slice_get s.queue.pending 0)
 
 -- the first of the pieces that wait goes out, under the next TSN
 unfoldable pub sent_one : List Waiting → Sender → ℕ → Sender × List ChunkPayloadData
 sent_one [] s now = (s, [])
-sent_one (m ∷ ms) s now =
-    (record s { queue = sent_next s.queue now }, next_chunk_of m (next_tsn_of s.queue) ∷ [])
+sent_one (m ∷ ms) s now = (
+  record s {
+    queue = sent_next s.queue now;
+    burst_room = s.burst_room - data_length (length m.user_data);
+  },
+  next_chunk_of m (next_tsn_of s.queue) ∷ [],
+)
 
 -- of the first n pieces that wait those go out, in the order in which they were accepted, that both windows have room
 -- for
@@ -315,12 +381,19 @@ sent_within (suc n) s now =
     let rest = sent_within n one.0 now in (rest.0, one.1 ++ rest.1))
     else (s, [])
 
--- the DATA that a poll sends for the first time: within both windows, or, with nothing in flight, one piece that probes
--- them (RFC 4960 section 6.1, rules A and B)
-abbrev pub sent_new : Sender → ℕ → Sender × List ChunkPayloadData
-sent_new s now =
+-- within both windows, or, with nothing in flight, one piece that probes them (RFC 4960 section 6.1, rules A and B)
+abbrev pub sent_probing : Sender → ℕ → Sender × List ChunkPayloadData
+sent_probing s now =
     if length s.queue.in_flight == 0 && not (can_send_next s) then sent_one s.queue.pending s now else
     sent_within (pieces_waiting s.queue.pending) s now
+
+-- what a SACK allowed beyond four packets and a poll did not use is gone
+abbrev pub with_burst_kept : Sender → Sender
+with_burst_kept s = record s { burst_room = min s.burst_room (burst_of s.mtu) }
+
+-- the DATA that a poll sends for the first time
+abbrev pub sent_new : Sender → ℕ → Sender × List ChunkPayloadData
+sent_new s now = (with_burst_kept (sent_probing s now).0, (sent_probing s now).1)
 
 -- DATA is sent for the first time
 abbrev pub sends_new : Sender → ℕ → Bool

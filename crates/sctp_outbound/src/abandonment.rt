@@ -239,7 +239,7 @@ impl Sender {
         ensures { result ≡ pass_room by self.now }
     {
         match by {
-            Retransmission::Timer => u64::from(self.congestion.cwnd.min(self.rwnd())),
+            Retransmission::Timer => self.marked_room(first),
             Retransmission::Fast => self.fast_room(first),
         }
     }

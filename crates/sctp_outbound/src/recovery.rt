@@ -1,7 +1,7 @@
 // Reports that TSNs are missing, and the recovery of a loss (RFC 4960 section 7.2.4).
 ghost use Rattle.std.specs.Prelude.{◌≡◌};
 ghost use Rattle.sctp_outbound.specs.Recovery.{finds_loss, misses_counted, missing_of, past_recovery, recovers};
-ghost use Rattle.sctp_outbound.specs.Recovery.{is_left, with_reports};
+ghost use Rattle.sctp_outbound.specs.Recovery.{bars_loss, is_left, with_reports};
 
 use crate::sender::Sender;
 
@@ -52,13 +52,20 @@ impl Sender {
         if moved { self.queue.inflight_len() } else { 0 }
     }
 
+    // Whether reports find no loss beside what is under way.
+    fn bars_loss(&self) -> bool
+        ensures { result ≡ bars_loss self.now }
+    {
+        self.recovers() || (self.is_by_rfcs() && self.queue.marked_len() > 0)
+    }
+
     fn report_missing(&mut self, count: usize)
         ensures { self.new ≡ with_reports count self.old }
     {
-        let recovers = self.recovers();
+        let is_barred = self.bars_loss();
         let exit = self.queue.tsn_at(count);
         let any_third = self.queue.report_missing(count);
-        if any_third && !recovers {
+        if any_third && !is_barred {
             self.recovery_exit = Some(exit);
             self.congestion.on_third_report(self.mtu);
             self.is_fast_due = true;

@@ -6,24 +6,23 @@ ghost use Rattle.sctp_outbound_queue.specs.Message.{picks};
 ghost use Rattle.sctp_outbound_queue.specs.Outbound.{marked_of};
 ghost use Rattle.sctp_wire.specs.DataPackets.{with_all};
 ghost use Rattle.sctp_outbound.specs.Sender.{after_marked, after_missing, alone_length, chunks_tried, fast_room};
+ghost use Rattle.sctp_outbound.specs.Sender.{both_windows, first_room, resend_window, room_by_rfcs};
 ghost use Rattle.sctp_outbound.specs.Sender.{goes_again, marked_by, missing_by, resent_chunks, resent_pieces};
 ghost use Rattle.sctp_outbound.specs.Sender.{tried_again, with_in_flight};
 
-use crate::sender::{Attempt, Sender, sent_chunk};
+use crate::sender::{Attempt, COMMON_HEADER, Sender, sent_chunk};
 use sctp_looks::Looks;
 use sctp_outbound_queue::Retransmission;
 use sctp_wire::DataPackets;
 use std::alloc::AllocError;
 
-/// Bytes of the common header of a packet (RFC 4960 section 3.1).
-const COMMON_HEADER: u32 = 12;
-
 impl Sender {
-    /// Sends marked DATA again, in TSN order (RFC 4960 section 6.3.3): at each call as many bytes of payload as the
-    /// lesser of the congestion window and what is left of the peer's window. What earlier calls sent again is not
-    /// taken off, and it may be several packets. Where the peer's window is too small for the first TSN in flight, that
-    /// one goes alone. It lacks memory only where a chunk is sent again. Looks for each TSN that it sends again and
-    /// once more; where nothing is marked it does not look.
+    /// Sends marked DATA again, in TSN order (RFC 4960 section 6.3.3). By `Profile::Port` it is at each call as many
+    /// bytes of payload as the lesser of the congestion window and what is left of the peer's window, whatever earlier
+    /// calls sent again. By `Profile::Rfc` it is the first marked piece alone until a SACK acknowledges something new,
+    /// and then what both windows have room for beside what flies. Where the peer's window is too small for the first
+    /// TSN in flight, that one goes alone. It lacks memory only where a chunk is sent again. Looks for each TSN that it
+    /// sends again and once more; where nothing is marked it does not look.
     pub fn resend_marked(
         &mut self,
         out: &mut DataPackets,
@@ -42,10 +41,48 @@ impl Sender {
             self.resend_at(Retransmission::Timer, 0, length, out)?;
             return Ok(());
         }
-        let window = self.congestion.cwnd.min(self.rwnd());
         let first = self.next_picked(Retransmission::Timer, 0, looks);
-        self.resend_within(Retransmission::Timer, first, u64::from(window), out, looks)?;
+        let room = self.marked_room(first);
+        self.resend_within(Retransmission::Timer, first, room, out, looks)?;
         Ok(())
+    }
+
+    // The bytes of payload that marked DATA may take up. `first` is the index of the first marked piece.
+    pub(crate) fn marked_room(&self, first: usize) -> u64
+        requires { first ≡ position_or_len (picks Retransmission.Timer) self.now.queue.in_flight }
+        ensures { result ≡ both_windows self.now }
+    {
+        if self.is_by_rfcs() {
+            self.room_by_rfcs(first)
+        } else {
+            u64::from(self.congestion.cwnd.min(self.rwnd()))
+        }
+    }
+
+    fn room_by_rfcs(&self, first: usize) -> u64
+        requires { first ≡ position_or_len (picks Retransmission.Timer) self.now.queue.in_flight }
+        ensures { result ≡ room_by_rfcs self.now }
+    {
+        if self.is_after_timeout {
+            return self.first_room(first);
+        }
+        let window = self.congestion.cwnd.min(self.advertised_window);
+        u64::from(window).saturating_sub(self.queue.flying_bytes())
+    }
+
+    // The length of the first marked piece, where nothing flies.
+    #[tactic(auto, using(std::proofs::lemmas::List::Folds::find_at))]
+    fn first_room(&self, first: usize) -> u64
+        requires { first ≡ position_or_len (picks Retransmission.Timer) self.now.queue.in_flight }
+        ensures { result ≡ first_room self.now }
+    {
+        if self.queue.flying_bytes() != 0 {
+            return 0;
+        }
+        match self.queue.get(first) {
+            Some(piece) => piece.user_data.len() as u64,
+            None => 0,
+        }
     }
 
     /// Sends again, where fast retransmission is due, one packet of the DATA that was sent once and is missing (RFC
@@ -105,10 +142,21 @@ impl Sender {
     {
         let piece = self.queue.get(0)?;
         let length = piece.user_data.len() as u64;
-        if piece.retransmit && u64::from(self.rwnd()) < length {
+        if piece.retransmit && u64::from(self.resend_window()) < length {
             Some(length)
         } else {
             None
+        }
+    }
+
+    // The peer's window for a first piece that is sent again, in bytes.
+    fn resend_window(&self) -> u32
+        ensures { result ≡ resend_window self.now }
+    {
+        if self.is_by_rfcs() {
+            self.advertised_window
+        } else {
+            self.rwnd()
         }
     }
 

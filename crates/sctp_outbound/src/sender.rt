@@ -9,27 +9,33 @@ ghost use Rattle.std.specs.Prelude.{OnErr, OnOk, IfOk, IfSome, length, slice_get
 ghost use Rattle.sctp_outbound.specs.Sender.{sends_new, fresh_sender, window_left};
 ghost use Rattle.sctp_outbound.specs.Sender.{marks};
 ghost use Rattle.sctp_outbound.specs.Sender.{cumulative_tsn_ack_point_of, tsns_up_to, after_first, acknowledged};
-ghost use Rattle.sctp_outbound.specs.Sacks.{progress_of, sack_taken, with_growth};
+ghost use Rattle.sctp_outbound.specs.Sacks.{progress_of, sack_taken};
 ghost use Rattle.sctp_outbound.specs.Progress.{any_new_up_to, is_new_piece};
 ghost use Rattle.sctp_outbound.specs.Sender.{after_t3_timeout};
 ghost use Rattle.sctp_outbound.specs.Sender.{sack_outcome, with_first_window, with_window, t3_after_sack, chunk_of};
 ghost use Rattle.sctp_outbound.specs.Sender.{next_chunk_of, data_of, can_send_next, is_measured};
 ghost use Rattle.sctp_wire.specs.DataPackets.{with_all};
-ghost use Rattle.sctp_outbound.specs.Sender.{sent_new, sent_within, sent_one};
+ghost use Rattle.sctp_outbound.specs.Sender.{allows_new, burst_of, is_past_timeout, sent_new, sent_probing};
+ghost use Rattle.sctp_outbound.specs.Sender.{probe_marked, sent_one, sent_within};
+ghost use Rattle.sctp_wire_types.specs.Config.{is_rfc};
 
 use crate::congestion::CongestionWindow;
+use crate::growth::Brought;
 use crate::progress::{Progress, is_new};
 use bytes::Bytes;
-use sctp_outbound_queue::{Attributes, InFlight, OutboundQueue, PendingMessage};
+use sctp_outbound_queue::{Attributes, InFlight, OutboundQueue, PendingMessage, data_length};
 use sctp_parts::estimate::RtoManager;
 use sctp_parts::timer::{Timer, TimerTable};
 use sctp_streams::{Fallen, Streams};
 use sctp_wire::{DataPackets, DataRef};
-use sctp_wire_types::{GapAckBlock, Instant, List, sna32gt, sna32gte};
+use sctp_wire_types::{GapAckBlock, Instant, List, Profile, sna32gt, sna32gte};
 use std::alloc::{AllocError, Global};
 
 /// Bytes that a packet may have beside the payload of one DATA chunk, without padding: common header and DATA header.
 const PACKET_OVERHEAD: u32 = 28;
+
+/// Bytes of the common header of a packet (RFC 4960 section 3.1).
+pub(crate) const COMMON_HEADER: u32 = 12;
 
 /// What a SACK was to the sender.
 #[derive(Clone, Copy, Debug, PartialEq, Eq)]
@@ -74,13 +80,25 @@ pub struct Sender {
     pub is_fast_due: bool,
     /// FORWARD TSN is due (RFC 3758 section 3.5).
     pub is_forward_due: bool,
+    /// The rules by which it sends.
+    pub profile: Profile,
+    /// Since T3-rtx expired no SACK acknowledged anything new (`Profile::Rfc`).
+    pub is_after_timeout: bool,
+    /// Bytes of chunks that new DATA may take up until the next SACK (`Profile::Rfc`).
+    pub burst_room: u64,
 }
 
 impl Sender {
     /// A sender with nothing to send. `window` is the peer's receive window, in bytes. Takes no memory.
-    pub fn new(alloc: Global, max_payload_size: u32, initial_tsn: u32, window: u32) -> Self
+    pub fn new(
+        alloc: Global,
+        profile: Profile,
+        max_payload_size: u32,
+        initial_tsn: u32,
+        window: u32,
+    ) -> Self
         requires { max_payload_size ≤ 65519 }
-        ensures { result ≡ fresh_sender max_payload_size initial_tsn window }
+        ensures { result ≡ fresh_sender profile max_payload_size initial_tsn window }
     {
         let mtu = max_payload_size + PACKET_OVERHEAD;
         Sender {
@@ -93,7 +111,17 @@ impl Sender {
             recovery_exit: None,
             is_fast_due: false,
             is_forward_due: false,
+            profile,
+            is_after_timeout: false,
+            burst_room: burst_of(mtu),
         }
+    }
+
+    // Whether it sends by the rules of the RFCs.
+    pub(crate) fn is_by_rfcs(&self) -> bool
+        ensures { result ≡ is_rfc self.now.profile }
+    {
+        matches!(self.profile, Profile::Rfc)
     }
 
     /// The peer's receive window is known, in bytes, from its INIT or INIT ACK (RFC 4960 sections 5.1 and 7.2.1).
@@ -161,6 +189,7 @@ impl Sender {
             return SackOutcome::NamesTheUnsent;
         }
         let before = self.queue.inflight_bytes();
+        let any_marked = self.queue.marked_len() > 0;
         let earliest = self.names_earliest(count, blocks);
         self.advertised_window = window;
         self.leave_recovery(count);
@@ -170,22 +199,15 @@ impl Sender {
             any_new: any_new | newest.is_some(),
             earliest,
         };
-        self.grow_window(count > 0, before);
+        self.grow_window(&Brought {
+            moved: count > 0,
+            any_new: progress.any_new,
+            any_marked,
+            before,
+        });
         self.count_misses(count > 0, newest);
         self.run_t3(timers, rto, progress, now);
         SackOutcome::Taken
-    }
-
-    // The congestion window after a SACK, where so many bytes were outstanding before it.
-    fn grow_window(&mut self, moved: bool, before: u64)
-        ensures { self.new ≡ with_growth moved before self.old }
-    {
-        if moved {
-            let acked = before.saturating_sub(self.queue.inflight_bytes());
-            let recovers = self.recovers();
-            self.congestion
-                .grow(acked, self.queue.has_pending(), recovers, self.mtu);
-        }
     }
 
     // The retransmission timer after a SACK: its retries are forgotten where a TSN is acknowledged for the first time,
@@ -292,20 +314,46 @@ impl Sender {
     }
 
     /// Marks all that is outstanding to be sent again, and takes the congestion window down to one packet (RFC 4960
-    /// sections 6.3.3 and 7.2.3).
+    /// sections 6.3.3 and 7.2.3). By `Profile::Rfc` one piece goes until a SACK acknowledges something new.
     pub fn on_t3_timeout(&mut self)
         ensures { self.new ≡ after_t3_timeout self.old }
     {
         self.queue.mark_all_to_retransmit();
         self.congestion.on_t3_timeout(self.mtu);
+        if self.is_by_rfcs() {
+            self.recovery_exit = None;
+            self.is_fast_due = false;
+            self.is_after_timeout = true;
+            self.burst_room = burst_of(self.mtu);
+        }
+    }
+
+    /// The peer opened the window that the one piece in flight probed: it goes again.
+    pub fn mark_probe(&mut self)
+        ensures { self.new ≡ probe_marked self.old }
+    {
+        self.queue.mark_all_to_retransmit();
+        self.is_after_timeout = false;
     }
 
     /// Sends DATA that waits while the windows allow it, and answers whether any was sent. With nothing in flight one
-    /// piece goes whatever the windows are, to probe them (RFC 4960 section 6.1). It lacks memory only where a chunk is
-    /// sent.
+    /// piece goes whatever the windows are, to probe them (RFC 4960 section 6.1). By `Profile::Rfc` none goes while
+    /// something is marked, and no more than four packets beyond what SACKs acknowledged since the last call. It lacks
+    /// memory only where a chunk is sent.
     pub fn send_new(&mut self, out: &mut DataPackets, now: Instant) -> Result<bool, AllocError>
         ensures sender { OnOk result ((sent_new self.old now).0 ≡ self.new) }
         ensures chunks { OnOk result (out.new ≡ with_all out.old (sent_new self.old now).1) }
+        ensures any { IfOk result (λ any. any ≡ sends_new self.old now) }
+        ensures grows { OnErr result (sends_new self.old now ≡ true) }
+    {
+        let any = self.send_probing(out, now)?;
+        self.burst_room = self.burst_room.min(burst_of(self.mtu));
+        Ok(any)
+    }
+
+    fn send_probing(&mut self, out: &mut DataPackets, now: Instant) -> Result<bool, AllocError>
+        ensures sender { OnOk result ((sent_probing self.old now).0 ≡ self.new) }
+        ensures chunks { OnOk result (out.new ≡ with_all out.old (sent_probing self.old now).1) }
         ensures any { IfOk result (λ any. any ≡ sends_new self.old now) }
         ensures grows { OnErr result (sends_new self.old now ≡ true) }
     {
@@ -351,12 +399,14 @@ impl Sender {
         let Some(message) = self.queue.peek_pending() else {
             return Ok(false);
         };
+        let room = data_length(message.user_data.len() as u64);
         out.add_borrowed(&waiting_chunk(message, self.queue.next_tsn()))?;
         self.queue.send_next(now)?;
+        self.burst_room = self.burst_room.saturating_sub(room);
         Ok(true)
     }
 
-    // Whether the next piece that waits is within both windows.
+    // Whether the next piece that waits is within both windows, and nothing stands in front of it.
     fn next_fits(&self) -> bool
         ensures { result ≡ can_send_next self.now }
     {
@@ -366,10 +416,33 @@ impl Sender {
                 let outstanding = self.queue.inflight_bytes();
                 outstanding.saturating_add(length) <= u64::from(self.congestion.cwnd)
                     && length <= u64::from(self.rwnd())
+                    && (!self.is_by_rfcs() || self.allows_new(message))
             }
             None => false,
         }
     }
+
+    fn allows_new(&self, message: &PendingMessage) -> bool
+        ensures { result ≡ allows_new self.now message.now }
+    {
+        self.is_past_timeout()
+            && self.queue.marked_len() == 0
+            && data_length(message.user_data.len() as u64) <= self.burst_room
+    }
+
+    // Whether nothing that T3-rtx had go again is still to be answered.
+    fn is_past_timeout(&self) -> bool
+        ensures { result ≡ is_past_timeout self.now }
+    {
+        !self.is_after_timeout || self.queue.flying_bytes() == 0
+    }
+}
+
+// The room of four packets behind their common headers, in bytes (Max.Burst).
+pub(crate) fn burst_of(mtu: u32) -> u64
+    ensures { result ≡ burst_of mtu }
+{
+    4 * u64::from(mtu.saturating_sub(COMMON_HEADER))
 }
 
 // Gives an acknowledged piece's bytes back to its stream, those that were outstanding until then. Where the stream

@@ -592,7 +592,7 @@ heartbeat_leaves a heartbeat trigger = information_leaves (information_of heartb
 
 kind_leaves : (header : CommonHeader) (c : Chunk) (a : Shown) (trigger : AckTrigger) (now : ℕ)
     → LeavesActive a (dispatched a header c trigger now).0
-kind_leaves header (chunks.Data piece) a trigger now = data_leaves a piece trigger
+kind_leaves header (chunks.Data piece) a trigger now = data_leaves a piece _
 kind_leaves header (chunks.SelectiveAck k) a trigger now =
     sack_leaves (sends_data a.state) a k.cumulative_tsn_ack k.gap_ack_blocks k.advertised_receiver_window_credit trigger
     now refl

@@ -459,7 +459,7 @@ module _ (P : StreamMap → Type 0) (law : IsKept P) where
 
   dispatched_keeps : (a : Shown) (header : CommonHeader) (c : Chunk) (trigger : AckTrigger) (now : ℕ)
       → Keeps P a (dispatched a header c trigger now).0
-  dispatched_keeps a header (chunks.Data piece) trigger now = on_data_keeps a piece trigger
+  dispatched_keeps a header (chunks.Data piece) trigger now = on_data_keeps a piece _
   dispatched_keeps a header (chunks.SelectiveAck k) trigger now =
       sack_keeps (sends_data a.state) a k.cumulative_tsn_ack k.gap_ack_blocks k.advertised_receiver_window_credit
       trigger now refl

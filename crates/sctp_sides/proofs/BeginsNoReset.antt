@@ -668,7 +668,7 @@ on_forward_none a tsn es trigger now =
 
 kind_none : (a : Shown) (header : CommonHeader) (c : Chunk) (trigger : AckTrigger) (now : ℕ) → IsNoReconfig c
     → BeginsNoReset a (dispatched a header c trigger now).0
-kind_none a header (chunks.Data piece) trigger now plain = on_data_none a piece trigger
+kind_none a header (chunks.Data piece) trigger now plain = on_data_none a piece _
 kind_none a header (chunks.SelectiveAck k) trigger now plain =
     sack_none (sends_data a.state) a k.cumulative_tsn_ack k.gap_ack_blocks k.advertised_receiver_window_credit trigger
     now refl

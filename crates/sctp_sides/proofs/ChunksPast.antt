@@ -531,7 +531,7 @@ module _ (over : ℕ → Bool) where
 
   dispatched_keeps : (a : Shown) (header : CommonHeader) (c : Chunk) (trigger : AckTrigger) (now : ℕ)
       → ResetsPastIfAny over c → KeepsPast over a (dispatched a header c trigger now).0
-  dispatched_keeps a header (chunks.Data piece) trigger now past = on_data_keeps a piece trigger
+  dispatched_keeps a header (chunks.Data piece) trigger now past = on_data_keeps a piece _
   dispatched_keeps a header (chunks.SelectiveAck k) trigger now past =
       sack_keeps (sends_data a.state) a k.cumulative_tsn_ack k.gap_ack_blocks k.advertised_receiver_window_credit
       trigger now refl

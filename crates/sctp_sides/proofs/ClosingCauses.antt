@@ -106,7 +106,7 @@ fault_leaves_kind : (header : CommonHeader) (c : Chunk) (a : Shown) (trigger : A
     → (dispatched a header c trigger now).0.state ≡ a.state
 unfolding on_chunk
 fault_leaves_kind header (chunks.Data piece) a trigger now error f =
-    (on_data_goes_on a piece trigger).state
+    (on_data_goes_on a piece _).state
 fault_leaves_kind header (chunks.SelectiveAck sack) a trigger now error f =
     fault_leaves_sack (sends_data a.state) a sack.cumulative_tsn_ack sack.gap_ack_blocks
     sack.advertised_receiver_window_credit trigger now error refl f
@@ -150,7 +150,7 @@ exhaustion_leaves_kind : (header : CommonHeader) (c : Chunk) (a : Shown) (trigge
     → (dispatched a header c trigger now).0.state ≡ a.state
 unfolding on_chunk
 exhaustion_leaves_kind header (chunks.Data piece) a trigger now e =
-    (on_data_goes_on a piece trigger).state
+    (on_data_goes_on a piece _).state
 exhaustion_leaves_kind header (chunks.SelectiveAck sack) a trigger now e =
     absurd (false≢true (sym (sack_spares _ a sack.cumulative_tsn_ack sack.gap_ack_blocks
     sack.advertised_receiver_window_credit trigger now refl) ∙ e))

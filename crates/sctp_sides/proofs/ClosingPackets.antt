@@ -543,7 +543,7 @@ heartbeat_goes_on a heartbeat trigger = returned_goes_on (information_of heartbe
 
 kind_goes_on : (header : CommonHeader) (c : Chunk) (a : Shown) (trigger : AckTrigger) (now : ℕ)
     → StaysOpen a (dispatched a header c trigger now).0
-kind_goes_on header (chunks.Data piece) a trigger now = remains_open a _ (on_data_goes_on a piece trigger)
+kind_goes_on header (chunks.Data piece) a trigger now = remains_open a _ (on_data_goes_on a piece _)
 kind_goes_on header (chunks.SelectiveAck sack) a trigger now =
     sack_goes_on _ a sack.cumulative_tsn_ack sack.gap_ack_blocks sack.advertised_receiver_window_credit trigger now refl
 kind_goes_on header (chunks.Init x) a trigger now = init_goes_on _ _ a header x trigger refl refl

@@ -602,7 +602,7 @@ data_is_taken_in a h header piece binds may read =
             are = acts.are;
           };
       refused =
-          λ trigger now error e. fault_from (on_data a piece trigger).1 error (refused_data a piece trigger p ∙ e);
+          λ trigger now error e. fault_from (on_data a piece _).1 error (refused_data a piece _ p ∙ e);
     }
 
 pub unread_data_is_left : UnreadDataIsLeft
@@ -645,5 +645,5 @@ later_data_is_kept_apart a h header piece binds may =
             are = acts.are ∙ ap (λ (z : List Act). z ++ acts.others) first;
           };
       refused =
-          λ trigger now error e. fault_from (on_data a piece trigger).1 error (refused_later a piece trigger p ∙ e);
+          λ trigger now error e. fault_from (on_data a piece _).1 error (refused_later a piece _ p ∙ e);
     }

@@ -552,7 +552,7 @@ pub kind_exhausts : (header : CommonHeader) (c : Chunk) (a : Shown) (h : History
     → Binds a h → exhausts_of (dispatched a header c trigger now).1 ≡ true → IsCauseOfItsKind a h header c
 unfolding on_chunk
 kind_exhausts header (chunks.Data piece) a h trigger now binds e =
-    inr (inr (exhausting_data_leaves_nothing a h header piece trigger binds e))
+    inr (inr (exhausting_data_leaves_nothing a h header piece _ binds e))
 kind_exhausts header (chunks.SelectiveAck sack) a h trigger now binds e =
     absurd (false≢true (sym (sack_spares _ a sack.cumulative_tsn_ack sack.gap_ack_blocks
     sack.advertised_receiver_window_credit trigger now refl) ∙ e))
@@ -610,7 +610,7 @@ kind_cause : (header : CommonHeader) (c : Chunk) (a : Shown) (h : History) (trig
     → fault_of (dispatched a header c trigger now).1 ≡ Some error → IsCauseOfItsKind a h header c
 unfolding on_chunk
 kind_cause header (chunks.Data piece) a h trigger now error binds e =
-    first_two (data_cause a h piece trigger error binds e)
+    first_two (data_cause a h piece _ error binds e)
 kind_cause header (chunks.SelectiveAck sack) a h trigger now error binds e =
     sack_cause a h sack sack.advertised_receiver_window_credit trigger now error binds e
 kind_cause header (chunks.Init x) a h trigger now error binds e =
@@ -650,8 +650,8 @@ cause_kind : (header : CommonHeader) (c : Chunk) (a : Shown) (h : History) (trig
     → EndsThePacket (dispatched a header c trigger now)
 unfolding on_chunk
 cause_kind header (chunks.Data piece) a h trigger now binds cause =
-    ⊎_elim (cause_data a h piece trigger binds)
-    (⊎_elim (cause_later a h piece trigger binds) (nothing_to_read_exhausts a h header piece trigger binds)) cause
+    ⊎_elim (cause_data a h piece _ binds)
+    (⊎_elim (cause_later a h piece _ binds) (nothing_to_read_exhausts a h header piece _ binds)) cause
 cause_kind header (chunks.SelectiveAck sack) a h trigger now binds cause =
     cause_sack a h sack sack.advertised_receiver_window_credit trigger now binds cause
 cause_kind header (chunks.Init x) a h trigger now binds cause = inl (

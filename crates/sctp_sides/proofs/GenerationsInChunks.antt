@@ -420,7 +420,7 @@ module _ (g : ℕ) where
 
   kind_keeps : (header : CommonHeader) (c : Chunk) (a : Shown) (trigger : AckTrigger) (now : ℕ)
       → tally_of (dispatched a header c trigger now).0 ≡ tally_of a
-  kind_keeps header (chunks.Data piece) a trigger now = data_keeps a piece trigger
+  kind_keeps header (chunks.Data piece) a trigger now = data_keeps a piece _
   kind_keeps header (chunks.SelectiveAck sack) a trigger now =
       sack_keeps _ a sack.cumulative_tsn_ack sack.gap_ack_blocks sack.advertised_receiver_window_credit trigger now refl
   kind_keeps header (chunks.Init x) a trigger now = init_keeps _ a header x trigger refl

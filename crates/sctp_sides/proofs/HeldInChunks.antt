@@ -471,7 +471,7 @@ module _ (P : ChunkPayloadData → Type 0) where
 
   dispatched_keeps : (a : Shown) (header : CommonHeader) (c : Chunk) (trigger : AckTrigger) (now : ℕ) → IsOnly P c
       → KeepsHeld P a (dispatched a header c trigger now).0
-  dispatched_keeps a header (chunks.Data piece) trigger now came = on_data_keeps a piece trigger came
+  dispatched_keeps a header (chunks.Data piece) trigger now came = on_data_keeps a piece _ came
   dispatched_keeps a header (chunks.SelectiveAck k) trigger now came =
       sack_keeps (sends_data a.state) a k.cumulative_tsn_ack k.gap_ack_blocks k.advertised_receiver_window_credit
       trigger now refl

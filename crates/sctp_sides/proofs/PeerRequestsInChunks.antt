@@ -502,7 +502,7 @@ module _ (P : PeerView → Type 0) (kept : IsKept P) where
 
   kind_goes : (header : CommonHeader) (c : Chunk) (a : Shown) (trigger : AckTrigger) (now : ℕ)
       → is_beginning a.state ≡ false → GoesOn a (dispatched a header c trigger now).0
-  kind_goes header (chunks.Data piece) a trigger now e = data_goes a piece trigger
+  kind_goes header (chunks.Data piece) a trigger now e = data_goes a piece _
   kind_goes header (chunks.SelectiveAck k) a trigger now e =
       sack_goes (sends_data a.state) a k.cumulative_tsn_ack k.gap_ack_blocks k.advertised_receiver_window_credit
       trigger now refl

@@ -16,7 +16,7 @@ use Rattle.sctp_streams.specs.Streams.{StreamMap}
 use Rattle.sctp_outbound.specs.declared.abandonment.Reason.TheVariants as reasons
 use Rattle.sctp_outbound.specs.declared.sender.Sender.{Sender}
 use Rattle.sctp_outbound.specs.Abandonment.{first_spent, given_up_before, is_spent, spent_index}
-use Rattle.sctp_outbound.specs.Sender.{alone_length_of, both_windows, fast_room, resends_alone, window_left}
+use Rattle.sctp_outbound.specs.Sender.{alone_length_of, both_windows, fast_room, resend_window, resends_alone}
 use Rattle.sctp_outbound.proofs.NoneLeft.{none_is_left}
 use Rattle.sctp_outbound.proofs.Spared.{alone_marked, due_index, marked_index, some_is_none}
 use Rattle.sctp_outbound.proofs.Unlimited.{index_on, index_skip, index_spent}
@@ -135,7 +135,7 @@ marks_spare_if : (alone : Bool) (s : Sender) (p : Parts) → resends_alone s ≡
     → p.queue.in_flight ≡ s.queue.in_flight → spent_index causes.Timer 0 (both_windows s) s.queue.in_flight ≡ None
     → AllSpare (if alone then first_again s.queue.in_flight else
     acts_of_resending causes.Timer 0 (both_windows s) s.queue.in_flight) p
-marks_spare_if true s p alone e none = first_spare s.queue.in_flight (window_left s) (both_windows s) p e alone none
+marks_spare_if true s p alone e none = first_spare s.queue.in_flight (resend_window s) (both_windows s) p e alone none
 marks_spare_if false s p alone e none = resending_spare causes.Timer s.queue.in_flight [] 0 (both_windows s) p e none
 
 marks_spare : (s : Sender) (p : Parts) → p.queue.in_flight ≡ s.queue.in_flight → first_spent causes.Timer s ≡ None

@@ -230,7 +230,7 @@ passed_ends_none false fault trigger = refl
 pub kind_ends : (header : CommonHeader) (c : Chunk) (a : Shown) (trigger : AckTrigger) (now : ℕ)
     → ends_of (dispatched a header c trigger now).1 ≡ true → EndsShutdown c a
 kind_ends header (chunks.Data piece) a trigger now e =
-    absurd (false≢true (sym (data_ends_none a piece trigger) ∙ e))
+    absurd (false≢true (sym (data_ends_none a piece _) ∙ e))
 kind_ends header (chunks.SelectiveAck sack) a trigger now e =
     absurd (false≢true (sym (sack_ends_none _ a sack.cumulative_tsn_ack sack.gap_ack_blocks
     sack.advertised_receiver_window_credit trigger now refl) ∙ e))

@@ -30,7 +30,7 @@ use Rattle.sctp_outbound.specs.declared.sender.Sender.{Sender}
 use Rattle.sctp_outbound.specs.Abandonment.{abandoned_of, expires, first_dropped, tail_given_up, with_started}
 use Rattle.sctp_outbound.specs.Sender.{after_marked, after_missing, both_windows, can_send_next, fast_room}
 use Rattle.sctp_outbound.specs.Sender.{first_counted}
-use Rattle.sctp_outbound.specs.Sender.{resends_alone, resent_pieces, sent_new, sent_one, sent_within}
+use Rattle.sctp_outbound.specs.Sender.{resends_alone, resent_pieces, sent_new, sent_one, sent_probing, sent_within}
 use Rattle.sctp_assoc.specs.declared.shutdown.ShutdownDue.{ShutdownDue}
 use Rattle.sctp_assoc.specs.Calls.{after_ack_delay, after_t3, exchanges_data, is_established, retransmits, t3_expired}
 use Rattle.sctp_assoc.specs.Closing.{closed_open, is_closed_state}
@@ -504,7 +504,7 @@ none_sent_if c (m ∷ ms) s now e = absurd cc
 
 nothing_sent : (now : ℕ) (x : Sender × StreamMap) → HoldsNothing x → HoldsNothing ((sent_new x.0 now).0, x.1)
 nothing_sent now x (waits, flies) =
-    let same : (sent_new x.0 now).0 ≡ x.0 =
+    let same : (sent_probing x.0 now).0 ≡ x.0 =
     none_sent_if (eqb (length x.0.queue.in_flight) 0 && not (can_send_next x.0)) x.0.queue.pending x.0 now waits in
     (ap (λ (s : Sender). s.queue.pending) same ∙ waits, ap (λ (s : Sender). s.queue.in_flight) same ∙ flies)
 

@@ -379,7 +379,7 @@ module _ (a : Shown) (trigger : AckTrigger) (h : IsInOrder a) where
   heartbeat_order heartbeat = information_order (information_of heartbeat.params) a h
 
   kind_order : (header : CommonHeader) (c : Chunk) (now : ℕ) → IsInOrder (dispatched a header c trigger now).0
-  kind_order header (chunks.Data piece) now = data_order a piece trigger h
+  kind_order header (chunks.Data piece) now = data_order a piece _ h
   kind_order header (chunks.SelectiveAck k) now =
       sack_order (sends_data a.state) k.cumulative_tsn_ack k.gap_ack_blocks k.advertised_receiver_window_credit now refl
   kind_order header (chunks.Init x) now = init_order (is_beginning a.state) (keeps_peer a x) header x refl refl

@@ -570,7 +570,7 @@ heartbeat_works a heartbeat trigger = information_works (information_of heartbea
 
 kind_leaves : (header : CommonHeader) (c : Chunk) (a : Shown) (trigger : AckTrigger) (now : ℕ)
     → Leaves c a (dispatched a header c trigger now).0
-kind_leaves header (chunks.Data piece) a trigger now = data_status a piece trigger
+kind_leaves header (chunks.Data piece) a trigger now = data_status a piece _
 kind_leaves header (chunks.SelectiveAck k) a trigger now =
     sack_stage (sends_data a.state) a k.cumulative_tsn_ack k.gap_ack_blocks k.advertised_receiver_window_credit
     trigger now refl

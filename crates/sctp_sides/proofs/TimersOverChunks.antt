@@ -546,7 +546,7 @@ module _ (a : Shown) (trigger : AckTrigger) (h : Ticks a) where
 
   -- any chunk
   kind_ticks : (header : CommonHeader) (c : Chunk) (now : ℕ) → TicksOn (dispatched a header c trigger now)
-  kind_ticks header (chunks.Data piece) now = ticks_on (on_data a piece trigger) (data_ticks a piece trigger h)
+  kind_ticks header (chunks.Data piece) now = ticks_on (on_data a piece _) (data_ticks a piece _ h)
   kind_ticks header (chunks.SelectiveAck k) now =
       ticks_on (on_sack a k.cumulative_tsn_ack k.gap_ack_blocks k.advertised_receiver_window_credit trigger now)
       (sack_ticks (sends_data a.state) k.cumulative_tsn_ack k.gap_ack_blocks k.advertised_receiver_window_credit

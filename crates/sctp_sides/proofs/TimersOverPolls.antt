@@ -30,7 +30,7 @@ use Rattle.sctp_outbound.specs.Abandonment.{given_up_before, given_up_first, has
 use Rattle.sctp_outbound.specs.Abandonment.{next_given_up, tail_given_up, with_started}
 use Rattle.sctp_outbound.specs.Sender.{after_marked, after_missing, both_windows, can_send_next, fast_room}
 use Rattle.sctp_outbound.specs.Sender.{first_counted, resends_alone, resent_pieces, sent_new, sent_one}
-use Rattle.sctp_outbound.specs.Sender.{sent_within}
+use Rattle.sctp_outbound.specs.Sender.{sent_probing, sent_within}
 use Rattle.sctp_streams.specs.declared.event.AssociationError.TheVariants as ends
 use Rattle.sctp_assoc.specs.Calls.{exchanges_data, is_beginning}
 use Rattle.sctp_assoc.specs.Gather.{ack_polled, after_fast, after_marks, both_of, control_polled, data_after}
@@ -96,11 +96,14 @@ within_grows (suc n) s now =
     grows_if (can_send_next s) s (rest.0, one.1 ++ rest.1) (s, [])
     (grows_on s one rest (one_grows s.queue.pending s now refl) (within_grows n one.0 now)) (inl (refl, refl))
 
-new_grows : (s : Sender) (now : ℕ) → Grows s (sent_new s now)
-new_grows s now =
+probing_grows : (s : Sender) (now : ℕ) → Grows s (sent_probing s now)
+probing_grows s now =
     grows_if (eqb (length s.queue.in_flight) 0 && not (can_send_next s)) s (sent_one s.queue.pending s now)
     (sent_within (pieces_waiting s.queue.pending) s now) (one_grows s.queue.pending s now refl)
     (within_grows (pieces_waiting s.queue.pending) s now)
+
+new_grows : (s : Sender) (now : ℕ) → Grows s (sent_new s now)
+new_grows s now = probing_grows s now
 
 -- Sending DATA again
 

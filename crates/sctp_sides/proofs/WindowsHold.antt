@@ -18,7 +18,7 @@ use Rattle.sctp_outbound.specs.declared.sender.Sender.{Sender}
 use Rattle.sctp_streams.specs.Streams.{StreamMap}
 use Rattle.sctp_outbound.specs.Abandonment.{abandoned_of, first_dropped, tail_given_up}
 use Rattle.sctp_outbound.specs.Forward.{forward_given}
-use Rattle.sctp_outbound.specs.Sender.{can_send_next, fits_windows, sent_new, sent_one, sent_within}
+use Rattle.sctp_outbound.specs.Sender.{can_send_next, fits_windows, sent_new, sent_one, sent_within, window_left}
 use Rattle.sctp_directions.specs.Acts.{Act}
 use Rattle.sctp_assoc.specs.Calls.{exchanges_data}
 use Rattle.sctp_assoc.specs.Gather.{data_polled, fast_polled, is_due, late_dropped, open_polled, polled}
@@ -45,9 +45,12 @@ one_fits : (ms : List Waiting) (s : Sender) (now : ℕ) → s.queue.pending ≡ 
 unfolding sent_one
 one_fits [] s now e bound fits = absurd (false≢true fits)
 one_fits (m ∷ ms) s now e bound fits =
+    let windows =
+    and_parts (nat_le (min (outstanding_of s.queue.in_flight + length m.user_data) (2 ^ 64 - 1)) s.congestion.cwnd
+    && nat_le (length m.user_data) (window_left s)) _ fits in
     let parts =
     and_parts (nat_le (min (outstanding_of s.queue.in_flight + length m.user_data) (2 ^ 64 - 1)) s.congestion.cwnd) _
-    fits in
+    windows.0 in
     let within = leb-true _ _ parts.0 in
     let push = sum_by_push outstanding_bytes s.queue.in_flight (sent_once now m) in
     rw e (omega (arith, within, push, bound))
@@ -120,7 +123,7 @@ new_if false s now bound e = ⊎_elim
     (within_fits (pieces_waiting s.queue.pending) s now bound)
 
 new_stays : (s : Sender) (now : ℕ) → s.congestion.cwnd < 2 ^ 32 → Stays s (sent_new s now).0
-new_stays s now bound = new_if _ s now bound refl
+new_stays s now bound = new_if (eqb (length s.queue.in_flight) 0 && not (can_send_next s)) s now bound refl
 
 -- as many pieces more are in flight as acts say
 

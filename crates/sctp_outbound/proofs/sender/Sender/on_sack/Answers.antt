@@ -8,7 +8,7 @@ use Rattle.sctp_outbound.specs.Progress.{any_new_up_to}
 use Rattle.sctp_outbound.specs.Recovery.{past_recovery}
 use Rattle.sctp_outbound.specs.Sacks.{grown_by, reported_by}
 use Rattle.sctp_outbound.specs.Sender.{acknowledged, t3_after_sack}
-use Rattle.sctp_outbound.proofs.MissingPieces.{counts_with}
+use Rattle.sctp_outbound.proofs.MissingPieces.{brought_is, counts_with}
 use Rattle.sctp_outbound.proofs.NewPieces.{left_behind, newest_is, progress_is}
 use Rattle.sctp_streams.proofs.LowMarks.{gathers_both, gathers_nothing}
 use Rattle.sctp_outbound.proofs.sender.Sender.on_sack.Goals as goal
@@ -37,13 +37,32 @@ returns-clause-taken c =
     sym (ap (λ (z : Sender × Estimate × StreamMap). z.0.queue.in_flight) c.acknowledge-any_new.ensures.exact)
     ∙ left_behind n c.args.now c.leave_recovery.new.self c.args.rto.now c.args.streams.now
     ∙ ap (λ (z : Sender). drop n z.queue.in_flight) past in
+    let pieces : c.leave_recovery.new.self.queue.in_flight ≡ s.queue.in_flight =
+    ap (λ (z : Sender). z.queue.in_flight) past in
+    let progress =
+    ap (λ z. record {
+      any_new = c.acknowledge-any_new.result || z;
+      earliest = c.names_earliest-earliest.result;
+    }) c.is_some.ensures
+    ∙ progress_is s c.args.cumulative_tsn_ack c.args.blocks.now c.count_to-count.ensures
+    (c.acknowledge-any_new.ensures.any ∙ ap (any_new_up_to n) pieces)
+    (newest_is s c.args.cumulative_tsn_ack c.args.blocks.now c.count_to-count.ensures
+    c.acknowledge_blocks-newest.ensures.newest left)
+    c.names_earliest-earliest.ensures.names in
     λ _. rw (c.count_misses.ensures, c.grow_window.ensures)
     (counts_with s c.args.cumulative_tsn_ack c.args.blocks.now c.args.window c.args.now c.args.rto.now
-    c.args.streams.now c.count_to-count.ensures c.inflight_bytes-before.ensures
+    c.args.streams.now c.count_to-count.ensures
+    (brought_is s c.args.cumulative_tsn_ack c.args.blocks.now c.count_to-count.ensures progress
+    c.marked_len-any_marked.ensures c.inflight_bytes-before.ensures)
     (newest_is s c.args.cumulative_tsn_ack c.args.blocks.now c.count_to-count.ensures
     c.acknowledge_blocks-newest.ensures.newest left)
     ∙ ap (λ z. reported_by (nat_lt 0 n) c.acknowledge_blocks-newest.result
-    (grown_by (nat_lt 0 n) c.inflight_bytes-before.result z))
+    (grown_by (record {
+      moved = nat_lt 0 n;
+      any_new = c.acknowledge-any_new.result || c.is_some.result;
+      any_marked = nat_lt 0 c.marked_len-any_marked.result;
+      before = c.inflight_bytes-before.result;
+    }) z))
     (ap (λ z. with_blocks c.args.now c.args.blocks.now
     (acknowledged n c.args.now (z, c.args.rto.now, c.args.streams.now))) (sym past)
     ∙ ap (with_blocks c.args.now c.args.blocks.now) c.acknowledge-any_new.ensures.exact

@@ -1,7 +1,7 @@
 use Rattle.std.proofs.Common.{rules, ◌≡◌, false}
 use Rattle.sctp_outbound.proofs.SenderSteps.{err_then, probe_sends}
 use Rattle.sctp_outbound.specs.Sender.{can_send_next}
-use Rattle.sctp_outbound.proofs.sender.Sender.send_new.Goals as goal
+use Rattle.sctp_outbound.proofs.sender.Sender.send_probing.Goals as goal
 
 pub returns-then-not-next_fits-clause-grows : goal.returns-then-not-next_fits-clause-grows
 returns-then-not-next_fits-clause-grows c =
