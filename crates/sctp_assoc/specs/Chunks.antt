@@ -1,6 +1,6 @@
 -- What the chunks of a packet do to an association (RFC 4960 sections 3.3 and 6.2).
-use Rattle.std.specs.Prelude.{ℕ, Bool, true, false, List, [], ◌∷◌, ◌++◌, ◌&&◌, if◌then◌else◌, not, is_some, length}
-use Rattle.std.specs.Prelude.{nat_le, Option, Some, None, Result, Ok, Err}
+use Rattle.std.specs.Prelude.{ℕ, Bool, true, false, List, [], ◌∷◌, ◌++◌, ◌&&◌, ◌||◌, if◌then◌else◌, not, is_some}
+use Rattle.std.specs.Prelude.{length, nat_le, Option, Some, None, Result, Ok, Err}
 use Rattle.sctp_wire_types.specs.Config.{is_rfc}
 use Rattle.sctp_wire_types.specs.declared.config.Profile.{Profile}
 use Rattle.sctp_wire_types.specs.declared.error.Error.{Error}
@@ -24,6 +24,7 @@ use Rattle.sctp_streams.specs.Streams.{pushed_in, is_readable_in}
 use Rattle.sctp_streams.specs.LowMarks.{low_told}
 use Rattle.sctp_inbound.specs.declared.receiver.AckTrigger.{AckTrigger}
 use Rattle.sctp_inbound.specs.declared.receiver.AckTrigger.TheVariants as triggers
+use Rattle.sctp_inbound.specs.Held.{has_gap}
 use Rattle.sctp_inbound.specs.Receiver.{admits, asked, ended_packet, ended_packet_timers, is_new_to, taken_to}
 use Rattle.sctp_wire_types.specs.declared.chunk.GapAckBlock.{GapAckBlock}
 use Rattle.sctp_outbound.specs.Forward.{forward_asked}
@@ -177,6 +178,17 @@ on_counted_data a piece trigger =
 unfoldable pub on_data : Shown → ChunkPayloadData → AckTrigger → Shown × Flow
 on_data a piece trigger = on_counted_data (counted_data a) piece trigger
 
+-- By the rules of the RFCs DATA that came before is acknowledged at once, and so is what comes while a gap is there,
+-- also what fills the last one (RFC 4960 section 6.2, and section 4.2 of RFC 2581, to which that points).
+unfoldable pub is_urgent : Shown → ℕ → Bool
+is_urgent a tsn = is_rfc a.profile && (has_gap a.receiver.held || not (is_new_to a.receiver tsn))
+
+abbrev pub urged_if : Bool → AckTrigger → AckTrigger
+urged_if urgent trigger = if urgent then triggers.Immediate else trigger
+
+abbrev pub urged : Shown → ChunkPayloadData → AckTrigger → AckTrigger
+urged a piece trigger = urged_if (is_urgent a piece.tsn) trigger
+
 -- SACK
 
 abbrev pub counted_sack : Shown → Shown
@@ -234,7 +246,7 @@ passed_over true fault trigger = flows.Next trigger
 passed_over false fault trigger = flows.Fault fault
 
 abbrev pub dispatched : Shown → CommonHeader → Chunk → AckTrigger → ℕ → Shown × Flow
-dispatched a header (chunks.Data piece) trigger now = on_data a piece trigger
+dispatched a header (chunks.Data piece) trigger now = on_data a piece (urged a piece trigger)
 dispatched a header (chunks.SelectiveAck sack) trigger now =
     on_sack a sack.cumulative_tsn_ack sack.gap_ack_blocks sack.advertised_receiver_window_credit trigger now
 dispatched a header (chunks.Init init) trigger now = on_init a header init trigger

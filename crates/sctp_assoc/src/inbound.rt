@@ -10,7 +10,7 @@ ghost use Rattle.sctp_assoc.specs.Memory.{chunk_takes_memory, chunks_take_memory
 ghost use Rattle.sctp_assoc.specs.Memory.{packet_takes_memory, taking_takes_memory, takes_memory, takes_memory_after};
 ghost use Rattle.sctp_assoc.specs.Chunks.{after_chunks, after_packet, dispatched, on_chunk, on_data, asks};
 ghost use Rattle.sctp_assoc.specs.Chunks.{asks_or_faults, deferred_where_admitted, goes_unread, ended, goes_on};
-ghost use Rattle.sctp_assoc.specs.Chunks.{passed_over, taken_where_admitted};
+ghost use Rattle.sctp_assoc.specs.Chunks.{is_urgent, passed_over, taken_where_admitted, urged_if};
 ghost use Rattle.sctp_assoc.specs.Resets.{settled, settling_takes_memory};
 ghost use Rattle.sctp_assoc.specs.Closing.{is_exhausted};
 
@@ -194,7 +194,10 @@ impl Association {
         ensures grows { OnErr result (takes_memory self.old header chunk now ≡ true) }
     {
         match chunk {
-            Chunk::Data(piece) => self.on_data(piece, trigger),
+            Chunk::Data(piece) => {
+                let urged = self.urged(piece.tsn, trigger);
+                self.on_data(piece, urged)
+            }
             Chunk::SelectiveAck(sack) => self.on_sack(
                 sack.cumulative_tsn_ack,
                 &sack.gap_ack_blocks,
@@ -238,6 +241,26 @@ impl Association {
         } else {
             Flow::Fault(fault)
         }
+    }
+
+    // The trigger of a packet so far, or Immediate where DATA with this TSN is to be acknowledged at once. It is put into
+    // its caller, as most chunks are DATA.
+    #[inline(always)]
+    fn urged(&self, tsn: u32, trigger: AckTrigger) -> AckTrigger
+        ensures { result ≡ urged_if (is_urgent self.now tsn) trigger }
+    {
+        if self.is_urgent(tsn) {
+            return AckTrigger::Immediate;
+        }
+        trigger
+    }
+
+    #[inline(always)]
+    #[tactic(auto, unfolding(crate::specs::Chunks::is_urgent))]
+    fn is_urgent(&self, tsn: u32) -> bool
+        ensures { result ≡ is_urgent self.now tsn }
+    {
+        self.is_by_rfcs() && (self.receiver.held.has_gap() || !self.receiver.is_new(tsn))
     }
 
     // DATA (RFC 4960 section 6.2). What is new is taken in, in whatever order it comes; without credit only what fills

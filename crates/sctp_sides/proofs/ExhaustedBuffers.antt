@@ -34,17 +34,17 @@ use Rattle.sctp_inbound.specs.Receiver.{asked}
 use Rattle.sctp_assoc.specs.Chunks.{asks, asks_or_faults, counted_data, deferred, deferred_unless}
 use Rattle.sctp_assoc.specs.Chunks.{deferred_where_admitted, on_chunk, on_data, on_new_data, taken_in}
 use Rattle.sctp_assoc.specs.Chunks.{goes_unread, left_or_handed_over, taken_unless, taken_where_admitted, then_skips}
-use Rattle.sctp_assoc.specs.Chunks.{told}
+use Rattle.sctp_assoc.specs.Chunks.{told, urged}
 use Rattle.sctp_assoc.specs.Closing.{is_exhausted}
 use Rattle.sctp_assoc.specs.Finding.{stream_found}
 use Rattle.sctp_assoc.specs.Resets.{settled}
 use Rattle.sctp_assoc.specs.Shown.{Shown, all_waiting}
 use Rattle.sctp_sides.specs.Causes.{IsFullForGood, IsUnreadable, LeavesNothingToRead, kept_apart, kept_behind}
 use Rattle.sctp_sides.specs.Intake.{is_for_later, later_refusal_of, receive_limit, refusal_of}
-use Rattle.sctp_assoc.proofs.CallsLeadOn.{chunk_leads}
 use Rattle.sctp_assoc.specs.Happened.{acts_of_chunk}
 use Rattle.sctp_assoc.specs.Leads.{Leads}
 use Rattle.sctp_assoc.proofs.DataCame.{from_new_tsn, new_tsn}
+use Rattle.sctp_assoc.proofs.DataLeadsOn.{data_leads}
 use Rattle.sctp_sides.proofs.DataIntake.{Found, PassesLater, PassesTests, data_passed, exhausts_of, fault_of, has_room}
 use Rattle.sctp_sides.proofs.DataIntake.{is_found, is_new, may_pass_later, may_passes, passes_may, passes_may_later}
 use Rattle.sctp_sides.proofs.DataIntake.{refused_data, refused_later, stream_is_found}
@@ -314,7 +314,7 @@ kept_same : (a : Shown) (header : CommonHeader) (piece : ChunkPayloadData) (trig
     → kept_apart (on_data a piece trigger).0 ≡ kept_behind a header (chunks.Data piece)
 unfolding on_chunk
 kept_same a header piece trigger =
-    ap kept_apart (data_same (is_new a piece) (is_for_later a piece) a piece trigger triggers.None refl refl)
+    ap kept_apart (data_same (is_new a piece) (is_for_later a piece) a piece trigger (urged a piece triggers.None) refl refl)
 
 -- DATA tells of it where it asks to be acknowledged: it is no fault, and its stream is there or can be made, or it is
 -- of a generation that is not read yet.
@@ -396,7 +396,7 @@ module _ (a : Shown) (h : History) (header : CommonHeader) (piece : ChunkPayload
     (binds : Binds a h) where
   data_leads_on : (k : History) × Leads (acts_of_chunk a header (chunks.Data piece)) a h (on_data a piece trigger).0 k
   unfolding on_chunk
-  data_leads_on = chunk_leads header (chunks.Data piece) a trigger 0 h binds
+  data_leads_on = data_leads a piece trigger h binds
 
   pub exhausting_data_leaves_nothing : exhausts_of (on_data a piece trigger).1 ≡ true
       → LeavesNothingToRead a h header piece
