@@ -28,7 +28,7 @@ polled_then d b moment now packets e none p =
     ∙ ap (λ (m : ℕ). with_polled d (polled d.association m)) (sym e)
     ∙ ap (with_polled d) p)
 
-error_of : Result (Unit {0}) Error → Error → Error
+error_of : {T : Type 0} → Result T Error → Error → Error
 error_of (Err x) z = x
 error_of (Ok x) z = z
 
@@ -44,3 +44,25 @@ module _ (a : Shown) {moment now : ℕ} (at_now : moment ≡ now) {inner error o
         let error_is : error ≡ other = ap (λ (z : Result (Unit {0}) Error). error_of z error) (sym is ∙ lacks) in
         subst (λ (m : ℕ). has_something_to_give a m ≡ true) at_now
         (given (ap (λ (z : Error). let s : Result (Option Transmit) Error = Err z in s) (sym same ∙ error_is)))
+
+-- where none waits, what failed is the association
+pub failing_given : {r : Result (Unit {0}) Error} {inner error : Error} (d e : Driving) (other : Error) → d ≡ e
+    → d.waiting ≡ [] → (IsErrOf {T = Option Transmit} (Err inner) other → d.association.failed ≡ true)
+    → (d.association.failed ≡ true → IsErrOf {T = Option Transmit} (Err inner) other) → error ≡ inner → r ≡ Err error
+    → (IsErrOf r other → (e.waiting ≡ []) × (e.association.failed ≡ true))
+    × ((e.waiting ≡ []) × (e.association.failed ≡ true) → IsErrOf r other)
+unfolding error_of
+failing_given {r = r} {inner = inner} {error = error} d e other view none failed fails same is =
+    let down : IsErrOf r other → error ≡ other =
+    λ (f : IsErrOf r other). ap (λ (z : Result (Unit {0}) Error). error_of z error) (sym is ∙ f) in
+    let up : IsErrOf {T = Option Transmit} (Err inner) other → inner ≡ other =
+    λ (f : IsErrOf {T = Option Transmit} (Err inner) other).
+    ap (λ (z : Result (Option Transmit) Error). error_of z inner) f in
+    subst (λ (z : Driving). (IsErrOf r other → (z.waiting ≡ []) × (z.association.failed ≡ true))
+    × ((z.waiting ≡ []) × (z.association.failed ≡ true) → IsErrOf r other)) view (
+      λ f. (
+        none,
+        failed (ap (λ (z : Error). let t : Result (Option Transmit) Error = Err z in t) (sym same ∙ down f)),
+      ),
+      λ both. is ∙ ap (λ (z : Error). let t : Result (Unit {0}) Error = Err z in t) (same ∙ up (fails both.1)),
+    )

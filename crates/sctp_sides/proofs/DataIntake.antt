@@ -627,7 +627,7 @@ unread_data_is_left a h header piece binds may unread =
       };
       no_fault =
           λ trigger now error e. false≢true
-          (ap is_some (sym none ∙ sym (refused_data a piece trigger p) ∙ ap fault_of e));
+          (ap is_some (sym none ∙ sym (refused_data a piece _ p) ∙ ap fault_of e));
     }
 
 pub later_data_is_kept_apart : LaterDataIsKeptApart

@@ -203,7 +203,7 @@ chunk_talks : (used : Bool) (header : CommonHeader) (c : Chunk) (a : Shown) (tri
     → IsTalking used a → IsTalking used (on_chunk a header c trigger now).0
 chunk_talks used header (chunks.Data piece) a trigger now h =
     greeting_talks used a header (chunks.Data piece) trigger now h
-    (remaining_talks used a _ (on_data_goes_on a piece trigger) h)
+    (remaining_talks used a _ (on_data_goes_on a piece _) h)
 chunk_talks used header (chunks.SelectiveAck sack) a trigger now h =
     greeting_talks used a header (chunks.SelectiveAck sack) trigger now h
     (sack_talks (sends_data a.state) used a sack.cumulative_tsn_ack sack.gap_ack_blocks
