@@ -239,19 +239,22 @@ static void heap(void) {
 
 /* ---- Retransmission ---- */
 
-/* How many bytes of A are in flight. */
-static uint64_t flight(void) {
-    sctp_assoc_path_values path;
-    CHECK(done(sctp_assoc_path(&ends[A], &path)));
-    return path.bytes_in_flight;
+/* A flight is large: of 15 of the greatest messages, or as much as the peer's window holds. */
+static bool is_long_flight(const sctp_assoc_path_values *path) {
+    return path->bytes_in_flight >= 15 * LONG;
 }
 
-/* A sends until so many bytes are in flight. All that is on the way is lost, and T3-rtx expires. Answers how many
- * datagrams go out then. */
-static uint64_t lose_flight(uint64_t least) {
+static bool is_full_window(const sctp_assoc_path_values *path) {
+    return path->bytes_in_flight >= 14 * LONG && path->peer_window < PAYLOAD_SIZE;
+}
+
+/* A sends until its flight is large. All that is on the way is lost, and T3-rtx expires. Answers how many datagrams go
+ * out then. */
+static uint64_t lose_flight(bool (*is_large)(const sctp_assoc_path_values *path)) {
+    sctp_assoc_path_values path;
     join();
     CHECK(opens(A, STREAM) && writes_many(A, STREAM, LONG, 100));
-    for (int i = 0; flight() < least; i++) {
+    for (int i = 0; done(sctp_assoc_path(&ends[A], &path)) && !is_large(&path); i++) {
         CHECK(i < 2000);
         pass(1);
     }
@@ -265,14 +268,14 @@ static uint64_t lose_flight(uint64_t least) {
 
 /* After T3-rtx expired one packet goes out (RFC 4960 sections 6.3.3, rule E3, and 7.2.3). */
 static void burst(void) {
-    HOLDS(lose_flight(15 * LONG) == 1);
+    HOLDS(lose_flight(is_long_flight) == 1);
     HOLDS(is_acknowledged_within(A, STREAM, 3000));
     end_pair();
 }
 
 /* The same where the flight filled the peer's window: it is soon sent again. */
 static void burst_full(void) {
-    HOLDS(lose_flight(16 * LONG - PAYLOAD_SIZE) == 1);
+    HOLDS(lose_flight(is_full_window) == 1);
     HOLDS(is_acknowledged_within(A, STREAM, 3000));
     end_pair();
 }
