@@ -106,6 +106,7 @@ int main(int argc, char **argv) {
     CHECK(udp >= 0 && connect(udp, (struct sockaddr *)&peer, sizeof peer) == 0);
 
     sctp_assoc_config config = default_config();
+    config.profile = SCTP_ASSOC_PROFILE_PORT; /* all goes without a SACK, and the RFCs' rules have a Max.Burst */
     sctp_assoc_identity named = identity((uint32_t)now() | 1);
     CHECK(done(sctp_assoc_client(&slot, &config, PAYLOAD_SIZE, &named, now())));
     while (!is_up && now() < end)

@@ -293,7 +293,7 @@ static const struct row forwards[] = {
     {"to-2 FORWARD_500_TWICE HEARTBEAT", "Established", "sends HEARTBEAT_ACK, opened 3, timer, point 500"},
     {"to-2 FIRST_500; to-2 FORWARD_TSN", "Established", "opened 3, datagram, sends SACK, point 502, DATA 1"},
     {"to-2 FIRST_500; to-2 FORWARD_TSN; to-2 LAST_501", "Established",
-     "opened 3, datagram, sends SACK, timer, point 502, DATA 2"},
+     "opened 3, datagram, sends SACK, sends SACK, point 502, DATA 2"},
 };
 
 /* Requests to reset streams of which one is there, or none (RFC 6525 section 5.2), which are answered by a request for

@@ -1,5 +1,6 @@
 /* Which of the pieces in flight go out again, where SACKs acknowledged some of them, for numbers of them up to one more
- * than a gap ack block can name: what the library finds by its searches is what a walk over all of them finds.
+ * than a gap ack block can name: what the library finds by its searches is what a walk over all of them finds. By the
+ * rules of the port, since those of the RFCs let no such flight go at once.
  *   in_flight [GREATEST]    passes over greater numbers of pieces */
 #include "packets.h"
 
@@ -131,6 +132,7 @@ static void search_among(size_t pieces) {
 
 int main(int argc, char **argv) {
     size_t greatest = argc > 1 ? (size_t)atoi(argv[1]) : MOST;
+    kept_rules = SCTP_ASSOC_PROFILE_PORT;
     for (size_t i = 0; i < COUNT_OF(counts); i++)
         if (counts[i] <= greatest)
             search_among(counts[i]);

@@ -71,6 +71,7 @@ static void exhausted_buffer(void) {
 static void many_waiting(void) {
     sctp_assoc_config config = default_config();
     size_t bytes;
+    config.profile = SCTP_ASSOC_PROFILE_PORT; /* which knows no Max.Burst */
     join(&config, SIZE);
     for (int i = 0; i < MANY; i++)
         write_bytes('a', 1);

@@ -74,6 +74,8 @@ static inline bool polls(uint64_t now) {
 }
 
 /* An end whose first TSN is this one, whose peer's is another, and the bytes that may wait here and at the peer. */
+static uint32_t kept_rules; /* of the end, SCTP_ASSOC_PROFILE_RFC unless a test says otherwise */
+
 static inline void begin(uint32_t max_piece, uint32_t own_tsn, uint32_t peer_tsn, uint32_t buffer,
                          uint32_t peer_window) {
     sctp_assoc_config config = default_config();
@@ -82,6 +84,7 @@ static inline void begin(uint32_t max_piece, uint32_t own_tsn, uint32_t peer_tsn
     CHECK(done(sctp_assoc_make_token(&config, PEER_TAG, peer_tsn, &peer)));
     peer.window = peer_window;
     config.max_receive_buffer_size = buffer;
+    config.profile = kept_rules;
     CHECK(done(sctp_assoc_joined(&end, &config, max_piece, &own, &peer)));
 }
 
