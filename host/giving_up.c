@@ -57,6 +57,8 @@ static bool is_lost(void) {
     return lost;
 }
 
+static uint32_t kept_rules = SCTP_ASSOC_PROFILE_RFC; /* the profile of both ends */
+
 /* Carries datagrams both ways until neither end has any to send. */
 static void exchange(void) {
     for (bool any = true; any;) {
@@ -106,6 +108,7 @@ static void write_under(const struct policy *policy, uint8_t byte, size_t count)
  * loses so much DATA of messages of this letter, and so many FORWARD TSNs. */
 static void begin(const struct policy *policy, uint8_t letter, uint32_t data, uint32_t forwards) {
     sctp_assoc_config config = default_config();
+    config.profile = kept_rules;
     join(&config, 4);
     now = 0;
     losses.letter = letter, losses.data = data, losses.forwards = forwards;
@@ -120,11 +123,14 @@ static void is_released(void) {
     CHECK(done(sctp_assoc_buffered_amount(&ends[A], STREAM, &bytes)) && bytes == 0);
 }
 
-/* B reads the messages, with that in the middle whole or without it, and nothing else; no timer runs any more. */
-static void comes_through(bool is_whole) {
+/* B reads the messages, with that in the middle whole or without it, and nothing else; no timer runs any more. An
+ * unordered one is read first. */
+static void comes_through(bool is_whole, bool unordered) {
     CHECK(settles());
+    if (is_whole && unordered)
+        read_bytes(GIVEN, 10);
     read_bytes('a', 1);
-    if (is_whole)
+    if (is_whole && !unordered)
         read_bytes(GIVEN, 10);
     read_bytes(BEHIND, 1);
     read_none();
@@ -136,33 +142,41 @@ static void comes_through(bool is_whole) {
 static void never_comes(const struct policy *policy) {
     for (uint32_t forwards = 0; forwards <= 2; forwards += 2) {
         begin(policy, GIVEN, ALL, forwards);
-        comes_through(false);
+        comes_through(false, false);
         CHECK(losses.forwards == 0);
     }
 }
 
-/* Nothing is read of a message of which the first piece is lost alone, once it is given up. */
+/* Nothing is read of a message of which the first piece is lost alone, once it is given up. One that has time left goes
+ * again at once by the rules of the RFCs, as nothing is sent behind it that could have it reported three times. */
 static void comes_in_part(const struct policy *policy) {
     begin(policy, GIVEN, 1, 0);
-    comes_through(false);
+    comes_through(kept_rules == SCTP_ASSOC_PROFILE_RFC && policy->kind == SCTP_ASSOC_TIMED, policy->unordered);
+}
+
+static void all_come_in_part(void) {
+    comes_in_part(&once);
+    comes_in_part(&for_10_ms);
+    comes_in_part(&once_unordered);
+    comes_in_part(&for_10_ms_unordered);
 }
 
 /* A message is read that comes before it is given up: its three pieces are lost once. */
 static void comes_in_time(const struct policy *policy) {
     begin(policy, GIVEN, 3, 0);
-    comes_through(true);
+    comes_through(true, false);
 }
 
 /* The reliable message behind it comes, however often it is lost. */
 static void reliable_is_lost(const struct policy *policy) {
     begin(policy, BEHIND, 12, 0);
-    comes_through(true);
+    comes_through(true, false);
 }
 
 /* What expires before it is sent leaves no gap: without a FORWARD TSN nothing behind a gap could be read. */
 static void expires_unsent(const struct policy *policy) {
     begin(policy, GIVEN, ALL, ALL);
-    comes_through(false);
+    comes_through(false, false);
 }
 
 /* A message that is given up takes its stream to the low mark: no FORWARD TSN comes through, so that nothing is
@@ -184,10 +198,10 @@ int main(void) {
     never_comes(&for_5_s);
     never_comes(&twice_unordered);
     never_comes(&for_10_ms_unordered);
-    comes_in_part(&once);
-    comes_in_part(&for_10_ms);
-    comes_in_part(&once_unordered);
-    comes_in_part(&for_10_ms_unordered);
+    all_come_in_part();
+    kept_rules = SCTP_ASSOC_PROFILE_PORT;
+    all_come_in_part();
+    kept_rules = SCTP_ASSOC_PROFILE_RFC;
     comes_in_time(&twice);
     comes_in_time(&for_5_s);
     comes_in_time(&reliable);

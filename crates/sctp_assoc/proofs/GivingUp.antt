@@ -1,6 +1,6 @@
 -- Messages are given up, one after another.
 use Rattle.std.proofs.Common.{◌≡◌, refl, sym, ap, ◌∙◌, ℕ, zero, suc, ◌+◌, ◌-◌, arith}
-use Rattle.std.proofs.Common.{Bool, true, false, not, ◌&&◌, ◌==◌, if◌then◌else◌, is_some, nat_le, nat_lt}
+use Rattle.std.proofs.Common.{Bool, true, false, not, ◌&&◌, if◌then◌else◌, is_some, nat_le, nat_lt}
 use Rattle.std.proofs.Common.{List, [], ◌∷◌, get_or, slice_get, Option, Some, None}
 use Rattle.std.proofs.lemmas.Bool.{and_parts, false≢true, not-true}
 use Rattle.std.proofs.lemmas.List.Quantifiers.{position-Some}
@@ -83,8 +83,8 @@ outstanding_of : (k : Retransmission) (p : InFlight) → picks k p ≡ true
     → (p.retransmit ≡ true → is_outstanding p ≡ true) → is_outstanding p ≡ true
 outstanding_of causes.Timer p picked right = right picked
 outstanding_of causes.Fast p picked right =
-    (and_parts (is_outstanding p) (p.sent_count == 1)
-    (and_parts (is_outstanding p && p.sent_count == 1) (nat_le 3 p.misses) picked).0).0
+    (and_parts (is_outstanding p) (not p.resent)
+    (and_parts (is_outstanding p && not p.resent) (nat_le 3 p.misses) picked).0).0
 
 spent_can : (k : Retransmission) (p : InFlight) → picks k p ≡ true → is_spent p ≡ true
     → (p.retransmit ≡ true → is_outstanding p ≡ true) → can_abandon (Some p) ≡ true

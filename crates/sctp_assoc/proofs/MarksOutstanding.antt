@@ -1,12 +1,14 @@
 -- What is to go out again is neither acknowledged nor abandoned, whatever an association does.
 use Rattle.std.proofs.Common.{◌≡◌, refl, ℕ, zero, suc, Bool, true, false, if◌then◌else◌, List, [], ◌∷◌, ◌++◌}
-use Rattle.std.proofs.Common.{◌&&◌, ◌+◌, ◌==◌, drop, map, nat_lt, slice_get, slice_set, subst, take, Option, Some, None}
+use Rattle.std.proofs.Common.{◌==◌, drop, map, slice_get, slice_set, subst, take, Option, Some, None}
 use Rattle.std.specs.List.{AllByRecursion}
 use Rattle.std.proofs.lemmas.Bool.{false≢true}
 use Rattle.sctp_outbound_queue.specs.declared.message.InFlight.{InFlight}
+use Rattle.sctp_outbound_queue.specs.declared.message.Reports.{Reports}
 use Rattle.sctp_outbound_queue.specs.Waiting.{Waiting}
 use Rattle.sctp_outbound_queue.specs.Message.{acked, counted_again, is_outstanding, marked_again, reported_missing}
-use Rattle.sctp_outbound_queue.specs.Message.{flagged, is_of, marker_of, sent_once, sent_started}
+use Rattle.sctp_outbound_queue.specs.Message.{flagged, is_of, is_reported, marker_of, misses_after, sent_once}
+use Rattle.sctp_outbound_queue.specs.Message.{sent_started, stays_resent}
 use Rattle.sctp_outbound_queue.specs.declared.message.Retransmission.{Retransmission}
 use Rattle.sctp_outbound_queue.specs.declared.message.Retransmission.TheVariants as causes
 use Rattle.sctp_outbound_queue.specs.Outbound.{Outbound, changed_from, sent_from, tail_dropped_from}
@@ -80,17 +82,16 @@ again_right by None q index e m = m
 again_right by (Some p) q index e m =
     set_right q.in_flight index (counted_again by p) (counted_right by p (get_right q.in_flight index p e m)) m
 
-reported_if : (c : Bool) (x : InFlight) → IsMarkedRight x
-    → IsMarkedRight (if c then record x { misses = x.misses + 1 } else x)
-reported_if true x m e = m e
-reported_if false x m e = m e
+reported_if : (c : Bool) (r : Reports) (x : InFlight) → IsMarkedRight x
+    → IsMarkedRight (if c then record x { misses = misses_after r x; resent = stays_resent r.among x } else x)
+reported_if true r x m e = m e
+reported_if false r x m e = m e
 
-missing_right : (n : ℕ) (xs : List InFlight) → AreMarkedRight xs
-    → AreMarkedRight (map reported_missing (take n xs) ++ drop n xs)
-missing_right zero xs m = m
-missing_right (suc n) [] m = tt
-missing_right (suc n) (x ∷ xs) (m, ms) =
-    (reported_if (is_outstanding x && nat_lt x.misses 3) x m, missing_right n xs ms)
+missing_right : (r : Reports) (n : ℕ) (xs : List InFlight) → AreMarkedRight xs
+    → AreMarkedRight (map (reported_missing r) (take n xs) ++ drop n xs)
+missing_right r zero xs m = m
+missing_right r (suc n) [] m = tt
+missing_right r (suc n) (x ∷ xs) (m, ms) = (reported_if (is_reported r x) r x m, missing_right r n xs ms)
 
 written_right : (o : Option StreamView) (p : Parts) (id : ℕ) (named : Option PayloadProtocolIdentifier) (bytes : List ℕ)
     → AreMarkedRight p.queue.in_flight → AreMarkedRight (with_written o p id named bytes).queue.in_flight
@@ -150,7 +151,8 @@ act_marked (Act.SentAgain by index) p m =
     again_right by (slice_get p.queue.in_flight index) p.queue index refl m
 act_marked Act.Marked p m = all_right p.queue.in_flight m
 act_marked (Act.Acknowledged n blocks missing) p m =
-    missing_right missing _ (drop_right n _ (among_right (is_acknowledged_by n blocks) 0 p.queue.in_flight m))
+    missing_right missing missing.count _
+    (drop_right n _ (among_right (is_acknowledged_by n blocks) 0 p.queue.in_flight m))
 act_marked (Act.Abandoned index) p m = abandoned_right (slice_get p.queue.in_flight index) p m
 act_marked Act.TailAbandoned p m = tail_abandoned_right (slice_get p.queue.pending 0) p m
 act_marked (Act.Dropped k) p m = dropped_right k (slice_get p.queue.pending k) p m

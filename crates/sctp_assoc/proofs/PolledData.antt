@@ -1,7 +1,7 @@
 -- The DATA of a poll is what its acts give out.
 use Rattle.std.proofs.Common.{◌≡◌, refl, sym, ap, ◌∙◌, ⊎_elim, ℕ, zero, suc, ◌+◌, ◌-◌, arith, Bool, true, false}
 use Rattle.std.proofs.Common.{if◌then◌else◌, List, [], ◌∷◌, ◌++◌, length, nat_lt, slice_get, slice_set, Some, is_some}
-use Rattle.std.proofs.Common.{nat_le, ◌==◌, ◌&&◌}
+use Rattle.std.proofs.Common.{nat_le, not, ◌&&◌}
 use Rattle.std.proofs.lemmas.Bool.{and_parts, cases_Bool, false≢true}
 use Rattle.std.proofs.lemmas.List.{append_assoc}
 use Rattle.sctp_wire_types.specs.declared.chunk.ChunkPayloadData.{ChunkPayloadData}
@@ -54,8 +54,8 @@ picked_right : (by : Retransmission) (x : InFlight) → picks by x ≡ true
     → (x.retransmit ≡ true → is_outstanding x ≡ true) → is_outstanding x ≡ true
 picked_right causes.Timer x picked marked = marked picked
 picked_right causes.Fast x picked marked =
-    (and_parts (is_outstanding x) (x.sent_count == 1)
-    (and_parts (is_outstanding x && x.sent_count == 1) (nat_le 3 x.misses) picked).0).0
+    (and_parts (is_outstanding x) (not x.resent)
+    (and_parts (is_outstanding x && not x.resent) (nat_le 3 x.misses) picked).0).0
 
 again_one : (by : Retransmission) (x : InFlight) (ps xs : List InFlight) (p : Parts)
     → p.queue.in_flight ≡ xs ++ x ∷ ps → Tied p

@@ -1,5 +1,5 @@
 -- What the chunks of a packet do to an association (RFC 4960 sections 3.3 and 6.2).
-use Rattle.std.specs.Prelude.{ℕ, Bool, true, false, List, [], ◌∷◌, ◌++◌, ◌&&◌, ◌||◌, if◌then◌else◌, not, is_some}
+use Rattle.std.specs.Prelude.{ℕ, Bool, true, false, List, [], ◌∷◌, ◌++◌, ◌&&◌, ◌||◌, if◌then◌else◌, not}
 use Rattle.std.specs.Prelude.{length, nat_le, Option, Some, None, Result, Ok, Err}
 use Rattle.sctp_wire_types.specs.Config.{is_rfc}
 use Rattle.sctp_wire_types.specs.declared.config.Profile.{Profile}
@@ -8,8 +8,7 @@ use Rattle.sctp_wire_types.specs.declared.error.Error.TheVariants as errors
 use Rattle.sctp_wire_types.specs.declared.chunk.Chunk.{Chunk}
 use Rattle.sctp_wire_types.specs.declared.chunk.Chunk.TheVariants as chunks
 use Rattle.sctp_wire_types.specs.declared.chunk.ChunkPayloadData.{ChunkPayloadData}
-use Rattle.sctp_wire_types.specs.declared.ids.PayloadProtocolIdentifier.TheVariants as kinds
-use Rattle.sctp_wire_types.specs.declared.event.StreamEvent.TheVariants.{Opened, Readable}
+use Rattle.sctp_wire_types.specs.declared.event.StreamEvent.TheVariants.{Readable}
 use Rattle.sctp_wire_types.specs.declared.packet.CommonHeader.{CommonHeader}
 use Rattle.sctp_wire_types.specs.Checks.{checked_chunk}
 use Rattle.sctp_wire.specs.declared.packet.Packet.{Packet}
@@ -19,7 +18,7 @@ use Rattle.sctp_streams.specs.declared.event.AssociationError.TheVariants as rea
 use Rattle.sctp_streams.specs.declared.event.Event.TheVariants.{DatagramReceived}
 use Rattle.sctp_streams.specs.declared.event.Event.TheVariants as events
 use Rattle.sctp_streams.specs.Stream.{is_read_half_open}
-use Rattle.sctp_streams.specs.Streams.{StreamMap, stream_at, made, generation_left, refusal_in}
+use Rattle.sctp_streams.specs.Streams.{StreamMap, stream_at, refusal_in}
 use Rattle.sctp_streams.specs.Streams.{pushed_in, is_readable_in}
 use Rattle.sctp_streams.specs.LowMarks.{low_told}
 use Rattle.sctp_inbound.specs.declared.receiver.AckTrigger.{AckTrigger}

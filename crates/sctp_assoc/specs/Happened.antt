@@ -17,6 +17,7 @@ use Rattle.sctp_wire.specs.Packets.{packet_at}
 use Rattle.sctp_parts.specs.declared.timer.Timer.TheVariants as names
 use Rattle.sctp_parts.specs.Timers.{expiry_of}
 use Rattle.sctp_outbound_queue.specs.declared.message.InFlight.{InFlight}
+use Rattle.sctp_outbound_queue.specs.declared.message.Reports.{Reports}
 use Rattle.sctp_outbound_queue.specs.declared.message.Retransmission.{Retransmission}
 use Rattle.sctp_outbound_queue.specs.declared.message.Retransmission.TheVariants as causes
 use Rattle.sctp_outbound_queue.specs.Message.{is_expired_unsent, picks, room_taken}
@@ -143,7 +144,7 @@ abbrev pub marks_if : Bool → List Act
 marks_if true = Act.Marked ∷ []
 marks_if false = []
 
-abbrev pub acts_of_outcome : SackOutcome → ℕ → List GapAckBlock → ℕ → Bool → List Act
+abbrev pub acts_of_outcome : SackOutcome → ℕ → List GapAckBlock → Reports → Bool → List Act
 acts_of_outcome outcomes.Older n blocks missing opens = []
 acts_of_outcome outcomes.NotInFlight n blocks missing opens = []
 acts_of_outcome outcomes.NamesTheUnsent n blocks missing opens = []

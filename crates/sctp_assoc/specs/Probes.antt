@@ -36,6 +36,7 @@ timed_out_by probing s = record s {
   is_fast_due = (sender_behind probing s).is_fast_due;
   is_after_timeout = (sender_behind probing s).is_after_timeout;
   burst_room = (sender_behind probing s).burst_room;
+  fresh_tsn = (sender_behind probing s).fresh_tsn;
 }
 
 abbrev pub timed_out_sender : Shown → Sender

@@ -13,6 +13,7 @@ use Rattle.sctp_wire_types.specs.declared.packet.CommonHeader.{CommonHeader}
 use Rattle.sctp_streams.specs.Streams.{generation_left, refusal_in, stream_at}
 use Rattle.sctp_inbound.specs.Handshake.{comes_back}
 use Rattle.sctp_inbound.specs.Receiver.{admits, is_new_to}
+use Rattle.sctp_outbound_queue.specs.declared.message.Reports.{Reports}
 use Rattle.sctp_outbound.specs.declared.sender.SackOutcome.{SackOutcome}
 use Rattle.sctp_outbound.specs.declared.sender.SackOutcome.TheVariants as outcomes
 use Rattle.sctp_generations.specs.Generations.{has_retiring, has_skips}
@@ -123,7 +124,7 @@ data_is_heard a piece =
 
 -- Other chunks
 
-outcome_is_heard : (outcome : SackOutcome) (n : ℕ) (blocks : List GapAckBlock) (missing : ℕ) (opens : Bool)
+outcome_is_heard : (outcome : SackOutcome) (n : ℕ) (blocks : List GapAckBlock) (missing : Reports) (opens : Bool)
     → AreHeard (acts_of_outcome outcome n blocks missing opens)
 outcome_is_heard outcomes.Older n blocks missing opens = tt
 outcome_is_heard outcomes.NotInFlight n blocks missing opens = tt

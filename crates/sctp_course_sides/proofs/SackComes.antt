@@ -13,6 +13,7 @@ use Rattle.sctp_received.specs.Received.{is_named}
 use Rattle.sctp_streams.specs.Streams.{StreamMap}
 use Rattle.sctp_inbound.specs.declared.receiver.AckTrigger.{AckTrigger}
 use Rattle.sctp_outbound_queue.specs.declared.message.InFlight.{InFlight}
+use Rattle.sctp_outbound_queue.specs.declared.message.Reports.{Reports}
 use Rattle.sctp_outbound.specs.declared.progress.Progress.{Progress}
 use Rattle.sctp_outbound.specs.declared.sender.SackOutcome.{SackOutcome}
 use Rattle.sctp_outbound.specs.declared.sender.SackOutcome.TheVariants as outcomes
@@ -167,7 +168,7 @@ module _ (P : ChunkPayloadData → Type 0) (initial id : ℕ) where
       checked_leaves (checked_chunk (chunks.SelectiveAck sack)) a header sack trigger now
 
 -- what is acknowledged, and marked behind that, leaves what came
-marked_past : (marked : Bool) (n : ℕ) (blocks : List GapAckBlock) (missing : ℕ) (p : Parts)
+marked_past : (marked : Bool) (n : ℕ) (blocks : List GapAckBlock) (missing : Reports) (p : Parts)
     → IsSamePast p.history (done_all (Act.Acknowledged n blocks missing ∷ marks_if marked) p).history
 marked_past true n blocks missing p = record { peer = refl; taken = refl; passed = refl }
 marked_past false n blocks missing p = record { peer = refl; taken = refl; passed = refl }

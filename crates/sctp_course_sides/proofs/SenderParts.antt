@@ -1,6 +1,6 @@
 -- What a side sends of a stream, in its parts: what is in flight, what is held back, and the requests.
-use Rattle.std.proofs.Common.{◌≡◌, refl, sym, ap, ◌∙◌, subst, ◌⊎◌, ℕ, zero, suc, ◌<◌, ◌≤◌, ◌+◌, ◌-◌, ◌^◌, ◌&&◌, arith}
-use Rattle.std.proofs.Common.{Bool, true, false, if◌then◌else◌, nat_lt, List, [], ◌∷◌, ◌++◌, drop, length, map}
+use Rattle.std.proofs.Common.{◌≡◌, refl, sym, ap, ◌∙◌, subst, ◌⊎◌, ℕ, zero, suc, ◌<◌, ◌≤◌, ◌+◌, ◌-◌, ◌^◌, arith}
+use Rattle.std.proofs.Common.{Bool, true, false, if◌then◌else◌, List, [], ◌∷◌, ◌++◌, drop, length, map}
 use Rattle.std.proofs.Common.{slice_get, take, Option, Some, None}
 use Rattle.std.specs.List.{AllByRecursion}
 use Rattle.std.specs.Prelude.{⊤}
@@ -8,7 +8,8 @@ use Rattle.std.proofs.lemmas.List.{length-drop, length-map}
 use Rattle.sctp_serial.specs.Serial.{tsn}
 use Rattle.sctp_outbound_queue.specs.declared.message.Attributes.{Attributes}
 use Rattle.sctp_outbound_queue.specs.declared.message.InFlight.{InFlight}
-use Rattle.sctp_outbound_queue.specs.Message.{acked, is_outstanding, marked_again, reported_missing}
+use Rattle.sctp_outbound_queue.specs.declared.message.Reports.{Reports}
+use Rattle.sctp_outbound_queue.specs.Message.{acked, is_outstanding, is_reported, marked_again, reported_missing}
 use Rattle.sctp_outbound_queue.specs.Outbound.{Outbound, has_stream}
 use Rattle.sctp_outbound.specs.GapAcks.{acked_among}
 use Rattle.sctp_reset_requests.specs.declared.own_request.OwnRequest.{OwnRequest}
@@ -180,24 +181,24 @@ module _ (id : ℕ) (mine : List ℕ) where
   left_mine (suc n) from (x ∷ xs) (m, ms) =
       subst (λ (o : ℕ). AreMine id mine o (drop n xs)) (sym (one_more from n)) (left_mine n (suc from) xs ms)
 
-  missed_mine : (n from : ℕ) (xs : List InFlight) → AreMine id mine from xs
-      → AreMine id mine from (map reported_missing (take n xs) ++ drop n xs)
-  missed_mine zero from xs m = m
-  missed_mine (suc n) from [] m = tt
-  missed_mine (suc n) from (x ∷ xs) (m, ms) = (
-    λ e. m (of_changed id x (reported_missing x)
-        (same_if (is_outstanding x && nat_lt x.misses 3) x _ refl) e),
-    missed_mine n (suc from) xs ms,
+  missed_mine : (r : Reports) (n from : ℕ) (xs : List InFlight) → AreMine id mine from xs
+      → AreMine id mine from (map (reported_missing r) (take n xs) ++ drop n xs)
+  missed_mine r zero from xs m = m
+  missed_mine r (suc n) from [] m = tt
+  missed_mine r (suc n) from (x ∷ xs) (m, ms) = (
+    λ e. m (of_changed id x (reported_missing r x) (same_if (is_reported r x) x _ refl) e),
+    missed_mine r n (suc from) xs ms,
   )
 
 acked_count : (named : ℕ → Bool) (j : ℕ) (xs : List InFlight) → length (acked_among named j xs) ≡ length xs
 acked_count named j [] = refl
 acked_count named j (x ∷ xs) = ap suc (acked_count named (suc j) xs)
 
-missed_count : (n : ℕ) (xs : List InFlight) → length (map reported_missing (take n xs) ++ drop n xs) ≡ length xs
-missed_count zero xs = refl
-missed_count (suc n) [] = refl
-missed_count (suc n) (x ∷ xs) = ap suc (missed_count n xs)
+missed_count : (r : Reports) (n : ℕ) (xs : List InFlight)
+    → length (map (reported_missing r) (take n xs) ++ drop n xs) ≡ length xs
+missed_count r zero xs = refl
+missed_count r (suc n) [] = refl
+missed_count r (suc n) (x ∷ xs) = ap suc (missed_count r n xs)
 
 left_behind : (all base n flown left : ℕ) → all ≡ base + flown → n ≤ flown → left ≡ flown - n → all ≡ base + n + left
 left_behind all base n flown left e within d = omega (arith, e, within, d)
@@ -211,19 +212,20 @@ marked_flown id c xs base f = record {
 }
 
 -- a SACK acknowledged the first n pieces, and some of the others, and reported some missing
-acknowledged_flown : (id : ℕ) (c : Course) (named : ℕ → Bool) (n missing : ℕ) (xs : List InFlight) (base : ℕ)
-    → n ≤ length xs → Flown id c xs base
+acknowledged_flown : (id : ℕ) (c : Course) (named : ℕ → Bool) (n : ℕ) (missing : Reports) (xs : List InFlight)
+    (base : ℕ) → n ≤ length xs → Flown id c xs base
     → Flown id c
-    (map reported_missing (take missing (drop n (acked_among named 0 xs)))
-    ++ drop missing (drop n (acked_among named 0 xs))) (base + n)
+    (map (reported_missing missing) (take missing.count (drop n (acked_among named 0 xs)))
+    ++ drop missing.count (drop n (acked_among named 0 xs))) (base + n)
 acknowledged_flown id c named n missing xs base within f =
     let ys : List InFlight = acked_among named 0 xs in
     record {
       assigned =
           left_behind c.assigned base n (length xs) _ f.assigned within
-          (missed_count missing (drop n ys) ∙ length-drop n ys ∙ ap (λ (k : ℕ). k - n) (acked_count named 0 xs));
+          (missed_count missing missing.count (drop n ys) ∙ length-drop n ys
+          ∙ ap (λ (k : ℕ). k - n) (acked_count named 0 xs));
       mine =
-          missed_mine id c.mine missing (base + n) (drop n ys)
+          missed_mine id c.mine missing missing.count (base + n) (drop n ys)
           (left_mine id c.mine n base ys (acked_mine id c.mine named 0 base xs f.mine));
     }
 

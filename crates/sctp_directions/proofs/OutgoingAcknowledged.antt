@@ -1,6 +1,6 @@
 -- What an association finds acknowledged is acknowledged at the direction's sender, and a SACK acknowledges as many
 -- offsets there as pieces here (RFC 4960 section 6.2.1).
-use Rattle.std.proofs.Common.{zero, suc, List, [], ◌∷◌, ◌++◌, ◌&&◌, map, take, drop, nat_lt, Some, slice_get}
+use Rattle.std.proofs.Common.{zero, suc, List, [], ◌∷◌, ◌++◌, map, take, drop, Some, slice_get}
 use Rattle.std.proofs.Common.{◌≡◌, sym, ap, ◌∙◌, ⊎_elim, ℕ, ◌+◌, ◌-◌, ◌<◌, ◌≤◌, ◌%◌, ◌^◌, ◌||◌, length, arith}
 use Rattle.std.proofs.lemmas.Bool.{cases_lt, le-ltb, lt-ltb}
 use Rattle.sctp_wire_types.specs.declared.chunk.ChunkSelectiveAck.{ChunkSelectiveAck}
@@ -18,7 +18,8 @@ use Rattle.sctp_directions.proofs.OutgoingSentAgain.{same_piece}
 use Rattle.sctp_fit.proofs.MarksSayNothing as marks
 use Rattle.sctp_fit.specs.Sendings.{AreSamePieces, IsSamePiece}
 use Rattle.sctp_outbound_queue.specs.declared.message.InFlight.{InFlight}
-use Rattle.sctp_outbound_queue.specs.Message.{is_outstanding, reported_missing}
+use Rattle.sctp_outbound_queue.specs.declared.message.Reports.{Reports}
+use Rattle.sctp_outbound_queue.specs.Message.{is_reported, misses_after, reported_missing, stays_resent}
 use Rattle.std.proofs.lemmas.Bool.{cond_both}
 use Rattle.sctp_directions.specs.Laws.{ItsAcknowledgementsAreAlike, SacksMeanTheSame}
 use Rattle.sctp_directions.specs.Reports.{SaysWhatWasTaken}
@@ -46,22 +47,24 @@ names_alike own base n j x c says far = ⊎_elim
 -- What it reports missing
 
 -- a report that a piece is missing says nothing of it to the direction
-same_reported : (x : InFlight) → IsSamePiece x (reported_missing x)
-same_reported x =
-    cond_both (is_outstanding x && nat_lt x.misses 3) (record x { misses = x.misses + 1 }) x (IsSamePiece x)
-    (λ b. same_piece x x.retransmit (x.misses + 1)) (λ b. same_piece x x.retransmit x.misses)
+same_reported : (r : Reports) (x : InFlight) → IsSamePiece x (reported_missing r x)
+same_reported r x =
+    cond_both (is_reported r x) (record x { misses = misses_after r x; resent = stays_resent r.among x }) x
+    (IsSamePiece x) (λ b. same_piece x x.retransmit (misses_after r x) (stays_resent r.among x))
+    (λ b. same_piece x x.retransmit x.misses x.resent)
 
 all_same : (xs : List InFlight) → AreSamePieces xs xs
 all_same [] = tt
-all_same (x ∷ xs) = (same_piece x x.retransmit x.misses, all_same xs)
+all_same (x ∷ xs) = (same_piece x x.retransmit x.misses x.resent, all_same xs)
 
 -- nor of the first ones in flight
-first_reported : (n : ℕ) (xs : List InFlight) → AreSamePieces xs (map reported_missing (take n xs) ++ drop n xs)
-first_reported zero xs = all_same xs
-first_reported (suc n) [] = tt
-first_reported (suc n) (x ∷ xs) = (same_reported x, first_reported n xs)
+first_reported : (r : Reports) (n : ℕ) (xs : List InFlight)
+    → AreSamePieces xs (map (reported_missing r) (take n xs) ++ drop n xs)
+first_reported r zero xs = all_same xs
+first_reported r (suc n) [] = tt
+first_reported r (suc n) (x ∷ xs) = (same_reported r x, first_reported r n xs)
 
-module _ (p : Parts) (n k missing : ℕ) (c : ChunkSelectiveAck) (x : Sack) (w : Direction)
+module _ (p : Parts) (n k : ℕ) (missing : Reports) (c : ChunkSelectiveAck) (x : Sack) (w : Direction)
     (there : slice_get w.sacks k ≡ Some x) (says : SaysWhatWasTaken p.history.own x.reach x.above c)
     (far : x.reach ≡ w.sender.reach + n) (within : n ≤ length p.queue.in_flight) (inv : Invariant w)
     (f : FitsOutgoing (sending p) w) where
@@ -71,7 +74,7 @@ module _ (p : Parts) (n k missing : ℕ) (c : ChunkSelectiveAck) (x : Sack) (w :
   acknowledged_alike =
       let left = with_acknowledged n c.gap_ack_blocks p in
       marks.marks_are_no_events (sending left) (with_reports missing left).queue.in_flight
-      (happens w (Event.SackComes k)) (first_reported missing left.queue.in_flight)
+      (happens w (Event.SackComes k)) (first_reported missing missing.count left.queue.in_flight)
       (flight.acknowledgements_are_alike (sending p) n k (is_acknowledged_by n c.gap_ack_blocks) x w there far within
       (λ j l. names_alike p.history.own w.sender.reach n j x c says far) inv f)
 

@@ -35,15 +35,15 @@ its_pieces_are_given p by index w can inv f =
     pieces_given p by index w inv f (slice_get p.queue.in_flight index) can refl
 
 -- a piece is the same one, marked or not and however often it was reported missing
-pub same_piece : (x : InFlight) (retransmit : Bool) (misses : ℕ)
-    → IsSamePiece x (record x { retransmit = retransmit; misses = misses })
-same_piece x retransmit misses = again.same_but_counts x retransmit x.sent_count misses
+pub same_piece : (x : InFlight) (retransmit : Bool) (misses : ℕ) (resent : Bool)
+    → IsSamePiece x (record x { retransmit = retransmit; misses = misses; resent = resent })
+same_piece x retransmit misses resent = again.same_but_counts x retransmit x.sent_count misses resent
 
 -- a mark for sending again says nothing of a piece
 same_marked : (x : InFlight) → IsSamePiece x (marked_again x)
 same_marked x =
-    cond_both (is_outstanding x) (record x { retransmit = true }) x (IsSamePiece x) (λ b. same_piece x true x.misses)
-    (λ b. same_piece x x.retransmit x.misses)
+    cond_both (is_outstanding x) (record x { retransmit = true }) x (IsSamePiece x)
+    (λ b. same_piece x true x.misses x.resent) (λ b. same_piece x x.retransmit x.misses x.resent)
 
 -- nor of all pieces
 all_same_marked : (xs : List InFlight) → AreSamePieces xs (map marked_again xs)

@@ -8,6 +8,7 @@ use Rattle.sctp_wire_types.specs.declared.chunk.GapAckBlock.{GapAckBlock}
 use Rattle.sctp_wire_types.specs.declared.chunk.SkippedStream.{SkippedStream}
 use Rattle.sctp_wire_types.specs.declared.ids.PayloadProtocolIdentifier.{PayloadProtocolIdentifier}
 use Rattle.sctp_outbound_queue.specs.declared.message.InFlight.{InFlight}
+use Rattle.sctp_outbound_queue.specs.declared.message.Reports.{Reports}
 use Rattle.sctp_outbound_queue.specs.declared.message.Retransmission.{Retransmission}
 use Rattle.sctp_outbound_queue.specs.Cut.{first_piece, other_pieces}
 use Rattle.sctp_outbound_queue.specs.Waiting.{Waiting}
@@ -96,8 +97,8 @@ pub data Act : Type 0 where
   -- all that is outstanding is to go out again
   Marked : Act
   -- a SACK acknowledged so many of the first pieces in flight, and of those behind them the ones that its gap ack
-  -- blocks name; then it reported so many of the first ones left in flight missing
-  Acknowledged : ℕ → List GapAckBlock → ℕ → Act
+  -- blocks name; then it reported some of those left in flight missing
+  Acknowledged : ℕ → List GapAckBlock → Reports → Act
   -- the message of the piece in flight that is so many offsets past the first one was abandoned whole: each of its
   -- pieces, and what of it waits
   Abandoned : ℕ → Act
@@ -179,8 +180,8 @@ with_acknowledged n blocks p = record p {
   history = (let h = p.history in record h { base = h.base + n });
 }
 
--- so many of the first pieces in flight are reported missing
-abbrev pub with_reports : ℕ → Parts → Parts
+-- pieces in flight are reported missing
+abbrev pub with_reports : Reports → Parts → Parts
 with_reports missing p = record p { queue = with_missing missing p.queue }
 
 -- the parts with what its own direction's sender has of them now

@@ -12,6 +12,7 @@ use Rattle.sctp_wire_types.specs.declared.ids.PayloadProtocolIdentifier.{Payload
 use Rattle.sctp_streams.specs.declared.setting.Setting.{Setting}
 use Rattle.sctp_streams.specs.Stream.{StreamView}
 use Rattle.sctp_streams.specs.Streams.{StreamMap, stream_at}
+use Rattle.sctp_outbound_queue.specs.declared.message.Reports.{Reports}
 use Rattle.sctp_outbound_queue.specs.declared.message.Retransmission.{Retransmission}
 use Rattle.sctp_outbound_queue.specs.Outbound.{abandoned_in_front_of}
 use Rattle.sctp_outbound.specs.declared.sender.Sender.{Sender}
@@ -69,7 +70,8 @@ ItsMarksAreNoEvents = (p : Parts) (w : Direction) → FitsOutgoing (sending p) w
 -- What a SACK acknowledges at the association, by its cumulative TSN ack and by its gap ack blocks, it acknowledges at
 -- the direction's sender, whatever it reports missing.
 abbrev pub ItsAcknowledgementsAreAlike : Type 0
-ItsAcknowledgementsAreAlike = (p : Parts) (n k missing : ℕ) (c : ChunkSelectiveAck) (x : Sack) (w : Direction)
+ItsAcknowledgementsAreAlike = (p : Parts) (n k : ℕ) (missing : Reports) (c : ChunkSelectiveAck) (x : Sack)
+    (w : Direction)
     → slice_get w.sacks k ≡ Some x → SaysWhatWasTaken p.history.own x.reach x.above c → x.reach ≡ w.sender.reach + n
     → n ≤ length p.queue.in_flight → Invariant w → FitsOutgoing (sending p) w
     → FitsOutgoing (sending (done (Act.Acknowledged n c.gap_ack_blocks missing) p)) (happens w (Event.SackComes k))

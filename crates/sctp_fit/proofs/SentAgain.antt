@@ -46,9 +46,9 @@ module _ (over : ℕ → Bool) (initial : ℕ) (n : Names) (within : (s : ℕ) �
   }
 
 -- a piece is the same one, marked or not, however often it was sent and however often it was reported missing
-pub same_but_counts : (x : InFlight) (retransmit : Bool) (sent_count misses : ℕ)
-    → IsSamePiece x (record x { retransmit = retransmit; sent_count = sent_count; misses = misses })
-same_but_counts x retransmit sent_count misses = record {
+pub same_but_counts : (x : InFlight) (retransmit : Bool) (sent_count misses : ℕ) (resent : Bool)
+    → IsSamePiece x (record x { retransmit = retransmit; sent_count = sent_count; misses = misses; resent = resent })
+same_but_counts x retransmit sent_count misses resent = record {
   message = record {
     id = refl;
     stream = refl;
@@ -66,8 +66,8 @@ same_but_counts x retransmit sent_count misses = record {
 }
 
 again_same : (by : Retransmission) (x : InFlight) → IsSamePiece x (counted_again by x)
-again_same causes.Timer x = same_but_counts x false (one_sending_more x.sent_count) x.misses
-again_same causes.Fast x = same_but_counts x x.retransmit (one_sending_more x.sent_count) x.misses
+again_same causes.Timer x = same_but_counts x false (one_sending_more x.sent_count) x.misses true
+again_same causes.Fast x = same_but_counts x x.retransmit (one_sending_more x.sent_count) x.misses true
 
 module _ (n : Names) (p : Plan) (acknowledged : ℕ → Bool) (gone : ℕ → ℕ → Bool) where
   -- the piece at a place of the flight stands on its offset

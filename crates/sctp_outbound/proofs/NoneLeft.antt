@@ -1,5 +1,5 @@
 -- Once all that is given up for a reason is abandoned, nothing is given up for it.
-use Rattle.std.proofs.Common.{◌≡◌, ℕ, zero, suc, ◌+◌, ◌-◌, ◌<◌, ◌≤◌, ◌^◌, Bool, true, false, ◌||◌, not}
+use Rattle.std.proofs.Common.{◌≡◌, ℕ, zero, suc, ◌+◌, ◌-◌, ◌≤◌, Bool, true, false, ◌||◌, not}
 use Rattle.std.proofs.Common.{is_some}
 use Rattle.std.proofs.Common.{nat_lt, eqb, List, [], ◌∷◌, ◌++◌, map, Option, Some, None, length, position, slice_get}
 use Rattle.std.proofs.Common.{get_or}

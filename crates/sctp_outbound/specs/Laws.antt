@@ -1,5 +1,5 @@
 -- What holds of the messages that a sender gives up.
-use Rattle.std.specs.Prelude.{◌≡◌, ◌⊎◌, ⊤, ℕ, ◌<◌, ◌≤◌, ◌^◌, Bool, false, List, [], ◌∷◌, length, None}
+use Rattle.std.specs.Prelude.{◌≡◌, ◌⊎◌, ⊤, ℕ, Bool, false, List, [], ◌∷◌, None}
 use Rattle.std.specs.List.{AllByRecursion}
 use Rattle.sctp_wire_types.specs.declared.reliability.Policy.TheVariants.{Reliable}
 use Rattle.sctp_outbound_queue.specs.declared.message.Attributes.{Attributes}

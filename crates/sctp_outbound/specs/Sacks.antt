@@ -1,20 +1,23 @@
 -- What a SACK does that is taken (RFC 4960 sections 6.2.1 and 7.2).
 use Rattle.std.specs.Prelude.{ℕ, ◌+◌, ◌-◌, ◌^◌, ◌&&◌, ◌||◌, not, Bool, List, Option, drop, length, if◌then◌else◌}
-use Rattle.std.specs.Prelude.{is_some, max, min, nat_lt, position}
+use Rattle.std.specs.Prelude.{fold, is_some, max, min, nat_lt, position}
+use Rattle.sctp_serial.specs.Serial.{tsn_past}
 use Rattle.sctp_wire_types.specs.Config.{is_rfc}
 use Rattle.sctp_wire_types.specs.declared.chunk.GapAckBlock.{GapAckBlock}
 use Rattle.sctp_parts.specs.Estimate.{Estimate}
 use Rattle.sctp_streams.specs.Streams.{StreamMap}
 use Rattle.sctp_received.specs.Received.{is_named}
 use Rattle.sctp_outbound_queue.specs.Message.{is_outstanding}
-use Rattle.sctp_outbound_queue.specs.Outbound.{marked_of, outstanding_of}
+use Rattle.sctp_outbound_queue.specs.declared.message.Reports.{Reports}
+use Rattle.sctp_outbound_queue.specs.Outbound.{marked_of, next_tsn_of, outstanding_of}
 use Rattle.sctp_outbound.specs.declared.congestion.CongestionWindow.{CongestionWindow}
 use Rattle.sctp_outbound.specs.declared.growth.Brought.{Brought}
 use Rattle.sctp_outbound.specs.declared.progress.Progress.{Progress}
+use Rattle.sctp_outbound.specs.declared.recovery.Heard.{Heard}
 use Rattle.sctp_outbound.specs.declared.sender.Sender.{Sender}
 use Rattle.sctp_outbound.specs.Congestion.{grown}
-use Rattle.sctp_outbound.specs.GapAcks.{with_blocks}
-use Rattle.sctp_outbound.specs.Recovery.{misses_counted, missing_of, past_recovery, recovers}
+use Rattle.sctp_outbound.specs.GapAcks.{acked_among, with_blocks}
+use Rattle.sctp_outbound.specs.Recovery.{misses_counted, past_recovery, recovers, reports_by}
 use Rattle.sctp_outbound.specs.Progress.{acknowledges_at, any_new_up_to, last_new}
 use Rattle.sctp_outbound.specs.Sender.{acknowledged, burst_of, tsns_up_to, with_in_flight, with_window}
 
@@ -69,15 +72,32 @@ abbrev pub newest_of : Sender → ℕ → List GapAckBlock → Option ℕ
 newest_of s cumulative_tsn_ack blocks =
     last_new (λ j. is_named (j + 1) blocks) 0 (drop (tsns_up_to s cumulative_tsn_ack) s.queue.in_flight)
 
--- how many of those that its cumulative TSN ack leaves in flight a SACK reports missing
-abbrev pub reports_of : Sender → ℕ → List GapAckBlock → ℕ
+-- how many in flight, of the last ones, were first sent after whatever went again
+abbrev pub fresh_of : Sender → ℕ
+fresh_of s = tsn_past s.fresh_tsn (next_tsn_of s.queue)
+
+-- of those behind its cumulative TSN ack, the first so many hold all that the blocks of a SACK name
+abbrev pub reach_of : List GapAckBlock → ℕ
+reach_of blocks = fold (λ n b. max n b.end) 0 blocks
+
+-- what a SACK tells of what is missing
+abbrev pub heard_by : Sender → ℕ → List GapAckBlock → Heard
+heard_by s cumulative_tsn_ack blocks = record {
+  moved = nat_lt 0 (tsns_up_to s cumulative_tsn_ack);
+  newest = newest_of s cumulative_tsn_ack blocks;
+  fresh = fresh_of s;
+  reach = reach_of blocks;
+}
+
+-- what it reports missing of those that its cumulative TSN ack leaves in flight
+abbrev pub reports_of : Sender → ℕ → List GapAckBlock → Reports
 reports_of s cumulative_tsn_ack blocks =
     let n = tsns_up_to s cumulative_tsn_ack in
-    missing_of (nat_lt 0 n) (newest_of s cumulative_tsn_ack blocks)
-    (with_in_flight (past_recovery n s) (drop n s.queue.in_flight))
+    reports_by (heard_by s cumulative_tsn_ack blocks)
+    (with_in_flight (past_recovery n s) (acked_among (λ j. is_named (j + 1) blocks) 0 (drop n s.queue.in_flight)))
 
-abbrev pub reported_by : Bool → Option ℕ → Sender × Estimate × StreamMap → Sender × Estimate × StreamMap
-reported_by moved last x = (misses_counted moved last x.0, x.1, x.2)
+abbrev pub reported_by : Heard → Sender × Estimate × StreamMap → Sender × Estimate × StreamMap
+reported_by h x = (misses_counted h x.0, x.1, x.2)
 
 -- before its cumulative TSN ack acknowledges: the window is the SACK's, and its cumulative TSN ack may end the recovery
 -- of a loss
@@ -97,5 +117,5 @@ all_acknowledged n blocks window now s e m =
 abbrev pub sack_taken : ℕ → List GapAckBlock → ℕ → ℕ → Sender → Estimate → StreamMap → Sender × Estimate × StreamMap
 sack_taken cumulative_tsn_ack blocks window now s e m =
     let n = tsns_up_to s cumulative_tsn_ack in
-    reported_by (nat_lt 0 n) (newest_of s cumulative_tsn_ack blocks)
+    reported_by (heard_by s cumulative_tsn_ack blocks)
     (grown_by (brought_by s cumulative_tsn_ack blocks) (all_acknowledged n blocks window now s e m))

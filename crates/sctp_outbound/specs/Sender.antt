@@ -49,6 +49,7 @@ fresh_sender profile size tsn window = record {
   profile = profile;
   is_after_timeout = false;
   burst_room = burst_of (size + 28);
+  fresh_tsn = tsn;
 }
 
 -- the peer's receive window less the bytes in flight
@@ -149,6 +150,7 @@ expired_by rfc s = record s {
   is_fast_due = (if rfc then false else s.is_fast_due);
   is_after_timeout = (if rfc then true else s.is_after_timeout);
   burst_room = (if rfc then burst_of s.mtu else s.burst_room);
+  fresh_tsn = next_tsn_of s.queue;
 }
 
 abbrev pub after_t3_timeout : Sender → Sender
@@ -156,7 +158,11 @@ after_t3_timeout s = expired_by (is_rfc s.profile) s
 
 -- a probe of a closed window, which is all that is in flight, is to go again
 abbrev pub probe_marked : Sender → Sender
-probe_marked s = record s { queue = all_marked s.queue; is_after_timeout = false }
+probe_marked s = record s {
+  queue = all_marked s.queue;
+  is_after_timeout = false;
+  fresh_tsn = next_tsn_of s.queue;
+}
 
 -- T3-rtx, without retries where a TSN was acknowledged for the first time
 abbrev pub t3_forgiven : Bool → Timers → Timers
@@ -313,8 +319,8 @@ room_of (Some p) = room_taken causes.Fast p
 abbrev pub fast_room : Sender → ℕ
 fast_room s = max (s.mtu - 12) (room_of (find (picks causes.Fast) s.queue.in_flight))
 
--- the DATA of one packet that was sent once and reported missing three times, where that is due; it goes whatever the
--- windows are (RFC 4960 section 7.2.4)
+-- the DATA of one packet that was reported missing often enough, where that is due; it goes whatever the windows are
+-- (RFC 4960 section 7.2.4)
 abbrev pub missing_by : Sender → List ChunkPayloadData
 missing_by s =
     if s.is_fast_due then resent_chunks causes.Fast s.queue.first_tsn 0 (fast_room s) s.queue.in_flight else []

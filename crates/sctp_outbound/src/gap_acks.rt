@@ -2,6 +2,7 @@
 ghost use Rattle.std.specs.Prelude.{◌↔◌, true, length, slice_get, Some, ◌≡◌, ◌==◌, ◌+◌, ◌<◌};
 ghost use Rattle.sctp_received.specs.Received.{is_named};
 ghost use Rattle.sctp_outbound.specs.Progress.{last_new};
+ghost use Rattle.sctp_outbound.specs.Sacks.{reach_of};
 ghost use Rattle.sctp_streams.specs.LowMarks.{Gathers};
 ghost use Rattle.sctp_outbound.specs.BlockOffsets.{NameUnsent, is_unsent_in, name_unsent};
 ghost use Rattle.sctp_outbound.specs.GapAcks.{acked_among, block_trips, is_named_by, released_among, timed};
@@ -128,6 +129,16 @@ fn measure(first: &mut u32, rto: &mut RtoManager, piece: &InFlight, next_tsn: u3
         rto.set_new_rtt(now.millis_since(piece.since));
         *first = next_tsn;
     }
+}
+
+// Behind the cumulative TSN ack the first so many hold all that the blocks name.
+pub(crate) fn reach(blocks: &List<GapAckBlock>) -> usize
+    ensures { result ≡ reach_of blocks.now }
+{
+    blocks
+        .as_slice()
+        .iter()
+        .fold(0, |reach, block| reach.max(usize::from(block.end)))
 }
 
 fn name_unsent(blocks: &List<GapAckBlock>, count: u32, in_flight: usize) -> bool

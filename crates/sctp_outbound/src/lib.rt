@@ -17,4 +17,5 @@ pub use congestion::CongestionWindow;
 pub use growth::Brought;
 pub use laws::{all_are_given_up, spent_pieces_are_spared, unlimited_messages_stay};
 pub use progress::Progress;
+pub use recovery::Heard;
 pub use sender::{SackOutcome, Sender};

@@ -1,9 +1,26 @@
 // Reports that TSNs are missing, and the recovery of a loss (RFC 4960 section 7.2.4).
-ghost use Rattle.std.specs.Prelude.{◌≡◌};
-ghost use Rattle.sctp_outbound.specs.Recovery.{finds_loss, misses_counted, missing_of, past_recovery, recovers};
-ghost use Rattle.sctp_outbound.specs.Recovery.{bars_loss, is_left, with_reports};
+ghost use Rattle.std.specs.Prelude.{◌≡◌, ◌==◌, ◌&&◌, ◌||◌, not, if◌then◌else◌};
+ghost use Rattle.sctp_wire_types.specs.Config.{is_rfc};
+ghost use Rattle.sctp_outbound_queue.specs.Outbound.{any_missing, marked_of};
+ghost use Rattle.sctp_outbound.specs.Recovery.{acknowledges_fresh, among_of, enough_of, exit_of, is_left};
+ghost use Rattle.sctp_outbound.specs.Recovery.{is_short, misses_counted, missing_of, past_recovery, recovers};
+ghost use Rattle.sctp_outbound.specs.Recovery.{reports_by, tells_nothing};
 
 use crate::sender::Sender;
+use sctp_outbound_queue::{Among, Reports};
+
+/// What a SACK tells of what is missing.
+#[derive(Clone, Copy, Debug, PartialEq, Eq)]
+pub struct Heard {
+    /// It moved the cumulative TSN ack point.
+    pub moved: bool,
+    /// Of those that this leaves in flight, the last index that its blocks newly acknowledge.
+    pub newest: Option<usize>,
+    /// The last so many in flight were first sent after whatever went again.
+    pub fresh: u32,
+    /// Its blocks name none behind the first so many in flight.
+    pub reach: usize,
+}
 
 impl Sender {
     // Whether a loss is recovered from.
@@ -32,43 +49,152 @@ impl Sender {
         }
     }
 
-    // Counts what a SACK reports missing, and finds a loss by the third report of a piece. `newest` is the last index
-    // of those in flight that it newly acknowledges by its blocks.
-    pub(crate) fn count_misses(&mut self, moved: bool, newest: Option<usize>)
-        ensures { self.new ≡ misses_counted moved newest self.old }
+    // Counts what a SACK reports missing, and finds a loss where that is enough to send a piece again.
+    #[tactic(auto, using(crate::proofs::MissingPieces::nothing_counted))]
+    pub(crate) fn count_misses(&mut self, heard: &Heard)
+        ensures { self.new ≡ misses_counted heard.now self.old }
     {
-        let count = self.missing(moved, newest);
-        self.report_missing(count);
-        self.is_fast_due |= moved & self.recovers();
+        if self.tells_nothing(heard) {
+            return;
+        }
+        let recovers = self.recovers();
+        let reports = self.reports(heard);
+        let next_tsn = self.queue.next_tsn();
+        let exit = self.exit(&reports);
+        let is_time = self.is_time(heard);
+        let any_last = self.queue.report_missing(&reports);
+        let is_lost = self.is_lost(is_time, any_last);
+        if is_lost && !recovers {
+            self.recovery_exit = Some(exit);
+            self.congestion.on_third_report(self.mtu);
+        }
+        if self.is_due(heard, is_lost, recovers) {
+            self.is_fast_due = true;
+            self.fresh_tsn = next_tsn;
+        }
+    }
+
+    fn tells_nothing(&self, heard: &Heard) -> bool
+        ensures { result ≡ tells_nothing heard.now self.now }
+    {
+        heard.newest.is_none() && !self.recovers() && !self.queue.any_missing()
+    }
+
+    fn reports(&self, heard: &Heard) -> Reports
+        ensures { result ≡ reports_by heard.now self.now }
+    {
+        Reports {
+            count: self.missing(heard),
+            among: self.among(heard),
+            enough: self.enough(heard),
+        }
     }
 
     // How many of the first pieces in flight a SACK reports missing.
-    fn missing(&self, moved: bool, newest: Option<usize>) -> usize
-        ensures { result ≡ missing_of moved newest self.now }
+    fn missing(&self, heard: &Heard) -> usize
+        ensures { result ≡ missing_of heard.now self.now }
     {
         if !self.recovers() {
-            return newest.unwrap_or(0);
+            return heard.newest.unwrap_or(0);
         }
-        if moved { self.queue.inflight_len() } else { 0 }
+        match (self.is_by_rfcs(), heard.moved) {
+            (true, true) => heard.reach,
+            (true, false) => heard.newest.unwrap_or(0),
+            (false, true) => self.queue.inflight_len(),
+            (false, false) => 0,
+        }
     }
 
-    // Whether reports find no loss beside what is under way.
-    fn bars_loss(&self) -> bool
-        ensures { result ≡ bars_loss self.now }
+    // Which of them it counts for.
+    fn among(&self, heard: &Heard) -> Among
+        ensures { result ≡ among_of heard.now self.now }
     {
-        self.recovers() || (self.is_by_rfcs() && self.queue.marked_len() > 0)
+        if !self.is_by_rfcs() {
+            Among::Outstanding
+        } else if self.acknowledges_fresh(heard) {
+            Among::Flying
+        } else {
+            Among::NotResent
+        }
     }
 
-    fn report_missing(&mut self, count: usize)
-        ensures { self.new ≡ with_reports count self.old }
+    fn acknowledges_fresh(&self, heard: &Heard) -> bool
+        ensures { result ≡ acknowledges_fresh heard.now self.now }
     {
-        let is_barred = self.bars_loss();
-        let exit = self.queue.tsn_at(count);
-        let any_third = self.queue.report_missing(count);
-        if any_third && !is_barred {
-            self.recovery_exit = Some(exit);
-            self.congestion.on_third_report(self.mtu);
-            self.is_fast_due = true;
+        match heard.newest {
+            Some(newest) => {
+                self.queue.inflight_len().saturating_sub(newest) <= heard.fresh as usize
+            }
+            None => false,
+        }
+    }
+
+    // How many reports have a piece go again.
+    fn enough(&self, heard: &Heard) -> u8
+        ensures { result ≡ enough_of heard.now self.now }
+    {
+        if self.is_by_rfcs() && self.is_short(heard) {
+            1
+        } else {
+            3
+        }
+    }
+
+    // Whether no more reports can come, and what is outstanding is no more than a packet.
+    fn is_short(&self, heard: &Heard) -> bool
+        ensures { result ≡ is_short heard.now self.now }
+    {
+        !self.queue.has_pending()
+            && self.queue.inflight_len() <= heard.reach
+            && self.queue.inflight_bytes() <= u64::from(self.max_payload_size)
+    }
+
+    // The TSN that ends the recovery of a loss which these reports find.
+    fn exit(&self, reports: &Reports) -> u32
+        ensures { result ≡ exit_of reports.now self.now }
+    {
+        if self.is_by_rfcs() {
+            self.queue
+                .tsn_at(self.queue.inflight_len().saturating_sub(1))
+        } else {
+            self.queue.tsn_at(reports.count)
+        }
+    }
+
+    // Whether a piece is to go again by fast retransmission; by the port where it is the last report of one.
+    fn is_lost(&self, is_time: bool, any_last: bool) -> bool
+        ensures { result ≡ (if is_rfc self.now.profile then
+            is_time && (marked_of self.now.queue.in_flight == 0 && any_missing self.now.queue) else any_last) }
+    {
+        if self.is_by_rfcs() {
+            is_time && self.goes_on()
+        } else {
+            any_last
+        }
+    }
+
+    fn goes_on(&self) -> bool
+        ensures { result ≡ (marked_of self.now.queue.in_flight == 0 && any_missing self.now.queue) }
+    {
+        self.queue.marked_len() == 0 && self.queue.any_missing()
+    }
+
+    // Whether what is late would have come by now, while a loss is recovered from.
+    fn is_time(&self, heard: &Heard) -> bool
+        ensures { result ≡ (heard.now.moved || not (recovers self.now) || acknowledges_fresh heard.now self.now) }
+    {
+        heard.moved || !self.recovers() || self.acknowledges_fresh(heard)
+    }
+
+    // Whether fast retransmission is due where a loss is found, or is recovered from.
+    fn is_due(&self, heard: &Heard, is_lost: bool, recovers: bool) -> bool
+        ensures { result ≡ (if is_rfc self.now.profile then is_lost else
+            if recovers then heard.now.moved else is_lost) }
+    {
+        if recovers && !self.is_by_rfcs() {
+            heard.moved
+        } else {
+            is_lost
         }
     }
 }

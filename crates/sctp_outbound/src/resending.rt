@@ -85,9 +85,10 @@ impl Sender {
         }
     }
 
-    /// Sends again, where fast retransmission is due, one packet of the DATA that was sent once and is missing (RFC
-    /// 4960 section 7.2.4), and answers how many chunks. It lacks memory only where a chunk is sent again. Looks for
-    /// each TSN that it sends again and once more; where fast retransmission is not due it does not look.
+    /// Sends again, where fast retransmission is due, one packet of the DATA that is missing (RFC 4960 section 7.2.4):
+    /// by `Profile::Port` what was sent once, by `Profile::Rfc` also what was sent again and is missing again. Answers
+    /// how many chunks. It lacks memory only where a chunk is sent again. Looks for each TSN that it sends again and
+    /// once more; where fast retransmission is not due it does not look.
     pub fn resend_missing(
         &mut self,
         out: &mut DataPackets,

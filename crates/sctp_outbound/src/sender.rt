@@ -9,7 +9,7 @@ ghost use Rattle.std.specs.Prelude.{OnErr, OnOk, IfOk, IfSome, length, slice_get
 ghost use Rattle.sctp_outbound.specs.Sender.{sends_new, fresh_sender, window_left};
 ghost use Rattle.sctp_outbound.specs.Sender.{marks};
 ghost use Rattle.sctp_outbound.specs.Sender.{cumulative_tsn_ack_point_of, tsns_up_to, after_first, acknowledged};
-ghost use Rattle.sctp_outbound.specs.Sacks.{progress_of, sack_taken};
+ghost use Rattle.sctp_outbound.specs.Sacks.{fresh_of, progress_of, sack_taken};
 ghost use Rattle.sctp_outbound.specs.Progress.{any_new_up_to, is_new_piece};
 ghost use Rattle.sctp_outbound.specs.Sender.{after_t3_timeout};
 ghost use Rattle.sctp_outbound.specs.Sender.{sack_outcome, with_first_window, with_window, t3_after_sack, chunk_of};
@@ -20,8 +20,10 @@ ghost use Rattle.sctp_outbound.specs.Sender.{probe_marked, sent_one, sent_within
 ghost use Rattle.sctp_wire_types.specs.Config.{is_rfc};
 
 use crate::congestion::CongestionWindow;
+use crate::gap_acks::reach;
 use crate::growth::Brought;
 use crate::progress::{Progress, is_new};
+use crate::recovery::Heard;
 use bytes::Bytes;
 use sctp_outbound_queue::{Attributes, InFlight, OutboundQueue, PendingMessage, data_length};
 use sctp_parts::estimate::RtoManager;
@@ -86,6 +88,8 @@ pub struct Sender {
     pub is_after_timeout: bool,
     /// Bytes of chunks that new DATA may take up until the next SACK (`Profile::Rfc`).
     pub burst_room: u64,
+    /// What was sent again at last was so before this TSN was first sent (`Profile::Rfc`).
+    pub fresh_tsn: u32,
 }
 
 impl Sender {
@@ -114,6 +118,7 @@ impl Sender {
             profile,
             is_after_timeout: false,
             burst_room: burst_of(mtu),
+            fresh_tsn: initial_tsn,
         }
     }
 
@@ -190,6 +195,7 @@ impl Sender {
         }
         let before = self.queue.inflight_bytes();
         let any_marked = self.queue.marked_len() > 0;
+        let fresh = self.fresh_pieces();
         let earliest = self.names_earliest(count, blocks);
         self.advertised_window = window;
         self.leave_recovery(count);
@@ -205,7 +211,12 @@ impl Sender {
             any_marked,
             before,
         });
-        self.count_misses(count > 0, newest);
+        self.count_misses(&Heard {
+            moved: count > 0,
+            newest,
+            fresh,
+            reach: reach(blocks),
+        });
         self.run_t3(timers, rto, progress, now);
         SackOutcome::Taken
     }
@@ -234,6 +245,13 @@ impl Sender {
         ensures { result ≡ cumulative_tsn_ack_point_of self.now }
     {
         self.queue.first_tsn().wrapping_sub(1)
+    }
+
+    // How many pieces, of the last ones in flight, were first sent after whatever went again.
+    fn fresh_pieces(&self) -> u32
+        ensures { result ≡ fresh_of self.now }
+    {
+        self.queue.next_tsn().wrapping_sub(self.fresh_tsn)
     }
 
     // How many TSNs a cumulative TSN ack acknowledges.
@@ -318,6 +336,7 @@ impl Sender {
     pub fn on_t3_timeout(&mut self)
         ensures { self.new ≡ after_t3_timeout self.old }
     {
+        self.fresh_tsn = self.queue.next_tsn();
         self.queue.mark_all_to_retransmit();
         self.congestion.on_t3_timeout(self.mtu);
         if self.is_by_rfcs() {
@@ -332,6 +351,7 @@ impl Sender {
     pub fn mark_probe(&mut self)
         ensures { self.new ≡ probe_marked self.old }
     {
+        self.fresh_tsn = self.queue.next_tsn();
         self.queue.mark_all_to_retransmit();
         self.is_after_timeout = false;
     }

@@ -7,10 +7,11 @@ use Rattle.std.proofs.lemmas.Bool.{cases_Bool}
 use Rattle.std.proofs.lemmas.List.Sums.{prefix_len-le-length}
 use Rattle.std.specs.Prelude.{get_or, slice_set}
 use Rattle.sctp_outbound_queue.specs.declared.message.InFlight.{InFlight}
+use Rattle.sctp_outbound_queue.specs.declared.message.Reports.{Reports}
 use Rattle.sctp_outbound_queue.specs.declared.message.Retransmission.{Retransmission}
 use Rattle.sctp_outbound_queue.specs.declared.message.Retransmission.TheVariants as causes
 use Rattle.sctp_outbound_queue.specs.Message.{acked, counted_again, flagged, is_of, is_outstanding}
-use Rattle.sctp_outbound_queue.specs.Message.{marked_again, reported_missing, sent_started}
+use Rattle.sctp_outbound_queue.specs.Message.{is_reported, marked_again, reported_missing, sent_started}
 use Rattle.sctp_outbound_queue.specs.Outbound.{first_outstanding_of, is_outstanding_piece}
 
 -- a change that makes no piece outstanding
@@ -109,8 +110,10 @@ acknowledged x e = refl
 pub marked : Settles marked_again
 marked x e = rw (e, e)
 
-pub reported : Settles reported_missing
-reported x e = rw (e, e)
+pub reported : (r : Reports) → Settles (reported_missing r)
+reported r x e =
+    ⊎_elim (λ (t : is_reported r x ≡ true). rw t e) (λ (f : is_reported r x ≡ false). rw f e)
+    (cases_Bool (is_reported r x))
 
 and_none : (b : Bool) → (b && false) ≡ false
 and_none true = refl

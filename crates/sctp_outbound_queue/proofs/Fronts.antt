@@ -1,19 +1,21 @@
 -- What is known of the first pieces in flight, as they change.
 use Rattle.std.proofs.Common.{◌≡◌, ℕ, zero, suc, ◌≤◌, ◌&&◌, Bool, true, false, not, List, []}
 use Rattle.std.proofs.Common.{◌∷◌, ◌++◌, Some, map, take, drop, slice_get, refl, ap, sym, ◌∙◌}
-use Rattle.std.proofs.Common.{arith, ⊎_elim, true≢false, nat_lt}
+use Rattle.std.proofs.Common.{arith, ⊎_elim, true≢false}
 use Rattle.std.specs.Prelude.{slice_set}
 use Rattle.std.specs.List.{position_or_len}
 use Rattle.std.proofs.lemmas.Bool.{cases_Bool}
 use Rattle.sctp_outbound_queue.specs.declared.front.Front.{Front}
 use Rattle.sctp_outbound_queue.specs.declared.message.Attributes.{Attributes}
 use Rattle.sctp_outbound_queue.specs.declared.message.InFlight.{InFlight}
+use Rattle.sctp_outbound_queue.specs.declared.message.Reports.{Reports}
 use Rattle.sctp_outbound_queue.specs.declared.message.Retransmission.{Retransmission}
 use Rattle.sctp_outbound_queue.specs.declared.message.Retransmission.TheVariants as causes
 use Rattle.sctp_outbound_queue.specs.Waiting.{Waiting}
 use Rattle.sctp_outbound_queue.specs.Front.{AreInOrder, IsFront, piece_ids, started_front}
 use Rattle.sctp_outbound_queue.specs.Message.{counted_again, flagged, is_expired, is_expired_piece, is_of}
-use Rattle.sctp_outbound_queue.specs.Message.{is_outstanding, marked_again, reported_missing, sent_started}
+use Rattle.sctp_outbound_queue.specs.Message.{is_outstanding, is_reported, marked_again, reported_missing}
+use Rattle.sctp_outbound_queue.specs.Message.{sent_started}
 use Rattle.sctp_outbound_queue.specs.Outbound.{abandoned_in_front_of}
 use Rattle.sctp_outbound_queue.proofs.Positions.{later_after, later_with}
 use Rattle.sctp_outbound_queue.proofs.Timely.{expired_later}
@@ -89,11 +91,10 @@ outline_marked p =
     ⊎_elim (λ (a : is_outstanding p ≡ true). rw a refl) (λ (a : is_outstanding p ≡ false). rw a refl)
     (cases_Bool (is_outstanding p))
 
-pub outline_reported : (p : InFlight) → outline (reported_missing p) ≡ outline p
-outline_reported p =
-    ⊎_elim (λ (a : (is_outstanding p && nat_lt p.misses 3) ≡ true). rw a refl)
-    (λ (a : (is_outstanding p && nat_lt p.misses 3) ≡ false). rw a refl)
-    (cases_Bool (is_outstanding p && nat_lt p.misses 3))
+pub outline_reported : (r : Reports) (p : InFlight) → outline (reported_missing r p) ≡ outline p
+outline_reported r p =
+    ⊎_elim (λ (a : is_reported r p ≡ true). rw a refl) (λ (a : is_reported r p ≡ false). rw a refl)
+    (cases_Bool (is_reported r p))
 
 pub outline_resent : (by : Retransmission) (p : InFlight) → outline (counted_again by p) ≡ outline p
 outline_resent causes.Timer p = refl

@@ -1,16 +1,22 @@
 -- The sets of pieces in flight still have those that they are to have, as pieces come, leave and change.
-use Rattle.std.proofs.Common.{◌≡◌, ℕ, zero, suc, ◌+◌, ◌<◌, Bool, true, false, ◌&&◌, leb, eqb, List, [], ◌∷◌, length}
-use Rattle.std.proofs.Common.{◌==◌, drop, map, slice_get, slice_set, Some, refl, ap, sym, ◌∙◌, arith, ⊎_elim, nat_lt}
+use Rattle.std.proofs.Common.{◌≡◌, ℕ, zero, suc, ◌-◌, ◌<◌, Bool, true, false, ◌&&◌, not, nat_le, nat_lt, List, []}
+use Rattle.std.proofs.Common.{◌∷◌, length, ◌==◌, drop, map, slice_get, slice_set, Option, Some, None, is_some, refl}
+use Rattle.std.proofs.Common.{ap, sym, ◌∙◌, arith, ⊎_elim}
+use Rattle.std.specs.Prelude.{if◌then◌else◌, position}
 use Rattle.std.specs.Option.{option_map}
 use Rattle.std.proofs.lemmas.Bool.{cases_Bool}
 use Rattle.std.proofs.lemmas.Bool.Decides.{nat_tests}
-use Rattle.sctp_candidates.specs.Candidates.{passes}
-use Rattle.sctp_candidates.proofs.Standing.{stand_kept, stand_mapped}
+use Rattle.sctp_candidates.specs.Candidates.{IsNext, passes}
+use Rattle.sctp_candidates.proofs.Standing.{next_passing, stand_kept, stand_mapped}
+use Rattle.sctp_outbound_queue.specs.declared.message.Among.{Among}
+use Rattle.sctp_outbound_queue.specs.declared.message.Among.TheVariants as amongs
 use Rattle.sctp_outbound_queue.specs.declared.message.InFlight.{InFlight}
+use Rattle.sctp_outbound_queue.specs.declared.message.Reports.{Reports}
 use Rattle.sctp_outbound_queue.specs.declared.message.Retransmission.TheVariants as causes
 use Rattle.sctp_outbound_queue.specs.declared.piece_sets.PieceSets.{PieceSets}
-use Rattle.sctp_outbound_queue.specs.Message.{is_outstanding, is_third_report, marked_again, picks}
-use Rattle.sctp_outbound_queue.specs.Message.{reported_missing, sent_once, sent_started, was_acknowledged}
+use Rattle.sctp_outbound_queue.specs.Message.{is_among, is_last_report, is_outstanding, is_reported, marked_again}
+use Rattle.sctp_outbound_queue.specs.Message.{misses_after, misses_before, picks, reported_missing, sent_once}
+use Rattle.sctp_outbound_queue.specs.Message.{sent_started, stays_resent, was_acknowledged}
 use Rattle.sctp_outbound_queue.specs.PieceSets.{AreStanding, HavePlace, IsPlain}
 use Rattle.sctp_outbound_queue.specs.Waiting.{Waiting}
 
@@ -83,27 +89,77 @@ marked_as_acked p =
     (cases_Bool (is_outstanding p)))
     (cases_Bool p.acked)
 
-pub reported_as_marked : (p : InFlight) → picks causes.Timer (reported_missing p) ≡ picks causes.Timer p
-reported_as_marked p =
-    ⊎_elim (λ (t : (is_outstanding p && nat_lt p.misses 3) ≡ true). rw t refl)
-    (λ (f : (is_outstanding p && nat_lt p.misses 3) ≡ false). rw f refl)
-    (cases_Bool (is_outstanding p && nat_lt p.misses 3))
+pub reported_as_marked : (r : Reports) (p : InFlight)
+    → picks causes.Timer (reported_missing r p) ≡ picks causes.Timer p
+reported_as_marked r p =
+    ⊎_elim (λ (t : is_reported r p ≡ true). rw t refl) (λ (f : is_reported r p ≡ false). rw f refl)
+    (cases_Bool (is_reported r p))
 
-pub reported_as_acked : (p : InFlight) → was_acknowledged (reported_missing p) ≡ was_acknowledged p
-reported_as_acked p =
-    ⊎_elim (λ (t : (is_outstanding p && nat_lt p.misses 3) ≡ true). rw t refl)
-    (λ (f : (is_outstanding p && nat_lt p.misses 3) ≡ false). rw f refl)
-    (cases_Bool (is_outstanding p && nat_lt p.misses 3))
+pub reported_as_acked : (r : Reports) (p : InFlight) → was_acknowledged (reported_missing r p) ≡ was_acknowledged p
+reported_as_acked r p =
+    ⊎_elim (λ (t : is_reported r p ≡ true). rw t refl) (λ (f : is_reported r p ≡ false). rw f refl)
+    (cases_Bool (is_reported r p))
 
-third_alone : (o : Bool) (m : ℕ) → o ≡ true → (o && eqb m 2) ≡ false → leb 3 (m + 1) ≡ leb 3 m
-third_alone o m on not_third = grind (arith, nat_tests, on, not_third)
+-- a piece that a report counts for is not to be sent again so far
 
-pub reported_as_missing : (p : InFlight) → is_third_report p ≡ false
-    → picks causes.Fast (reported_missing p) ≡ picks causes.Fast p
-reported_as_missing p not_third =
-    ⊎_elim (λ (t : (is_outstanding p && nat_lt p.misses 3) ≡ true).
-    ⊎_elim (λ (o : is_outstanding p ≡ true). rw (t, o, third_alone (is_outstanding p) p.misses o not_third) refl)
-    (λ (o : is_outstanding p ≡ false). rw (t, o) refl)
-    (cases_Bool (is_outstanding p)))
-    (λ (f : (is_outstanding p && nat_lt p.misses 3) ≡ false). rw f refl)
-    (cases_Bool (is_outstanding p && nat_lt p.misses 3))
+few : (m : ℕ) → nat_lt m 3 ≡ true → nat_le 3 m ≡ false
+few m e = grind (arith, nat_tests, e)
+
+few_outstanding : (o s : Bool) (m : ℕ) → (o && nat_lt m 3) ≡ true → (o && not s && nat_le 3 m) ≡ false
+few_outstanding true true m e = refl
+few_outstanding true false m e = few m e
+few_outstanding false s m e = refl
+
+few_not_resent : (o t s : Bool) (m : ℕ) → ((o && not t && not s) && nat_lt m 3) ≡ true
+    → (o && not s && nat_le 3 m) ≡ false
+few_not_resent true true s m e = absurd (cc)
+few_not_resent true false true m e = refl
+few_not_resent true false false m e = few m e
+few_not_resent false t s m e = refl
+
+few_flying : (o t s : Bool) (m : ℕ) → ((o && not t) && nat_lt (if s then 0 else m) 3) ≡ true
+    → (o && not s && nat_le 3 m) ≡ false
+few_flying true t true m e = refl
+few_flying true true false m e = absurd (cc)
+few_flying true false false m e = few m e
+few_flying false t s m e = refl
+
+not_picked : (among : Among) (p : InFlight) → (is_among among p && nat_lt (misses_before among p) 3) ≡ true
+    → picks causes.Fast p ≡ false
+not_picked amongs.Outstanding p e = few_outstanding (is_outstanding p) p.resent p.misses e
+not_picked amongs.NotResent p e = few_not_resent (is_outstanding p) p.retransmit p.resent p.misses e
+not_picked amongs.Flying p e = few_flying (is_outstanding p) p.retransmit p.resent p.misses e
+
+-- and where that was not the last report, it is not either
+
+last_alone : (b l : Bool) → b ≡ true → (b && l) ≡ false → l ≡ false
+last_alone true l on none = none
+last_alone false l on none = absurd (cc)
+
+none_after : (o s l : Bool) → l ≡ false → (o && not s && l) ≡ false
+none_after true true l e = refl
+none_after true false l e = e
+none_after false s l e = refl
+
+pub reported_as_missing : (r : Reports) (p : InFlight) → is_last_report r p ≡ false
+    → picks causes.Fast (reported_missing r p) ≡ picks causes.Fast p
+reported_as_missing r p not_last =
+    ⊎_elim (λ (t : is_reported r p ≡ true).
+    let less = last_alone (is_reported r p) (nat_le 3 (misses_after r p)) t not_last in
+    let after = none_after (is_outstanding p) (stays_resent r.among p) (nat_le 3 (misses_after r p)) less in
+    let before = not_picked r.among p t in
+    rw t (after ∙ sym before))
+    (λ (f : is_reported r p ≡ false). rw f refl)
+    (cases_Bool (is_reported r p))
+
+-- whether one of the pieces is missing
+
+still_some : (f : ℕ → ℕ) (o : Option ℕ) → is_some (option_map f o) ≡ is_some o
+still_some f None = refl
+still_some f (Some n) = refl
+
+pub any_standing : (s : PieceSets) (ps : List InFlight) (found : Option ℕ) {b : Bool} → AreStanding s ps
+    → IsNext 0 found s.missing → b ≡ is_some found → b ≡ is_some (position (picks causes.Fast) ps)
+any_standing s ps found stand is some =
+    some ∙ sym (still_some (λ n. n - 0) found)
+    ∙ sym (ap is_some (next_passing (picks causes.Fast) s.missing ps 0 found stand.1 is))

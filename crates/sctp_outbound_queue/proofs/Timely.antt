@@ -11,12 +11,13 @@ use Rattle.sctp_wire_types.specs.declared.reliability.Policy.{Policy}
 use Rattle.sctp_wire_types.specs.declared.reliability.Policy.TheVariants.{Reliable, Rexmit, Timed}
 use Rattle.sctp_outbound_queue.specs.declared.message.Attributes.{Attributes}
 use Rattle.sctp_outbound_queue.specs.declared.message.InFlight.{InFlight}
+use Rattle.sctp_outbound_queue.specs.declared.message.Reports.{Reports}
 use Rattle.sctp_outbound_queue.specs.declared.message.Retransmission.{Retransmission}
 use Rattle.sctp_outbound_queue.specs.declared.message.Retransmission.TheVariants as causes
 use Rattle.sctp_outbound_queue.specs.Waiting.{Waiting}
 use Rattle.sctp_outbound_queue.specs.Message.{acked, counted_again, flagged, is_due, is_expired_piece}
 use Rattle.sctp_outbound_queue.specs.Message.{is_expired_unsent, is_of, is_outstanding, is_past, is_timed, is_timely}
-use Rattle.sctp_outbound_queue.specs.Message.{is_timely_piece, keeps_time, marked_again, reported_missing}
+use Rattle.sctp_outbound_queue.specs.Message.{is_reported, is_timely_piece, keeps_time, marked_again, reported_missing}
 use Rattle.sctp_outbound_queue.specs.Message.{sent_started, sooner, sooner_piece, sent_once, without_piece}
 use Rattle.sctp_outbound_queue.specs.Message.{waiting_started, soonest}
 use Rattle.sctp_outbound_queue.specs.Outbound.{Outbound, after_piece}
@@ -427,12 +428,11 @@ pub timely_resent : (by : Retransmission) (c : Clocks) (ms : List Waiting) (ps :
 timely_resent by c ms ps i x there timely =
     timely_at c (counted_again by) (resent_keeps by c.sent_run c.next_sent) ms ps i x there timely
 
-pub reported_keeps : (run : Bool) (next : Option ℕ) (p : InFlight) → is_timely_piece run next p ≡ true
-    → is_timely_piece run next (reported_missing p) ≡ true
-reported_keeps run next p e =
-    ⊎_elim (λ (a : (is_outstanding p && nat_lt p.misses 3) ≡ true). rw a e)
-    (λ (a : (is_outstanding p && nat_lt p.misses 3) ≡ false). rw a e)
-    (cases_Bool (is_outstanding p && nat_lt p.misses 3))
+pub reported_keeps : (r : Reports) (run : Bool) (next : Option ℕ) (p : InFlight)
+    → is_timely_piece run next p ≡ true → is_timely_piece run next (reported_missing r p) ≡ true
+reported_keeps r run next p e =
+    ⊎_elim (λ (a : is_reported r p ≡ true). rw a e) (λ (a : is_reported r p ≡ false). rw a e)
+    (cases_Bool (is_reported r p))
 
 pub flagged_keeps : (id : ℕ) (run : Bool) (next : Option ℕ) (p : InFlight) → is_timely_piece run next p ≡ true
     → is_timely_piece run next (flagged id p) ≡ true

@@ -4,6 +4,9 @@ use Rattle.std.specs.Prelude.{List, length, slice_set, drop, min, sum_by, nat_le
 use Rattle.std.specs.Prelude.{Some, None}
 use Rattle.sctp_outbound_queue.specs.declared.message.Attributes.{Attributes}
 use Rattle.sctp_outbound_queue.specs.declared.message.InFlight.{InFlight}
+use Rattle.sctp_outbound_queue.specs.declared.message.Among.{Among}
+use Rattle.sctp_outbound_queue.specs.declared.message.Among.TheVariants as amongs
+use Rattle.sctp_outbound_queue.specs.declared.message.Reports.{Reports}
 use Rattle.sctp_outbound_queue.specs.declared.message.Retransmission.{Retransmission}
 use Rattle.sctp_outbound_queue.specs.declared.message.Retransmission.TheVariants as causes
 use Rattle.sctp_wire_types.specs.declared.reliability.Policy.{Policy}
@@ -38,6 +41,7 @@ sent_once now m = record {
   acked = false;
   abandoned = false;
   misses = 0;
+  resent = false;
 }
 
 -- a message once its next piece was sent and more are left
@@ -61,6 +65,7 @@ marker_of a = record {
   acked = false;
   abandoned = true;
   misses = 0;
+  resent = false;
 }
 
 -- neither acknowledged nor abandoned
@@ -103,11 +108,11 @@ marked_again p = if is_outstanding p then record p { retransmit = true } else p
 abbrev pub one_sending_more : ℕ → ℕ
 one_sending_more count = min (count + 1) (2 ^ 32 - 1)
 
--- a piece is sent again for this reason: it is marked by the timer, or it was sent once and reported missing three
--- times (RFC 4960 sections 6.3.3 and 7.2.4)
+-- a piece is sent again for this reason: it is marked by the timer, or enough SACKs reported it missing since it was
+-- sent at last (RFC 4960 sections 6.3.3 and 7.2.4)
 abbrev pub picks : Retransmission → InFlight → Bool
 picks causes.Timer p = p.retransmit
-picks causes.Fast p = is_outstanding p && p.sent_count == 1 && nat_le 3 p.misses
+picks causes.Fast p = is_outstanding p && not p.resent && nat_le 3 p.misses
 
 -- the length of a DATA chunk with so many bytes, header and padding included, at most the greatest multiple of 4 of 64
 -- bits (RFC 4960 section 3.3.1)
@@ -122,16 +127,49 @@ room_taken causes.Fast p = data_length (length p.user_data)
 
 -- a piece was sent again; fast retransmission leaves the mark of the timer
 abbrev pub counted_again : Retransmission → InFlight → InFlight
-counted_again causes.Timer p = record p { retransmit = false; sent_count = one_sending_more p.sent_count }
-counted_again causes.Fast p = record p { sent_count = one_sending_more p.sent_count }
+counted_again causes.Timer p =
+    record p { retransmit = false; resent = true; sent_count = one_sending_more p.sent_count }
+counted_again causes.Fast p = record p { resent = true; sent_count = one_sending_more p.sent_count }
 
--- a SACK reported a piece missing: it counts where the piece is outstanding, up to 3 (RFC 4960 section 7.2.4)
-abbrev pub reported_missing : InFlight → InFlight
-reported_missing p = if is_outstanding p && nat_lt p.misses 3 then record p { misses = p.misses + 1 } else p
+-- the piece is one that reports count for
+abbrev pub is_among : Among → InFlight → Bool
+is_among amongs.Outstanding p = is_outstanding p
+is_among amongs.NotResent p = is_outstanding p && not p.retransmit && not p.resent
+is_among amongs.Flying p = is_outstanding p && not p.retransmit
 
--- that was the third report
-abbrev pub is_third_report : InFlight → Bool
-is_third_report p = is_outstanding p && p.misses == 2
+-- how many reports of it count so far: where reports count for what was sent again, none from before that
+abbrev pub misses_before : Among → InFlight → ℕ
+misses_before amongs.Outstanding p = p.misses
+misses_before amongs.NotResent p = p.misses
+misses_before amongs.Flying p = if p.resent then 0 else p.misses
+
+abbrev pub one_report_more : ℕ → ℕ
+one_report_more count = min (count + 1) (2 ^ 8 - 1)
+
+-- how many do once one more does: 3, once they are enough
+abbrev pub misses_after : Reports → InFlight → ℕ
+misses_after r p =
+    if nat_lt (one_report_more (misses_before r.among p)) r.enough then one_report_more (misses_before r.among p)
+    else 3
+
+-- reports go on to tell nothing of its last sending
+abbrev pub stays_resent : Among → InFlight → Bool
+stays_resent amongs.Outstanding p = p.resent
+stays_resent amongs.NotResent p = p.resent
+stays_resent amongs.Flying p = false
+
+-- a report counts for a piece for which not enough did yet
+abbrev pub is_reported : Reports → InFlight → Bool
+is_reported r p = is_among r.among p && nat_lt (misses_before r.among p) 3
+
+-- a SACK reported a piece missing (RFC 4960 section 7.2.4)
+abbrev pub reported_missing : Reports → InFlight → InFlight
+reported_missing r p =
+    if is_reported r p then record p { misses = misses_after r p; resent = stays_resent r.among p } else p
+
+-- that was the last report that it takes to send it again, which is the third one unless fewer are enough
+abbrev pub is_last_report : Reports → InFlight → Bool
+is_last_report r p = is_reported r p && nat_le 3 (misses_after r p)
 
 -- a piece of an abandoned message (RFC 3758 section 3.5)
 abbrev pub flagged : ℕ → InFlight → InFlight

@@ -1,17 +1,20 @@
 -- What waits to be sent and what is in flight (RFC 4960 section 6.1).
 use Rattle.std.specs.Prelude.{◌≡◌, ℕ, Bool, List, [], ◌∷◌, ◌++◌, ◌+◌, ◌-◌, ◌<◌, ◌≤◌, ◌%◌, ◌^◌, ◌==◌, ◌||◌}
 use Rattle.std.specs.Prelude.{if◌then◌else◌}
-use Rattle.std.specs.Prelude.{drop, length, map, sum_by, slice_get, slice_set, take, Option, Some, None, not}
+use Rattle.std.specs.Prelude.{drop, length, map, position, sum_by, slice_get, slice_set, take, Option, Some, None}
+use Rattle.std.specs.Prelude.{is_some, not}
 use Rattle.std.specs.Prelude.{false}
 use Rattle.std.specs.List.{count_by, list_any, position_or_len, prefix_len}
 use Rattle.sctp_serial.specs.Serial.{tsn_past}
 use Rattle.sctp_outbound_queue.specs.declared.message.InFlight.{InFlight}
 use Rattle.sctp_outbound_queue.specs.declared.message.Attributes.{Attributes}
+use Rattle.sctp_outbound_queue.specs.declared.message.Reports.{Reports}
+use Rattle.sctp_outbound_queue.specs.declared.message.Retransmission.TheVariants as causes
 use Rattle.sctp_outbound_queue.specs.declared.queue.Released.{Released}
 use Rattle.sctp_outbound_queue.specs.Waiting.{Waiting}
 use Rattle.sctp_outbound_queue.specs.Message.{message_bytes, piece_count, accepted, sent_once, without_piece, marker_of}
-use Rattle.sctp_outbound_queue.specs.Message.{is_of_stream, is_outstanding, is_third_report, is_waiting_of_stream}
-use Rattle.sctp_outbound_queue.specs.Message.{flying_bytes, outstanding_bytes, was_acknowledged}
+use Rattle.sctp_outbound_queue.specs.Message.{is_last_report, is_of_stream, is_outstanding, is_waiting_of_stream}
+use Rattle.sctp_outbound_queue.specs.Message.{flying_bytes, outstanding_bytes, picks, was_acknowledged}
 use Rattle.sctp_outbound_queue.specs.Message.{outstanding_bytes_of, acked, marked_again, flagged, reported_missing}
 use Rattle.sctp_outbound_queue.specs.declared.clocks.Clocks.{Clocks}
 use Rattle.sctp_outbound_queue.specs.Clocks.{AreTimely}
@@ -138,19 +141,25 @@ acked_at q tsn = (changed_at acked q (tsn_past q.first_tsn tsn), bytes_of_piece 
 abbrev pub all_marked : Outbound → Outbound
 all_marked q = record q { in_flight = map marked_again q.in_flight }
 
--- a SACK reported the first n in flight missing, those of them that are outstanding (RFC 4960 section 7.2.4)
-abbrev pub with_missing : ℕ → Outbound → Outbound
-with_missing n q = record q { in_flight = map reported_missing (take n q.in_flight) ++ drop n q.in_flight }
+-- a SACK reported pieces in flight missing (RFC 4960 section 7.2.4)
+abbrev pub with_missing : Reports → Outbound → Outbound
+with_missing r q = record q {
+  in_flight = map (reported_missing r) (take r.count q.in_flight) ++ drop r.count q.in_flight;
+}
 
--- that was the third report of a piece, if it is there
-abbrev pub is_third_report_of : Option InFlight → Bool
-is_third_report_of None = false
-is_third_report_of (Some p) = is_third_report p
+-- that was the last report of a piece, if it is there, that it takes to send it again
+abbrev pub is_last_report_of : Reports → Option InFlight → Bool
+is_last_report_of r None = false
+is_last_report_of r (Some p) = is_last_report r p
 
 -- pieces of which one was reported missing
-abbrev pub with_report : Option InFlight → ℕ → List InFlight → List InFlight
-with_report None index pieces = pieces
-with_report (Some p) index pieces = slice_set pieces index (reported_missing p)
+abbrev pub with_report : Reports → Option InFlight → ℕ → List InFlight → List InFlight
+with_report r None index pieces = pieces
+with_report r (Some p) index pieces = slice_set pieces index (reported_missing r p)
+
+-- a piece is to be sent again by fast retransmission
+abbrev pub any_missing : Outbound → Bool
+any_missing q = is_some (position (picks causes.Fast) q.in_flight)
 
 -- a piece of this stream waits or is not acknowledged cumulatively
 abbrev pub has_stream : Outbound → ℕ → Bool

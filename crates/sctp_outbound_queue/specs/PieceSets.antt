@@ -6,8 +6,8 @@ use Rattle.sctp_outbound_queue.specs.declared.message.Retransmission.TheVariants
 use Rattle.sctp_outbound_queue.specs.declared.piece_sets.PieceSets.{PieceSets}
 use Rattle.sctp_outbound_queue.specs.Message.{picks, was_acknowledged}
 
--- the sets have exactly the pieces that are marked to be sent again; that are outstanding, were sent once and were
--- reported missing three times; and that gap ack blocks named and that are not marked
+-- the sets have exactly the pieces that are marked to be sent again; that are outstanding and were reported missing
+-- often enough to be sent again; and that gap ack blocks named and that are not marked
 abbrev pub AreStanding : PieceSets → List InFlight → Type 0
 AreStanding s ps =
     StandFor s.marked (picks causes.Timer) ps × StandFor s.missing (picks causes.Fast) ps

@@ -16,5 +16,7 @@ mod stretches;
 mod walks;
 
 pub use laws::{abandonment_is_whole, pieces_are_the_bytes, released_bytes_are_exact};
-pub use message::{Attributes, InFlight, PendingMessage, Retransmission, cut, data_length};
+pub use message::{
+    Among, Attributes, InFlight, PendingMessage, Reports, Retransmission, cut, data_length,
+};
 pub use queue::{OutboundQueue, Released};

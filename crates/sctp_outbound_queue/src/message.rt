@@ -5,8 +5,9 @@ ghost use Rattle.sctp_outbound_queue.specs.Cut.{MayFollow, first_piece, other_pi
 ghost use Rattle.sctp_outbound_queue.specs.Message.{message_bytes, piece_count, accepted, sent_once, without_piece};
 ghost use Rattle.sctp_outbound_queue.specs.Message.{marker_of, is_of, is_of_stream, is_waiting_of_stream};
 ghost use Rattle.sctp_outbound_queue.specs.Message.{is_outstanding, outstanding_bytes, flying_bytes, acked};
-ghost use Rattle.sctp_outbound_queue.specs.Message.{marked_again, counted_again, data_length, flagged, is_third_report};
-ghost use Rattle.sctp_outbound_queue.specs.Message.{picks, room_taken, reported_missing};
+ghost use Rattle.sctp_outbound_queue.specs.Message.{marked_again, counted_again, data_length, flagged, is_last_report};
+ghost use Rattle.sctp_outbound_queue.specs.Message.{is_among, is_reported, misses_after, misses_before, picks};
+ghost use Rattle.sctp_outbound_queue.specs.Message.{reported_missing, room_taken, stays_resent};
 ghost use Rattle.sctp_outbound_queue.specs.Message.{deadline_under, waiting_started, sent_started, is_expired};
 ghost use Rattle.sctp_outbound_queue.specs.Message.{is_expired_piece, is_timed, looked_at};
 ghost use Rattle.sctp_outbound_queue.specs.Message.{was_acknowledged};
@@ -70,6 +71,28 @@ pub enum Retransmission {
     Fast,
 }
 
+/// Which of the pieces in flight a SACK's reports count for.
+#[derive(Clone, Copy, Debug, PartialEq, Eq)]
+pub enum Among {
+    /// Those that are outstanding.
+    Outstanding,
+    /// Those that fly, which are outstanding and not marked to be sent again, but for those that were sent again.
+    NotResent,
+    /// Those that fly. One that was sent again counts its reports from this one on.
+    Flying,
+}
+
+/// What a SACK reports missing of the pieces in flight (RFC 4960 section 7.2.4).
+#[derive(Clone, Copy, Debug, PartialEq, Eq)]
+pub struct Reports {
+    /// It reports so many, from the first one on.
+    pub count: usize,
+    /// Those of them that it counts for.
+    pub among: Among,
+    /// So many reports have a piece go again, from 1 to 3.
+    pub enough: u8,
+}
+
 /// A piece that was sent and is not acknowledged cumulatively, or a marker: what stands for the unsent pieces of an
 /// abandoned message.
 #[derive(Debug, Drop)]
@@ -87,8 +110,10 @@ pub struct InFlight {
     /// A gap ack block named it.
     pub acked: bool,
     pub abandoned: bool,
-    /// How many SACKs reported it missing, at most 3.
+    /// How many SACKs reported it missing: less than 3, or 3 once they were enough to send it again.
     pub misses: u8,
+    /// It was sent again, and no report counted since that tells of that sending.
+    pub resent: bool,
 }
 
 impl Attributes {
@@ -274,6 +299,7 @@ impl InFlight {
           acked = false;
           abandoned = false;
           misses = 0;
+          resent = false;
         } }
     {
         InFlight {
@@ -287,6 +313,7 @@ impl InFlight {
             acked: false,
             abandoned: false,
             misses: 0,
+            resent: false,
         }
     }
 
@@ -304,6 +331,7 @@ impl InFlight {
             acked: false,
             abandoned: true,
             misses: 0,
+            resent: false,
         }
     }
 
@@ -393,9 +421,7 @@ impl InFlight {
     {
         match by {
             Retransmission::Timer => self.retransmit,
-            Retransmission::Fast => {
-                self.is_outstanding() && self.sent_count == 1 && self.misses >= 3
-            }
+            Retransmission::Fast => { self.is_outstanding() && !self.resent && self.misses >= 3 }
         }
     }
 
@@ -414,24 +440,71 @@ impl InFlight {
         ensures { self.new ≡ counted_again by self.old }
     {
         self.sent_count = self.sent_count.saturating_add(1);
+        self.resent = true;
         match by {
             Retransmission::Timer => self.retransmit = false,
             Retransmission::Fast => {}
         }
     }
 
-    pub(crate) fn report_missing(&mut self)
-        ensures { self.new ≡ reported_missing self.old }
+    pub(crate) fn report_missing(&mut self, reports: &Reports)
+        ensures { self.new ≡ reported_missing reports.now self.old }
     {
-        if self.is_outstanding() && self.misses < 3 {
-            self.misses += 1;
+        if self.is_reported(reports) {
+            let resent = self.stays_resent(reports.among);
+            self.misses = self.misses_after(reports);
+            self.resent = resent;
         }
     }
 
-    pub(crate) fn is_third_report(&self) -> bool
-        ensures { result ≡ is_third_report self.now }
+    // Whether a report that counts for it is the last that it takes to send it again.
+    pub(crate) fn is_last_report(&self, reports: &Reports) -> bool
+        ensures { result ≡ is_last_report reports.now self.now }
     {
-        self.is_outstanding() && self.misses == 2
+        self.is_reported(reports) && self.misses_after(reports) >= 3
+    }
+
+    fn is_reported(&self, reports: &Reports) -> bool
+        ensures { result ≡ is_reported reports.now self.now }
+    {
+        self.is_among(reports.among) && self.misses_before(reports.among) < 3
+    }
+
+    fn is_among(&self, among: Among) -> bool
+        ensures { result ≡ is_among among self.now }
+    {
+        match among {
+            Among::Outstanding => self.is_outstanding(),
+            Among::NotResent => self.is_outstanding() && !self.retransmit && !self.resent,
+            Among::Flying => self.is_outstanding() && !self.retransmit,
+        }
+    }
+
+    // How many reports counted so far.
+    fn misses_before(&self, among: Among) -> u8
+        ensures { result ≡ misses_before among self.now }
+    {
+        match among {
+            Among::Outstanding | Among::NotResent => self.misses,
+            Among::Flying => { if self.resent { 0 } else { self.misses } }
+        }
+    }
+
+    // How many do once one more does.
+    fn misses_after(&self, reports: &Reports) -> u8
+        ensures { result ≡ misses_after reports.now self.now }
+    {
+        let misses = self.misses_before(reports.among).saturating_add(1);
+        if misses < reports.enough { misses } else { 3 }
+    }
+
+    fn stays_resent(&self, among: Among) -> bool
+        ensures { result ≡ stays_resent among self.now }
+    {
+        match among {
+            Among::Outstanding | Among::NotResent => self.resent,
+            Among::Flying => false,
+        }
     }
 
     pub(crate) fn abandon(&mut self, message_id: u64)

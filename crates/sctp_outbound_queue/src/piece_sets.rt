@@ -1,5 +1,5 @@
 // Which of the pieces in flight are marked, missing and acknowledged, so that nothing has to be gone over to find them.
-ghost use Rattle.std.specs.Prelude.{List, ◌≡◌, ◌+◌, ◌++◌, ◌∷◌, [], drop, position, slice_get, slice_set, Some, OnOk};
+ghost use Rattle.std.specs.Prelude.{List, ◌≡◌, ◌+◌, ◌++◌, ◌∷◌, [], drop, is_some, position, slice_get, slice_set, Some, OnOk};
 ghost use Rattle.std.specs.Option.{option_map};
 ghost use Rattle.sctp_looks.specs.Looks.{ticked_by};
 ghost use Rattle.sctp_outbound_queue.specs.declared.message.InFlight.{InFlight as Piece};
@@ -18,7 +18,7 @@ use std::alloc::{AllocError, Global};
 pub(crate) struct PieceSets {
     /// Those that the retransmission timer marked to be sent again.
     marked: Candidates,
-    /// Those that are outstanding, were sent once and were reported missing three times.
+    /// Those that are outstanding and were reported missing often enough to be sent again.
     missing: Candidates,
     /// Those that gap ack blocks named and that are not marked to be sent again.
     acked: Candidates,
@@ -113,6 +113,14 @@ impl PieceSets {
             Retransmission::Timer => self.marked.next(from, looks),
             Retransmission::Fast => self.missing.next(from, looks),
         }
+    }
+
+    /// Whether a piece is missing.
+    pub(crate) fn any_missing(&self) -> bool
+        ensures { (ps : List Piece) → AreStanding self.now ps → result ≡ is_some (position (picks causes.Fast) ps) }
+    {
+        let mut looks = Looks::new();
+        self.missing.next(0, &mut looks).is_some()
     }
 
     /// The first index from `from` on, below `to`, at which no piece stands that was acknowledged.

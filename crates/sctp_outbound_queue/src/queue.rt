@@ -6,14 +6,14 @@ ghost use Rattle.std.specs.Option.{option_copied, option_map};
 ghost use Rattle.sctp_looks.specs.Looks.{ticked_by};
 ghost use Rattle.sctp_serial.specs.Serial.{tsn_past};
 ghost use Rattle.sctp_outbound_queue.specs.Message.{is_outstanding, is_expired_piece, counted_again};
-ghost use Rattle.sctp_outbound_queue.specs.Message.{is_third_report, picks, flagged};
+ghost use Rattle.sctp_outbound_queue.specs.Message.{is_last_report, picks, flagged};
 ghost use Rattle.sctp_outbound_queue.specs.Message.{is_due};
 ghost use Rattle.sctp_outbound_queue.specs.Outbound.{empty_outbound, tsn_at, next_tsn_of, waiting_of, outstanding_of};
 ghost use Rattle.sctp_outbound_queue.specs.Outbound.{outstanding_of_message, pieces_waiting, with_message, sent_next};
 ghost use Rattle.sctp_outbound_queue.specs.Outbound.{without_first, changed_at, acked_at, piece_at};
 ghost use Rattle.sctp_outbound_queue.specs.Outbound.{all_marked, has_stream, abandoned_in_front_of, tail_dropped};
 ghost use Rattle.sctp_outbound_queue.specs.Outbound.{all_flagged, abandoned_at, is_abandoned_piece, with_missing};
-ghost use Rattle.sctp_outbound_queue.specs.Outbound.{flying_of, marked_of, past_acknowledged};
+ghost use Rattle.sctp_outbound_queue.specs.Outbound.{any_missing, flying_of, marked_of, past_acknowledged};
 ghost use Rattle.std.specs.List.{list_any};
 ghost use Rattle.sctp_outbound_queue.specs.Front.{holds_at};
 ghost use Rattle.sctp_outbound_queue.specs.Message.{is_of};
@@ -30,7 +30,7 @@ use crate::walks::{
     any_of_message, any_of_stream, first_missing, first_outstanding, flag_all, mark_all, next_sent,
     report_missing, start_sent,
 };
-use crate::{Attributes, InFlight, PendingMessage, Retransmission};
+use crate::{Attributes, InFlight, PendingMessage, Reports, Retransmission};
 use sctp_looks::Looks;
 use sctp_wire_types::{Instant, StreamId};
 use std::alloc::{AllocError, Global};
@@ -384,13 +384,20 @@ impl OutboundQueue {
         first_missing(&self.in_flight)
     }
 
-    /// A SACK reported the first `count` pieces in flight missing: each outstanding one counts it, up to 3 (RFC 4960
-    /// section 7.2.4). Answers whether it was the third report of one of them. Goes over those pieces.
-    pub fn report_missing(&mut self, count: usize) -> bool
-        ensures third { result ≡ list_any is_third_report (take count self.old.in_flight) }
-        ensures counted { self.new ≡ with_missing count self.old }
+    /// A SACK reported pieces in flight missing (RFC 4960 section 7.2.4). Answers whether that is enough to send one of
+    /// them again. Goes over those pieces, but for what gap ack blocks acknowledged: past that it searches among ranges.
+    pub fn report_missing(&mut self, reports: &Reports) -> bool
+        ensures last { result ≡ list_any (is_last_report reports.now) (take reports.now.count self.old.in_flight) }
+        ensures counted { self.new ≡ with_missing reports.now self.old }
     {
-        report_missing(&mut self.in_flight, &mut self.sets, count)
+        report_missing(&mut self.in_flight, &mut self.sets, reports)
+    }
+
+    /// Whether fast retransmission sends a piece again. Goes over no piece.
+    pub fn any_missing(&self) -> bool
+        ensures { result ≡ any_missing self.now }
+    {
+        self.sets.any_missing()
     }
 
     /// How many TSNs past the first one in flight the first outstanding piece is. Goes over the pieces before it that

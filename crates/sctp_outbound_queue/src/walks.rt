@@ -7,10 +7,10 @@ ghost use Rattle.std.specs.Option.{option_copied};
 ghost use Rattle.sctp_outbound_queue.specs.Message.{is_of, is_of_stream};
 ghost use Rattle.sctp_outbound_queue.specs.Message.{is_outstanding, outstanding_bytes_of};
 ghost use Rattle.sctp_outbound_queue.specs.Message.{marked_again, flagged, flying_bytes};
-ghost use Rattle.sctp_outbound_queue.specs.Message.{sent_started, is_third_report, picks};
+ghost use Rattle.sctp_outbound_queue.specs.Message.{sent_started, is_last_report, picks};
 ghost use Rattle.sctp_outbound_queue.specs.Message.{reported_missing};
 ghost use Rattle.sctp_outbound_queue.specs.Outbound.{flying_of, outstanding_of_message, marked_of};
-ghost use Rattle.sctp_outbound_queue.specs.Outbound.{is_outstanding_piece, is_third_report_of, with_report};
+ghost use Rattle.sctp_outbound_queue.specs.Outbound.{is_last_report_of, is_outstanding_piece, with_report};
 ghost use Rattle.sctp_outbound_queue.specs.Front.{flagged_at, holds_at, piece_ids, NeverFall};
 ghost use Rattle.sctp_outbound_queue.specs.PieceSets.{AreStanding, HavePlace};
 ghost use Rattle.sctp_outbound_queue.specs.declared.message.InFlight.{InFlight as Piece};
@@ -19,7 +19,7 @@ ghost use Rattle.sctp_outbound_queue.specs.Message.{sooner_piece};
 
 use crate::clocks::Clocks;
 use crate::piece_sets::PieceSets;
-use crate::{InFlight, Retransmission};
+use crate::{InFlight, Reports, Retransmission};
 use sctp_wire_types::{Instant, StreamId};
 use std::collections::VecDeque;
 
@@ -254,41 +254,50 @@ fn mark(piece: &mut InFlight, sets: &mut PieceSets, index: usize)
     sets.settle_mark(index, piece);
 }
 
-// The first `count` pieces are reported missing. Answers whether it was the third report of one of them.
+// The first so many pieces are reported missing. Answers whether that is enough to send one of them again. Passes over
+// what was acknowledged.
 pub(crate) fn report_missing(
     pieces: &mut VecDeque<InFlight>,
     sets: &mut PieceSets,
-    count: usize,
+    reports: &Reports,
 ) -> bool
     requires { AreStanding sets.old pieces.old.items }
-    ensures third { result ≡ list_any is_third_report (take count pieces.old.items) }
-    ensures counted { pieces.new.items ≡
-        map reported_missing (take count pieces.old.items) ++ drop count pieces.old.items }
+    ensures last { result ≡ list_any (is_last_report reports.now) (take reports.now.count pieces.old.items) }
+    ensures counted { pieces.new.items ≡ map (reported_missing reports.now) (take reports.now.count pieces.old.items)
+        ++ drop reports.now.count pieces.old.items }
     ensures sets { AreStanding sets.new pieces.new.items }
 {
-    let mut any_third = false;
-    for index in 0..count.min(pieces.len()) {
-        any_third |= report_at(pieces, sets, index);
+    let end = reports.count.min(pieces.len());
+    let mut any_last = false;
+    let mut index = sets.skip_acknowledged(0, end);
+    'pieces: while index < end {
+        any_last |= report_at(pieces, sets, index, reports);
+        index = sets.skip_acknowledged(index + 1, end);
     }
-    any_third
+    any_last
 }
 
-// One piece is reported missing. Answers whether it was its third report.
-fn report_at(pieces: &mut VecDeque<InFlight>, sets: &mut PieceSets, index: usize) -> bool
+// One piece is reported missing. Answers whether that is enough to send it again.
+fn report_at(
+    pieces: &mut VecDeque<InFlight>,
+    sets: &mut PieceSets,
+    index: usize,
+    reports: &Reports,
+) -> bool
     requires { AreStanding sets.old pieces.old.items }
-    ensures third { result ≡ is_third_report_of (slice_get pieces.old.items index) }
+    ensures last { result ≡ is_last_report_of reports.now (slice_get pieces.old.items index) }
     ensures counted { pieces.new.items ≡
-        with_report (slice_get pieces.old.items index) index pieces.old.items }
+        with_report reports.now (slice_get pieces.old.items index) index pieces.old.items }
     ensures sets { AreStanding sets.new pieces.new.items }
 {
     match pieces.get_mut(index) {
         Some(piece) => {
-            let is_third = piece.is_third_report();
-            piece.report_missing();
-            if is_third {
+            let is_last = piece.is_last_report(reports);
+            piece.report_missing(reports);
+            if is_last {
                 sets.settle_missing(index, piece);
             }
-            is_third
+            is_last
         }
         None => false,
     }

@@ -9,6 +9,7 @@ use Rattle.sctp_wire_types.specs.declared.chunk.ChunkPayloadData.{ChunkPayloadDa
 use Rattle.sctp_wire_types.specs.declared.chunk.ChunkSelectiveAck.{ChunkSelectiveAck}
 use Rattle.sctp_serial.specs.Serial.{tsn}
 use Rattle.sctp_outbound_queue.specs.declared.message.InFlight.{InFlight}
+use Rattle.sctp_outbound_queue.specs.declared.message.Reports.{Reports}
 use Rattle.sctp_outbound_queue.specs.Message.{sent_started, waiting_started}
 use Rattle.sctp_outbound_queue.specs.Waiting.{Waiting}
 use Rattle.sctp_outbound.specs.declared.sender.Sender.{Sender}
@@ -243,8 +244,8 @@ module _ (x : Surroundings) (p : Parts) (h : Holds x p) where
 
 -- a SACK that acknowledges the first n pieces in flight and those that its gap ack blocks name, and reports some
 -- missing
-pub act_acknowledged : {x : Surroundings} {p : Parts} (n k missing : ℕ) (c : ChunkSelectiveAck) (sack : Sack)
-    → Holds x p
+pub act_acknowledged : {x : Surroundings} {p : Parts} (n k : ℕ) (missing : Reports) (c : ChunkSelectiveAck)
+    (sack : Sack) → Holds x p
     → slice_get x.out.sacks k ≡ Some sack → SaysWhatWasTaken p.history.own sack.reach sack.above c
     → sack.reach ≡ x.out.sender.reach + n → Can (Act.Acknowledged n c.gap_ack_blocks missing) p
     → (after : AfterOut x (done (Act.Acknowledged n c.gap_ack_blocks missing) p) [])

@@ -20,6 +20,7 @@ use Rattle.sctp_serial.specs.Serial.{tsn_gt, tsn_lt, tsn_past, tsn}
 use Rattle.sctp_parts.specs.declared.timer.Timer.TheVariants as names
 use Rattle.sctp_parts.specs.Timers.{expiry_of}
 use Rattle.sctp_outbound_queue.specs.declared.message.InFlight.{InFlight}
+use Rattle.sctp_outbound_queue.specs.declared.message.Reports.{Reports}
 use Rattle.sctp_outbound_queue.specs.Waiting.{Waiting}
 use Rattle.sctp_outbound_queue.specs.Outbound.{pieces_waiting}
 use Rattle.sctp_streams.specs.Streams.{StreamMap}
@@ -69,7 +70,7 @@ use Rattle.sctp_sides.proofs.ForwardKinds.{with_use}
 
 -- SACK
 
-outcome_acts : (o : SackOutcome) (n : ℕ) (blocks : List GapAckBlock) (missing : ℕ) (opens : Bool)
+outcome_acts : (o : SackOutcome) (n : ℕ) (blocks : List GapAckBlock) (missing : Reports) (opens : Bool)
     → (acts_of_outcome o n blocks missing opens ≡ [])
     ⊎ (acts_of_outcome o n blocks missing opens ≡ Act.Acknowledged n blocks missing ∷ marks_if opens)
 outcome_acts outcomes.Older n blocks missing opens = inl refl
@@ -77,7 +78,7 @@ outcome_acts outcomes.NotInFlight n blocks missing opens = inl refl
 outcome_acts outcomes.NamesTheUnsent n blocks missing opens = inl refl
 outcome_acts outcomes.Taken n blocks missing opens = inr refl
 
-sack_if : (sends : Bool) (o : SackOutcome) (n : ℕ) (blocks : List GapAckBlock) (missing : ℕ) (opens : Bool)
+sack_if : (sends : Bool) (o : SackOutcome) (n : ℕ) (blocks : List GapAckBlock) (missing : Reports) (opens : Bool)
     → ((if sends then acts_of_outcome o n blocks missing opens else []) ≡ [])
     ⊎ ((if sends then acts_of_outcome o n blocks missing opens else [])
     ≡ Act.Acknowledged n blocks missing ∷ marks_if opens)
@@ -164,8 +165,8 @@ outcome_taken : (older beyond unsent : Bool) → older ≡ false → beyond ≡ 
     → outcome_of older beyond unsent ≡ outcomes.Taken
 outcome_taken older beyond unsent e f g = rw (e, f, g) refl
 
-taken_acts : (sends : Bool) (o : SackOutcome) (n count : ℕ) (blocks : List GapAckBlock) (missing : ℕ) (opens : Bool)
-    → sends ≡ true → o ≡ outcomes.Taken → n ≡ count
+taken_acts : (sends : Bool) (o : SackOutcome) (n count : ℕ) (blocks : List GapAckBlock) (missing : Reports)
+    (opens : Bool) → sends ≡ true → o ≡ outcomes.Taken → n ≡ count
     → (if sends then acts_of_outcome o n blocks missing opens else [])
     ≡ Act.Acknowledged count blocks missing ∷ marks_if opens
 taken_acts sends o n count blocks missing opens e f g = rw (e, f, g) refl
@@ -208,7 +209,7 @@ taken_sacks_acknowledge a h header sack count sends binds names =
     (length a.sender.queue.in_flight) sack.gap_ack_blocks past refl names.named))
     past
 
-other_acts_of_sack : (sends older beyond unsent : Bool) (n : ℕ) (blocks : List GapAckBlock) (missing : ℕ)
+other_acts_of_sack : (sends older beyond unsent : Bool) (n : ℕ) (blocks : List GapAckBlock) (missing : Reports)
     (opens : Bool) → (sends ≡ false) ⊎ (older ≡ true)
     → (if sends then acts_of_outcome (outcome_of older beyond unsent) n blocks missing opens else []) ≡ []
 other_acts_of_sack false older beyond unsent n blocks missing opens other = refl

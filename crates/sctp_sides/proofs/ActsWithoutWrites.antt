@@ -18,6 +18,7 @@ use Rattle.sctp_inbound.specs.declared.receiver.AckTrigger.{AckTrigger}
 use Rattle.sctp_inbound.specs.declared.receiver.AckTrigger.TheVariants as triggers
 use Rattle.sctp_inbound.specs.Handshake.{comes_back}
 use Rattle.sctp_inbound.specs.Receiver.{admits, is_new_to}
+use Rattle.sctp_outbound_queue.specs.declared.message.Reports.{Reports}
 use Rattle.sctp_outbound.specs.declared.sender.SackOutcome.{SackOutcome}
 use Rattle.sctp_outbound.specs.declared.sender.SackOutcome.TheVariants as outcomes
 use Rattle.sctp_generations.specs.Generations.{has_retiring, has_skips}
@@ -142,7 +143,7 @@ data_writes_nothing a piece =
 
 -- Other chunks
 
-outcomes_write_nothing : (outcome : SackOutcome) (n : ℕ) (blocks : List GapAckBlock) (missing : ℕ) (opens : Bool)
+outcomes_write_nothing : (outcome : SackOutcome) (n : ℕ) (blocks : List GapAckBlock) (missing : Reports) (opens : Bool)
     → AreNoWrites (acts_of_outcome outcome n blocks missing opens)
 outcomes_write_nothing outcomes.Older n blocks missing opens = tt
 outcomes_write_nothing outcomes.NotInFlight n blocks missing opens = tt

@@ -1,17 +1,19 @@
 -- Of the messages that wait, something was sent of the first one alone, and what is in flight of that one is as it
 -- waits: each act of an association keeps it so.
 use Rattle.std.proofs.Common.{◌≡◌, refl, ap, ◌∙◌, ◌⊎◌, inl, inr, ℕ, zero, suc, ◌+◌, ◌<◌, ◌≤◌, arith, Bool, true, false}
-use Rattle.std.proofs.Common.{if◌then◌else◌, List, [], ◌∷◌, ◌++◌, ◌&&◌, ◌==◌, drop, eqb, length, map, nat_lt}
+use Rattle.std.proofs.Common.{if◌then◌else◌, List, [], ◌∷◌, ◌++◌, ◌==◌, drop, eqb, length, map}
 use Rattle.std.proofs.Common.{slice_get, slice_set, subst, sym, take, Option, Some, None}
 use Rattle.std.specs.List.{AllByRecursion}
 use Rattle.std.specs.Prelude.{⊤}
 use Rattle.std.proofs.lemmas.Bool.{eqb-false, eqb-true}
 use Rattle.sctp_outbound_queue.specs.declared.message.Attributes.{Attributes}
 use Rattle.sctp_outbound_queue.specs.declared.message.InFlight.{InFlight}
+use Rattle.sctp_outbound_queue.specs.declared.message.Reports.{Reports}
 use Rattle.sctp_outbound_queue.specs.declared.message.Retransmission.{Retransmission}
 use Rattle.sctp_outbound_queue.specs.declared.message.Retransmission.TheVariants as causes
 use Rattle.sctp_outbound_queue.specs.Expiry.{all_started}
 use Rattle.sctp_outbound_queue.specs.Message.{accepted, acked, counted_again, flagged, is_of, is_outstanding}
+use Rattle.sctp_outbound_queue.specs.Message.{is_reported}
 use Rattle.sctp_outbound_queue.specs.Message.{marked_again, marker_of, moved_down, reported_missing, sent_once}
 use Rattle.sctp_outbound_queue.specs.Message.{sent_started, share_ssns, started, waiting_started, without_piece}
 use Rattle.sctp_outbound_queue.specs.Outbound.{Outbound, all_flagged, changed_from, sent_from}
@@ -172,11 +174,11 @@ module _ (ms : List Waiting) (next : ℕ) where
   drop_fits (suc n) [] m = tt
   drop_fits (suc n) (x ∷ xs) (m, ms) = drop_fits n xs ms
 
-  missing_fit : (n : ℕ) (xs : List InFlight) → AllFit xs → AllFit (map reported_missing (take n xs) ++ drop n xs)
-  missing_fit zero xs m = m
-  missing_fit (suc n) [] m = tt
-  missing_fit (suc n) (x ∷ xs) (m, ms) =
-      (fits_if (is_outstanding x && nat_lt x.misses 3) x _ refl refl m, missing_fit n xs ms)
+  missing_fit : (r : Reports) (n : ℕ) (xs : List InFlight) → AllFit xs
+      → AllFit (map (reported_missing r) (take n xs) ++ drop n xs)
+  missing_fit r zero xs m = m
+  missing_fit r (suc n) [] m = tt
+  missing_fit r (suc n) (x ∷ xs) (m, ms) = (fits_if (is_reported r x) x _ refl refl m, missing_fit r n xs ms)
 
 started_fits : (now : ℕ) (ms : List Waiting) (next : ℕ) (x : InFlight) → PieceFits ms next x
     → PieceFits (map (waiting_started now) ms) next (sent_started now x)
@@ -349,12 +351,12 @@ dropped_orderly : (k : ℕ) (o : Option Waiting) (p : Parts) → IsOrderly p.que
 dropped_orderly k None p h = h
 dropped_orderly k (Some x) p h = dropped_from k p.queue.pending p.queue.in_flight p.queue.next_message_id h
 
-acknowledged_orderly : (n missing : ℕ) (named : ℕ → Bool) (q : Outbound) → IsOrderly q
+acknowledged_orderly : (n : ℕ) (missing : Reports) (named : ℕ → Bool) (q : Outbound) → IsOrderly q
     → IsFirstBegun q.pending
-    (let xs = drop n (acked_among named 0 q.in_flight) in map reported_missing (take missing xs) ++ drop missing xs)
-    q.next_message_id
+    (let xs = drop n (acked_among named 0 q.in_flight) in
+    map (reported_missing missing) (take missing.count xs) ++ drop missing.count xs) q.next_message_id
 acknowledged_orderly n missing named q (pieces, rest) = (
-  missing_fit q.pending q.next_message_id missing (drop n (acked_among named 0 q.in_flight))
+  missing_fit q.pending q.next_message_id missing missing.count (drop n (acked_among named 0 q.in_flight))
       (drop_fits q.pending q.next_message_id n (acked_among named 0 q.in_flight)
       (among_fit q.pending q.next_message_id named 0 q.in_flight pieces)),
   rest,

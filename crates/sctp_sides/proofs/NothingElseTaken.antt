@@ -17,6 +17,7 @@ use Rattle.sctp_wire_types.specs.Checks.{checked_chunk}
 use Rattle.sctp_wire_types.specs.declared.ids.PayloadProtocolIdentifier.TheVariants as kinds
 use Rattle.sctp_streams.specs.Streams.{generation_left, stream_at}
 use Rattle.sctp_inbound.specs.Handshake.{comes_back}
+use Rattle.sctp_outbound_queue.specs.declared.message.Reports.{Reports}
 use Rattle.sctp_outbound.specs.declared.sender.SackOutcome.{SackOutcome}
 use Rattle.sctp_outbound.specs.declared.sender.SackOutcome.TheVariants as outcomes
 use Rattle.sctp_generations.specs.Generations.{has_retiring}
@@ -246,7 +247,7 @@ pub marks_are : (Is : Act → Type 0) → Is Act.Marked → (opens : Bool) → A
 marks_are Is marked true = (marked, tt)
 marks_are Is marked false = tt
 
-outcomes_take_nothing : (outcome : SackOutcome) (n : ℕ) (blocks : List GapAckBlock) (missing : ℕ) (opens : Bool)
+outcomes_take_nothing : (outcome : SackOutcome) (n : ℕ) (blocks : List GapAckBlock) (missing : Reports) (opens : Bool)
     → AllByRecursion IsNoIntake (acts_of_outcome outcome n blocks missing opens)
 outcomes_take_nothing outcomes.Older n blocks missing opens = tt
 outcomes_take_nothing outcomes.NotInFlight n blocks missing opens = tt

@@ -1,16 +1,17 @@
 -- Where no DATA of a stream waits or is in flight, none does behind any act but a write.
-use Rattle.std.proofs.Common.{◌≡◌, refl, sym, subst, ℕ, zero, suc, Bool, true, false, ◌&&◌, ◌==◌}
-use Rattle.std.proofs.Common.{if◌then◌else◌, List, [], ◌∷◌, ◌++◌, drop, length, map, nat_lt, slice_get, slice_set, take}
+use Rattle.std.proofs.Common.{◌≡◌, refl, sym, subst, ℕ, zero, suc, Bool, true, false, ◌==◌}
+use Rattle.std.proofs.Common.{if◌then◌else◌, List, [], ◌∷◌, ◌++◌, drop, length, map, slice_get, slice_set, take}
 use Rattle.std.proofs.Common.{Option, Some, None}
 use Rattle.std.proofs.lemmas.Bool.{or_parts}
 use Rattle.std.specs.List.{AllByRecursion, list_any}
 use Rattle.std.specs.Prelude.{⊤}
 use Rattle.sctp_outbound_queue.specs.declared.message.Attributes.{Attributes}
 use Rattle.sctp_outbound_queue.specs.declared.message.InFlight.{InFlight}
+use Rattle.sctp_outbound_queue.specs.declared.message.Reports.{Reports}
 use Rattle.sctp_outbound_queue.specs.declared.message.Retransmission.{Retransmission}
 use Rattle.sctp_outbound_queue.specs.declared.message.Retransmission.TheVariants as causes
 use Rattle.sctp_outbound_queue.specs.Message.{accepted, acked, counted_again, flagged, is_of, is_of_stream}
-use Rattle.sctp_outbound_queue.specs.Message.{is_outstanding}
+use Rattle.sctp_outbound_queue.specs.Message.{is_outstanding, is_reported}
 use Rattle.sctp_outbound_queue.specs.Message.{is_waiting_of_stream, marked_again, marker_of, moved_down}
 use Rattle.sctp_outbound_queue.specs.Message.{reported_missing, sent_once, sent_started, share_ssns, waiting_started}
 use Rattle.sctp_outbound_queue.specs.Message.{without_piece}
@@ -103,11 +104,11 @@ module _ (id : ℕ) where
   drop_fly (suc n) [] m = tt
   drop_fly (suc n) (x ∷ xs) (m, ms) = drop_fly n xs ms
 
-  missing_fly : (n : ℕ) (xs : List InFlight) → AllFly xs → AllFly (map reported_missing (take n xs) ++ drop n xs)
-  missing_fly zero xs m = m
-  missing_fly (suc n) [] m = tt
-  missing_fly (suc n) (x ∷ xs) (m, ms) =
-      (same_if (is_outstanding x && nat_lt x.misses 3) x _ refl m, missing_fly n xs ms)
+  missing_fly : (r : Reports) (n : ℕ) (xs : List InFlight) → AllFly xs
+      → AllFly (map (reported_missing r) (take n xs) ++ drop n xs)
+  missing_fly r zero xs m = m
+  missing_fly r (suc n) [] m = tt
+  missing_fly r (suc n) (x ∷ xs) (m, ms) = (same_if (is_reported r x) x _ refl m, missing_fly r n xs ms)
 
   flagged_fly : (message : ℕ) (xs : List InFlight) → AllFly xs → AllFly (map (flagged message) xs)
   flagged_fly message [] m = tt
@@ -210,7 +211,7 @@ module _ (id : ℕ) where
   act_none (Act.Acknowledged n blocks missing) p w h = record {
     waiting = h.waiting;
     flying =
-        missing_fly missing _
+        missing_fly missing missing.count _
         (drop_fly n _ (among_fly (is_acknowledged_by n blocks) 0 p.queue.in_flight h.flying));
   }
   act_none (Act.Abandoned index) p w h = abandoned_none (slice_get p.queue.in_flight index) p h

@@ -38,6 +38,7 @@ use Rattle.sctp_wire_types.specs.declared.param.Param.TheVariants as params
 use Rattle.sctp_streams.specs.Streams.{StreamMap, generation_left, read_in, refusal_in, stream_at}
 use Rattle.sctp_inbound.specs.Handshake.{comes_back}
 use Rattle.sctp_inbound.specs.Receiver.{admits, is_new_to}
+use Rattle.sctp_outbound_queue.specs.declared.message.Reports.{Reports}
 use Rattle.sctp_outbound.specs.declared.sender.SackOutcome.{SackOutcome}
 use Rattle.sctp_outbound.specs.declared.sender.SackOutcome.TheVariants as outcomes
 use Rattle.sctp_outbound.specs.Sender.{sack_outcome}
@@ -177,7 +178,7 @@ data_acts a piece =
     (join_acts (acts_of_stream b id) (acts_of_found (stream_found b id) piece) (stream_acts b id)
     (found_acts (stream_found b id) piece)))
 
-outcome_acts : (o : SackOutcome) (n missing : ℕ) (blocks : List GapAckBlock) (opens : Bool)
+outcome_acts : (o : SackOutcome) (n : ℕ) (missing : Reports) (blocks : List GapAckBlock) (opens : Bool)
     → GiveNoneAgain (acts_of_outcome o n blocks missing opens)
 outcome_acts outcomes.Older n missing blocks opens = tt
 outcome_acts outcomes.NotInFlight n missing blocks opens = tt

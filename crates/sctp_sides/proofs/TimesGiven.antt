@@ -1,7 +1,7 @@
 -- What a piece in flight counts is how often the DATA of its offset was given out, whatever acts are done.
 use Rattle.std.proofs.Common.{◌≡◌, refl, sym, ap, ◌∙◌, ℕ, zero, suc, ◌<◌, ◌≤◌, ◌+◌, ◌-◌, ◌^◌, arith, Bool}
-use Rattle.std.proofs.Common.{true, false, not, ◌&&◌, ◌==◌, if◌then◌else◌, List, [], ◌∷◌, ◌++◌, drop, length, map}
-use Rattle.std.proofs.Common.{nat_lt, slice_get, slice_set, take, Option, Some, None, is_some}
+use Rattle.std.proofs.Common.{true, false, not, ◌==◌, if◌then◌else◌, List, [], ◌∷◌, ◌++◌, drop, length, map}
+use Rattle.std.proofs.Common.{slice_get, slice_set, take, Option, Some, None, is_some}
 use Rattle.std.proofs.lemmas.Bool.{false≢true, ltb-false, not-true}
 use Rattle.std.proofs.lemmas.List.{length-map, map-append}
 use Rattle.std.proofs.lemmas.Option.{slice_get-map}
@@ -12,10 +12,12 @@ use Rattle.sctp_wire_types.specs.declared.reliability.Policy.{Policy}
 use Rattle.sctp_wire_types.specs.declared.reliability.Policy.TheVariants.{Rexmit}
 use Rattle.sctp_outbound_queue.specs.declared.message.Attributes.{Attributes}
 use Rattle.sctp_outbound_queue.specs.declared.message.InFlight.{InFlight}
+use Rattle.sctp_outbound_queue.specs.declared.message.Reports.{Reports}
 use Rattle.sctp_outbound_queue.specs.declared.message.Retransmission.{Retransmission}
 use Rattle.sctp_outbound_queue.specs.declared.message.Retransmission.TheVariants as causes
 use Rattle.sctp_outbound_queue.specs.Message.{acked, counted_again, flagged, is_of, is_outstanding, marked_again}
-use Rattle.sctp_outbound_queue.specs.Message.{marker_of, one_sending_more, reported_missing, sent_once, sent_started}
+use Rattle.sctp_outbound_queue.specs.Message.{is_reported, marker_of, misses_after, one_sending_more}
+use Rattle.sctp_outbound_queue.specs.Message.{reported_missing, sent_once, sent_started, stays_resent}
 use Rattle.sctp_outbound_queue.specs.Outbound.{Outbound, changed_from, sent_from, tail_dropped_from}
 use Rattle.sctp_outbound_queue.specs.Waiting.{Waiting}
 use Rattle.sctp_streams.specs.Stream.{StreamView}
@@ -77,15 +79,16 @@ flagged_if : (c : Bool) (x : InFlight)
 flagged_if true x = refl
 flagged_if false x = refl
 
-reported_if : (c : Bool) (x : InFlight) → tally (if c then record x { misses = x.misses + 1 } else x) ≡ tally x
-reported_if true x = refl
-reported_if false x = refl
+reported_if : (c : Bool) (r : Reports) (x : InFlight)
+    → tally (if c then record x { misses = misses_after r x; resent = stays_resent r.among x } else x) ≡ tally x
+reported_if true r x = refl
+reported_if false r x = refl
 
-reported_alike : (n : ℕ) (xs : List InFlight) → tallies (map reported_missing (take n xs) ++ drop n xs) ≡ tallies xs
-reported_alike zero xs = refl
-reported_alike (suc n) [] = refl
-reported_alike (suc n) (x ∷ xs) =
-    rw (reported_if (is_outstanding x && nat_lt x.misses 3) x, reported_alike n xs) refl
+reported_alike : (r : Reports) (n : ℕ) (xs : List InFlight)
+    → tallies (map (reported_missing r) (take n xs) ++ drop n xs) ≡ tallies xs
+reported_alike r zero xs = refl
+reported_alike r (suc n) [] = refl
+reported_alike r (suc n) (x ∷ xs) = rw (reported_if (is_reported r x) r x, reported_alike r n xs) refl
 
 -- one sending more counts
 counted_tally : (by : Retransmission) (x : InFlight)
@@ -202,7 +205,7 @@ module _ (under : Bool) (n o t : ℕ) (small : n < 2 ^ 32 - 1) where
       (alike marked_again (λ x. marked_if (is_outstanding x) x) p.queue.in_flight) h
   act_stands (Act.Acknowledged count blocks missing) p can spares h =
       stand_as (omega arith)
-      (reported_alike missing _ ∙ tallies_dropped count _
+      (reported_alike missing missing.count _ ∙ tallies_dropped count _
       ∙ ap (drop count) (among_alike (is_acknowledged_by count blocks) 0 p.queue.in_flight))
       (dropped_stand under n o t p.history.base count (tallies p.queue.in_flight) h)
   act_stands (Act.Abandoned index) p can spares h = abandoned_stands (slice_get p.queue.in_flight index) p h

@@ -24,6 +24,7 @@ use Rattle.sctp_streams.specs.Stream.{StreamView}
 use Rattle.sctp_streams.specs.declared.setting.Setting.{Setting}
 use Rattle.sctp_streams.specs.Streams.{made, read_in, stream_at}
 use Rattle.sctp_inbound.specs.declared.receiver.AckTrigger.{AckTrigger}
+use Rattle.sctp_outbound_queue.specs.declared.message.Reports.{Reports}
 use Rattle.sctp_outbound.specs.Forward.{forward_of}
 use Rattle.sctp_directions.specs.Acts.{Act, HasReadOpen, History, IsAhead, all_data_given, reach_in}
 use Rattle.sctp_assoc.specs.Leads.{Binds, LeadsOn, parts}
@@ -426,7 +427,7 @@ ReconfigsEndPast =
 -- that is outstanding may be marked to be sent again.
 pub record IsAcknowledging (a : Shown) (h : History) (sack : ChunkSelectiveAck) (acts : List Act) : Type 0 where
   pub count : ℕ
-  pub missing : ℕ
+  pub missing : Reports
   pub marked : Bool
   pub are : acts ≡ Act.Acknowledged count sack.gap_ack_blocks missing ∷ marks_if marked
   pub within : count ≤ length a.sender.queue.in_flight

@@ -60,7 +60,7 @@ begun: true, user_data: b\"cd\", rest: [] }], in_flight: [\
 InFlight { message: Attributes { message_id: 0, stream_identifier: 1, generation: 0, unordered: false, \
 stream_sequence_number: 0, payload_type: Binary, policy: Timed(50), deadline: Some(Instant { nanos: 57000000 }) }, \
 beginning_fragment: true, ending_fragment: false, user_data: b\"ab\", sent_count: 1, \
-since: Instant { nanos: 5000000 }, retransmit: false, acked: false, abandoned: false, misses: 0 }], \
+since: Instant { nanos: 5000000 }, retransmit: false, acked: false, abandoned: false, misses: 0, resent: false }], \
 first_tsn: 4294967295, next_message_id: 1, pending_bytes: 2, outstanding_bytes: 2, marked: 0, settled: 0, \
 all_run: true, next_deadline: Some(Instant { nanos: 57000000 }) }
 OutboundQueue { pending: [\
@@ -73,7 +73,7 @@ begun: false, user_data: b\"ab\", rest: [b\"cd\"] }], in_flight: [\
 InFlight { message: Attributes { message_id: 0, stream_identifier: 1, generation: 0, unordered: false, \
 stream_sequence_number: 0, payload_type: Binary, policy: Timed(50), deadline: Some(Instant { nanos: 57000000 }) }, \
 beginning_fragment: true, ending_fragment: false, user_data: b\"ab\", sent_count: 1, \
-since: Instant { nanos: 5000000 }, retransmit: false, acked: false, abandoned: false, misses: 0 }], \
+since: Instant { nanos: 5000000 }, retransmit: false, acked: false, abandoned: false, misses: 0, resent: false }], \
 first_tsn: 4294967295, next_message_id: 2, pending_bytes: 6, outstanding_bytes: 2, marked: 0, settled: 0, \
 all_run: false, next_deadline: Some(Instant { nanos: 57000000 }) }
 OutboundQueue { pending: [\
@@ -86,7 +86,7 @@ begun: false, user_data: b\"ab\", rest: [b\"cd\"] }], in_flight: [\
 InFlight { message: Attributes { message_id: 0, stream_identifier: 1, generation: 0, unordered: false, \
 stream_sequence_number: 0, payload_type: Binary, policy: Timed(50), deadline: Some(Instant { nanos: 57000000 }) }, \
 beginning_fragment: true, ending_fragment: false, user_data: b\"ab\", sent_count: 1, \
-since: Instant { nanos: 5000000 }, retransmit: false, acked: false, abandoned: false, misses: 0 }], \
+since: Instant { nanos: 5000000 }, retransmit: false, acked: false, abandoned: false, misses: 0, resent: false }], \
 first_tsn: 4294967295, next_message_id: 2, pending_bytes: 6, outstanding_bytes: 2, marked: 0, settled: 0, \
 all_run: true, next_deadline: Some(Instant { nanos: 39000000 }) }
 ";

@@ -8,7 +8,7 @@ use Rattle.sctp_outbound.specs.Progress.{any_new_up_to}
 use Rattle.sctp_outbound.specs.Recovery.{past_recovery}
 use Rattle.sctp_outbound.specs.Sacks.{grown_by, reported_by}
 use Rattle.sctp_outbound.specs.Sender.{acknowledged, t3_after_sack}
-use Rattle.sctp_outbound.proofs.MissingPieces.{brought_is, counts_with}
+use Rattle.sctp_outbound.proofs.MissingPieces.{brought_is, counts_with, heard_is}
 use Rattle.sctp_outbound.proofs.NewPieces.{left_behind, newest_is, progress_is}
 use Rattle.sctp_streams.proofs.LowMarks.{gathers_both, gathers_nothing}
 use Rattle.sctp_outbound.proofs.sender.Sender.on_sack.Goals as goal
@@ -54,9 +54,16 @@ returns-clause-taken c =
     c.args.streams.now c.count_to-count.ensures
     (brought_is s c.args.cumulative_tsn_ack c.args.blocks.now c.count_to-count.ensures progress
     c.marked_len-any_marked.ensures c.inflight_bytes-before.ensures)
+    (heard_is s c.args.cumulative_tsn_ack c.args.blocks.now c.count_to-count.ensures
     (newest_is s c.args.cumulative_tsn_ack c.args.blocks.now c.count_to-count.ensures
     c.acknowledge_blocks-newest.ensures.newest left)
-    ∙ ap (λ z. reported_by (nat_lt 0 n) c.acknowledge_blocks-newest.result
+    c.fresh_pieces-fresh.ensures c.reach.ensures)
+    ∙ ap (λ z. reported_by (record {
+      moved = nat_lt 0 n;
+      newest = c.acknowledge_blocks-newest.result;
+      fresh = c.fresh_pieces-fresh.result;
+      reach = c.reach.result;
+    })
     (grown_by (record {
       moved = nat_lt 0 n;
       any_new = c.acknowledge-any_new.result || c.is_some.result;
