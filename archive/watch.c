@@ -61,6 +61,14 @@ sctp_assoc_code sctp_assoc_watched_poll_transmit(sctp_assoc *slot, sctp_assoc_wa
     return code;
 }
 
+sctp_assoc_code sctp_assoc_watched_handle_timeout(sctp_assoc *slot, sctp_assoc_watch *watch, uint64_t now) {
+    bool was_over = is_over(slot);
+    sctp_assoc_code code = sctp_assoc_handle_timeout(slot, now);
+    if (!was_over && is_over(slot))
+        end_as(watch, SCTP_ASSOC_END_SILENT);
+    return code;
+}
+
 sctp_assoc_code sctp_assoc_watched_poll_event(sctp_assoc *slot, sctp_assoc_watch *watch, sctp_assoc_event *event) {
     sctp_assoc_code code = sctp_assoc_poll_event(slot, event);
     if (code == SCTP_ASSOC_DONE && event->kind == SCTP_ASSOC_EVENT_LOST &&

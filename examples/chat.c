@@ -207,7 +207,7 @@ static void wait_for_any(void) {
 static void meet_timer(void) {
     uint64_t due;
     if (done(sctp_assoc_poll_timeout(&assoc, &due)) && due <= now())
-        done(sctp_assoc_handle_timeout(&assoc, now()));
+        done(sctp_assoc_watched_handle_timeout(&assoc, &watch, now()));
 }
 
 /* Until the association has ended, but not for ever. */

@@ -443,7 +443,7 @@ static void turn(void) {
         sctp_channels_send(&page.channels, &page.assoc, page.chat, true, (uint8_t *)line, strcspn(line, "\n"));
     if (!page.dtls)
         return;
-    sctp_assoc_handle_timeout(&page.assoc, now());
+    sctp_assoc_watched_handle_timeout(&page.assoc, &page.watch, now());
     serve_dtls();
     if (now() > page.heard + 30 * SECOND) /* RFC 7675 */
         page.end = "the page was not heard of for long (ICE consent)";

@@ -145,7 +145,7 @@ static inline bool went(int end, sctp_assoc_code code) {
 static inline void expire(int end) {
     expiries_at_once[end] = last_expiry[end] == now ? expiries_at_once[end] + 1 : 1;
     last_expiry[end] = now;
-    went(end, sctp_assoc_handle_timeout(&ends[end], now));
+    went(end, sctp_assoc_watched_handle_timeout(&ends[end], &watches[end], now));
 }
 
 static inline void send_all(int end) {

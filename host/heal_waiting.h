@@ -118,7 +118,7 @@ static enum kind kind_of_end(int end) {
 static void note_over(int end) {
     applications[end].is_over = true;
     say("%c is over: end %u, cause %u", "AB"[end], watches[end].end, watches[end].cause);
-    if (watches[end].end != SCTP_ASSOC_END_SHUT_DOWN && !is_failed[!end])
+    if (watches[end].end != SCTP_ASSOC_END_SHUT_DOWN && watches[end].end != SCTP_ASSOC_END_SILENT && !is_failed[!end])
         find(kind_of_end(end), "%c by end %u, cause %u at %llu ms", "AB"[end], watches[end].end, watches[end].cause,
              (unsigned long long)(now / MS));
     for (int place = 0; place < STREAMS; place++)

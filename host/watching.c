@@ -56,7 +56,7 @@ static void carry(void) {
 static void wait(uint64_t ms) {
     for (uint64_t until = now + ms * MS; now < until; now += 100 * MS)
         for (int end = 0; end < 2; end++) {
-            CHECK(done(sctp_assoc_handle_timeout(&ends[end], now)));
+            CHECK(done(sctp_assoc_watched_handle_timeout(&ends[end], &watches[end], now)));
             carry();
         }
 }
@@ -297,6 +297,78 @@ static void by_exhaustion_behind(bool is_stop) {
     config = default_config();
 }
 
+/* What an end sends is lost, and its timers expire, so often at most. Answers how often, until the association ended or
+ * no timer ran. */
+static unsigned expires(int end, unsigned most) {
+    uint64_t moment;
+    for (unsigned count = 0; count < most; count++) {
+        while (sends(end))
+            ;
+        if (is_drained(end) || !done(sctp_assoc_poll_timeout(&ends[end], &moment)))
+            return count;
+        CHECK(watches[end].end == SCTP_ASSOC_END_NONE);
+        now = moment;
+        CHECK(done(sctp_assoc_watched_handle_timeout(&ends[end], &watches[end], now)));
+    }
+    return most;
+}
+
+/* An end whose peer is silent ends by it and is told so, or neither. */
+static void ended_silent(int end, bool is_told) {
+    CHECK(is_drained(end) == is_told);
+    if (is_told)
+        ended(end, SCTP_ASSOC_END_SILENT);
+    CHECK(is_told || watches[end].end == SCTP_ASSOC_END_NONE);
+    CHECK(!is_drained(!end) && watches[!end].end == SCTP_ASSOC_END_NONE);
+    free_both(ends);
+    config = default_config();
+}
+
+/* The network is dead. DATA goes out again twice, and the third expiry is one too many (RFC 4960 section 8.1). */
+static void by_silence(uint32_t profile) {
+    config.profile = profile;
+    config.max_data_retransmits = 2;
+    begin();
+    write_bytes(100);
+    CHECK(expires(0, 20) == 3);
+    ended_silent(0, profile == SCTP_ASSOC_PROFILE_RFC);
+}
+
+/* So does the SHUTDOWN ACK that answers a SHUTDOWN (section 9.2). SHUTDOWN itself goes out again for ever, and by the
+ * rules of the port SHUTDOWN ACK does, too. */
+static void by_silence_at_the_end(uint32_t profile, bool is_answer) {
+    bool is_told = is_answer && profile == SCTP_ASSOC_PROFILE_RFC;
+    config.profile = profile;
+    config.max_init_retransmits = 2;
+    begin();
+    CHECK(done(sctp_assoc_shutdown(&ends[0])));
+    if (is_answer) {
+        CHECK(sends(0));
+        receives(1);
+    }
+    CHECK(expires(is_answer, 20) == (is_told ? 3u : 20u));
+    ended_silent(is_answer, is_told);
+}
+
+/* Memory is refused as the association is to close: it fails, and no end is noted. Each of its streams has an event. */
+static void refused_silence(void) {
+    config.max_data_retransmits = 0;
+    begin();
+    for (uint16_t stream = STREAM + 1; stream < 100; stream++)
+        CHECK(done(sctp_assoc_open_stream(&ends[0], stream, SCTP_ASSOC_PPID_BINARY)));
+    write_bytes(1);
+    while (sends(0))
+        ;
+    CHECK(done(sctp_assoc_poll_timeout(&ends[0], &now)));
+    refused_from = growths + 1, refused_to = UINT64_MAX;
+    CHECK(sctp_assoc_watched_handle_timeout(&ends[0], &watches[0], now) == SCTP_ASSOC_NO_MEMORY);
+    refused_from = refused_to = 0;
+    CHECK(sctp_assoc_watched_handle_timeout(&ends[0], &watches[0], now) == SCTP_ASSOC_FAILED);
+    CHECK(watches[0].end == SCTP_ASSOC_END_NONE);
+    free_both(ends);
+    config = default_config();
+}
+
 /* ---- The path ---- */
 
 /* A congestion window of 4,380 bytes at first (RFC 4960 section 7.2.1). A SACK takes 200 ms: that is the round trip. */
@@ -329,6 +401,7 @@ static void empty_slot(void) {
     CHECK(sctp_assoc_abort(&none, NULL, 0) == SCTP_ASSOC_EMPTY_SLOT);
     CHECK(sctp_assoc_watched_handle_datagram(&none, &watch, 0, bytes, 20, &fate) == SCTP_ASSOC_EMPTY_SLOT);
     CHECK(sctp_assoc_watched_poll_transmit(&none, &watch, 0, NULL, 0, &length) == SCTP_ASSOC_EMPTY_SLOT);
+    CHECK(sctp_assoc_watched_handle_timeout(&none, &watch, 0) == SCTP_ASSOC_EMPTY_SLOT);
     CHECK(sctp_assoc_watched_poll_event(&none, &watch, &event) == SCTP_ASSOC_EMPTY_SLOT);
     CHECK(sctp_assoc_watched_close(&none, &watch) == SCTP_ASSOC_EMPTY_SLOT);
     CHECK(sctp_assoc_watched_abort(&none, &watch, NULL, 0) == SCTP_ASSOC_EMPTY_SLOT);
@@ -393,6 +466,12 @@ int main(void) {
     TRY(by_exhaustion());
     TRY(by_exhaustion_behind(false));
     TRY(by_exhaustion_behind(true));
+    for (uint32_t profile = SCTP_ASSOC_PROFILE_RFC; profile <= SCTP_ASSOC_PROFILE_PORT; profile++) {
+        TRY(by_silence(profile));
+        TRY(by_silence_at_the_end(profile, false));
+        TRY(by_silence_at_the_end(profile, true));
+    }
+    TRY(refused_silence());
     TRY(tells_path());
     TRY(empty_slot());
     TRY(refused_abort());

@@ -144,11 +144,12 @@ typedef struct sctp_assoc_config {
     uint64_t rto_min_ms;
     uint64_t rto_max_ms;
     size_t max_init_retransmits;       /* how often INIT and COOKIE ECHO go out again, and a request to reset streams
-                                        * until SCTP_ASSOC_EVENT_RESET_FAILED; SCTP_ASSOC_NO_LIMIT */
-    size_t max_data_retransmits;       /* timeouts in a row after which DATA is no longer sent again; by
-                                        * SCTP_ASSOC_PROFILE_RFC a SACK with a window of 0 ends the row, too.
-                                        * Nothing tells of that, so bound the wait for an acknowledgement;
-                                        * SCTP_ASSOC_NO_LIMIT */
+                                        * until SCTP_ASSOC_EVENT_RESET_FAILED; by SCTP_ASSOC_PROFILE_RFC SHUTDOWN and
+                                        * SHUTDOWN ACK, too, until the association ends; SCTP_ASSOC_NO_LIMIT */
+    size_t max_data_retransmits;       /* timeouts in a row in which DATA is sent again. At the next one the association
+                                        * ends by SCTP_ASSOC_PROFILE_RFC, where a SACK with a window of 0 ends the row,
+                                        * too. By SCTP_ASSOC_PROFILE_PORT DATA is no longer sent, and nothing tells of
+                                        * that, so bound the wait for an acknowledgement; SCTP_ASSOC_NO_LIMIT */
 } sctp_assoc_config;
 
 /* Writes the defaults: buffer 1,048,576, messages 65,536, streams 65,535, ports 5000, the profile of the RFCs, timeouts
@@ -227,7 +228,8 @@ sctp_assoc_code sctp_assoc_free(sctp_assoc *slot);
  * with the reason SCTP_ASSOC_REASON_CLOSED. Read what comes at once, since unread messages are gone then. The loop is
  * over once sctp_assoc_is_drained says so and sctp_assoc_poll_transmit answers NOTHING.
  *
- * A peer that is gone is waited for without a limit, and a side that closed answers nothing any more, even if the last
+ * A peer that is gone is waited for until SHUTDOWN went out again as often as max_init_retransmits says, which takes
+ * minutes; by SCTP_ASSOC_PROFILE_PORT without a limit. A side that closed may answer nothing any more, even if the last
  * datagram that it sent is lost. So wait for a bounded time, and then call sctp_assoc_close.
  *
  * Codes: DONE, EMPTY_SLOT, FAILED, SHUTDOWN_NOT_ESTABLISHED (also if either side has begun a shutdown). */
@@ -288,7 +290,10 @@ sctp_assoc_code sctp_assoc_poll_transmit(sctp_assoc *slot, uint64_t now, uint8_t
 sctp_assoc_code sctp_assoc_poll_timeout(sctp_assoc *slot, uint64_t *moment);
 
 /* Does what the timers that expired by `now` ask for, and nothing if none did; packets come by
- * sctp_assoc_poll_transmit. Codes: DONE, EMPTY_SLOT, FAILED, NO_MEMORY (the association has failed). */
+ * sctp_assoc_poll_transmit. By SCTP_ASSOC_PROFILE_RFC a peer that is silent for good ends the association here, as by
+ * sctp_assoc_close: DATA is not acknowledged past max_data_retransmits, or SHUTDOWN ACK not answered past
+ * max_init_retransmits (RFC 4960 sections 8.1 and 9.2). Codes: DONE, EMPTY_SLOT, FAILED, NO_MEMORY (the association
+ * has failed). */
 sctp_assoc_code sctp_assoc_handle_timeout(sctp_assoc *slot, uint64_t now);
 
 /* ---- Events ---- */
@@ -519,7 +524,7 @@ sctp_assoc_code sctp_assoc_set_high_mark(sctp_assoc *slot, uint16_t stream, size
  * the program: it takes no memory from the heap, and there is nothing to free. It begins with all its bytes 0 and is
  * changed by the watched calls alone. A slot that gets a new association gets a new watch, too.
  *
- * A watched call makes the call whose name it has, answers its code and leaves what that leaves. Make these five in
+ * A watched call makes the call whose name it has, answers its code and leaves what that leaves. Make these six in
  * place of those, all through the life of the association: what goes past the watch isn't counted, and an end that
  * another call brings isn't noted. Only that a read or a stop left the receive buffer exhausted is noted all the same,
  * once sctp_assoc_watched_poll_event gives SCTP_ASSOC_EVENT_LOST. Who wants no watch makes the calls without one, which
@@ -535,6 +540,8 @@ sctp_assoc_code sctp_assoc_set_high_mark(sctp_assoc *slot, uint16_t stream, size
 #define SCTP_ASSOC_END_FAULT 5            /* another fault of the peer: a chunk that breaks the protocol or is not
                                            * processed; an ERROR by SCTP_ASSOC_PROFILE_PORT alone */
 #define SCTP_ASSOC_END_BUFFER_EXHAUSTED 6 /* the receive buffer is full of what can never be read */
+#define SCTP_ASSOC_END_SILENT 7           /* the peer is silent: DATA, or the end of a shutdown, is not answered; by
+                                           * SCTP_ASSOC_PROFILE_RFC alone */
 
 /* 168 bytes. A number that reaches UINT64_MAX stays there. */
 typedef struct sctp_assoc_watch {
@@ -556,6 +563,7 @@ sctp_assoc_code sctp_assoc_watched_handle_datagram(sctp_assoc *slot, sctp_assoc_
                                                    const uint8_t *datagram, size_t length, uint32_t *fate);
 sctp_assoc_code sctp_assoc_watched_poll_transmit(sctp_assoc *slot, sctp_assoc_watch *watch, uint64_t now,
                                                  uint8_t *buffer, size_t room, size_t *length);
+sctp_assoc_code sctp_assoc_watched_handle_timeout(sctp_assoc *slot, sctp_assoc_watch *watch, uint64_t now);
 sctp_assoc_code sctp_assoc_watched_poll_event(sctp_assoc *slot, sctp_assoc_watch *watch, sctp_assoc_event *event);
 sctp_assoc_code sctp_assoc_watched_close(sctp_assoc *slot, sctp_assoc_watch *watch);
 sctp_assoc_code sctp_assoc_watched_abort(sctp_assoc *slot, sctp_assoc_watch *watch, const uint8_t *reason,

@@ -1,7 +1,7 @@
 // A watch, why an association ended, and an observer. The datagrams in hex were spelled apart from this code.
 ghost use Rattle.std.specs.Prelude.{ℕ, List};
 
-use sctp_driver::{Driver, TransportConfig};
+use sctp_driver::{Driver, PayloadProtocolIdentifier, TransportConfig, token};
 use sctp_watch::{
     Direction, End, Observer, Watch, handle_datagram_observed, poll_transmit_observed,
 };
@@ -99,6 +99,26 @@ fn is_end_of(end: &Option<End>, way: Way) -> bool {
     }
 }
 
+// Whether a watch keeps that nobody acknowledged DATA, which went out once.
+fn is_silence_kept(alloc: Global) -> Result<bool, Fail> {
+    let config = TransportConfig::default().with_max_data_retransmits(Some(0));
+    let local = token(alloc, &config, 1, 100)?;
+    let remote = token(alloc, &config, 2, 500)?;
+    let mut driver = Driver::joined(alloc, &config, 1200, &local, &remote)?;
+    wait_in_vain(alloc, &mut driver)
+}
+
+fn wait_in_vain(alloc: Global, driver: &mut Driver) -> Result<bool, Fail> {
+    let mut watch = Watch::new();
+    let mut buffer = Vec::from_elem(alloc, 0, 1228)?;
+    driver.open_stream(1, PayloadProtocolIdentifier::Binary)?;
+    let _ = driver.write(1, None, b"lost")?;
+    let _ = watch.poll_transmit(driver, 0, buffer.as_mut_slice())?;
+    let due = driver.poll_timeout().unwrap_or(0);
+    watch.handle_timeout(driver, due)?;
+    Ok(driver.is_drained() && matches!(watch.end(), Some(End::Silent)))
+}
+
 #[test]
 fn an_observer_and_a_watch_are_told_of_what_passes(rt: HostRuntime) -> Result<(), Fail> {
     assert!(rt; is_observed(rt.alloc())?);
@@ -110,5 +130,11 @@ fn a_watch_keeps_why_an_association_ended(rt: HostRuntime) -> Result<(), Fail> {
     for way in [Way::Closes, Way::Aborts, Way::IsAborted] {
         assert!(rt; is_kept(rt.alloc(), way)?);
     }
+    Ok(())
+}
+
+#[test]
+fn a_watch_keeps_that_a_peer_is_silent(rt: HostRuntime) -> Result<(), Fail> {
+    assert!(rt; is_silence_kept(rt.alloc())?);
     Ok(())
 }

@@ -17,6 +17,7 @@ pub mod Memory
 pub mod Resets
 pub mod Shown
 pub mod Shutdown
+pub mod Silence
 pub mod Skipping
 pub mod Stream
 pub mod Timeouts

@@ -4,12 +4,14 @@ ghost use Rattle.std.specs.Duration.{as_nanos};
 ghost use Rattle.sctp_wire_types.specs.Config.{is_rfc};
 ghost use Rattle.sctp_outbound_queue.specs.Outbound.{outstanding_of};
 ghost use Rattle.sctp_assoc.specs.Closing.{tells_exhaustion};
+ghost use Rattle.sctp_assoc.specs.Silence.{awaits_completion, falls_silent, unanswered_shutdown_acks};
 ghost use Rattle.sctp_outbound.specs.Sender.{cumulative_tsn_ack_point_of, window_left, marks};
 
 use crate::Association;
 use sctp_parts::state::AssociationState;
 use sctp_parts::stats::AssociationStats;
-use sctp_wire_queues::{AssociationError, Event, Profile, Side};
+use sctp_parts::timer::Timer;
+use sctp_wire_queues::{AssociationError, Event, Instant, Profile, Side};
 use std::net::{IpAddr, SocketAddr};
 use std::time::Duration;
 
@@ -186,5 +188,38 @@ impl Association {
         ensures { result ≡ marks self.now.sender tsn }
     {
         self.sender.is_marked(tsn)
+    }
+
+    /// Whether the retransmission timer expires for good by `now`: its retries pass `max_data_retransmits`, so that
+    /// `handle_timeout` stops it and sends no DATA in flight again (RFC 4960 sections 6.3.3 and 8.1). Ask it before
+    /// `handle_timeout`.
+    #[tactic(auto, unfolding(crate::specs::Silence::falls_silent))]
+    pub fn falls_silent(&self, now: Instant) -> bool
+        ensures { result ≡ falls_silent self.now now }
+    {
+        let mut timers = self.timers;
+        timers.is_expired(Timer::T3RTX, now).failed
+    }
+
+    /// How often the timer of the answer to SHUTDOWN ACK expired, with its expiry by `now`; 0 where it does not expire by
+    /// then (RFC 4960 section 9.2). Ask it before `handle_timeout`, which sends the chunk again.
+    #[tactic(auto, unfolding(crate::specs::Silence::unanswered_shutdown_acks))]
+    pub fn unanswered_shutdown_acks(&self, now: Instant) -> usize
+        ensures { result ≡ unanswered_shutdown_acks self.now now }
+    {
+        let mut timers = self.timers;
+        let expiry = timers.is_expired(Timer::T2Shutdown, now);
+        if self.awaits_completion() && expiry.expired {
+            expiry.retries
+        } else {
+            0
+        }
+    }
+
+    // Whether SHUTDOWN ACK waits for its answer.
+    fn awaits_completion(&self) -> bool
+        ensures { result ≡ awaits_completion self.now.state }
+    {
+        matches!(self.state, AssociationState::ShutdownAckSent)
     }
 }

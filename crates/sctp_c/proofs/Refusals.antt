@@ -19,8 +19,8 @@ use Rattle.sctp_driver.specs.Messages.{GivesAt, Reads, index_of}
 use Rattle.sctp_driver.specs.Sending.{Sends, Takes}
 use Rattle.sctp_slots.specs.Codes.{code_of, refusal_code}
 use Rattle.sctp_c.specs.Codes.{answer_in, code_with, read_by, read_code, sent_by, sent_code}
-use Rattle.sctp_assoc.specs.Timeouts.{after_timeouts}
 use Rattle.sctp_driver.specs.Driving.{with_association}
+use Rattle.sctp_driver.specs.Silence.{timed_out}
 use Rattle.sctp_c.specs.Slots.{IsCode, IsCodeOrLacksMemory, IsPlaced, OnHeld}
 
 -- the code of a refusal is not that of a call that was done
@@ -325,14 +325,18 @@ module _ (now : ℕ) {before after : Option Driving} {d o e n : Driving} (is_d :
     (lent : o ≡ d) (left : e ≡ n)
   where
     pub when_timed : (answer : Result Unit Error) {code : ℕ}
-        → OnOk answer (n ≡ with_association o (after_timeouts o.association now)) → code ≡ code_of answer → code ≡ 0
-        → OnHeld before after (λ d e. e ≡ with_association d (after_timeouts d.association now))
+        → OnOk answer (n ≡ with_association o (timed_out o.association o.shutdown_limit now)) → code ≡ code_of answer
+        → code ≡ 0
+        → OnHeld before after (λ d e. e ≡ with_association d (timed_out d.association d.shutdown_limit now))
     when_timed answer holds same done =
         subst
-        (λ (b : Option Driving). OnHeld b after (λ d e. e ≡ with_association d (after_timeouts d.association now)))
+        (λ (b : Option Driving). OnHeld b after
+        (λ d e. e ≡ with_association d (timed_out d.association d.shutdown_limit now)))
         (sym is_d)
         (subst (λ (a : Option Driving). OnHeld (Some d) a
-        (λ d e. e ≡ with_association d (after_timeouts d.association now)))
+        (λ d e. e ≡ with_association d (timed_out d.association d.shutdown_limit now)))
         (sym is_e)
-        (left ∙ subst (λ (b : Driving). n ≡ with_association b (after_timeouts b.association now)) lent
-        (when_done answer (n ≡ with_association o (after_timeouts o.association now)) holds (sym same ∙ done))))
+        (left ∙ subst
+        (λ (b : Driving). n ≡ with_association b (timed_out b.association b.shutdown_limit now)) lent
+        (when_done answer (n ≡ with_association o (timed_out o.association o.shutdown_limit now)) holds
+        (sym same ∙ done))))

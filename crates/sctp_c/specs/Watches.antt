@@ -14,6 +14,7 @@ end_number ends.ShutDown = 3
 end_number (ends.AbortCame cause) = 4
 end_number ends.Fault = 5
 end_number ends.BufferExhausted = 6
+end_number ends.Silent = 7
 
 -- the cause of the peer's ABORT; the code 0 without a reason for any other end
 abbrev pub cause_in : End → Cause

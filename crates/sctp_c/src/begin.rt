@@ -58,7 +58,8 @@ pub extern "C" fn sctp_assoc_client(
         (timeout_refusal (settings_of config.now)) (create_refusal max_payload_size identity.now.initial_tsn)) result }
     ensures created { result ≡ 0 → IsSomeAnd slot.new.handle.driver (λ d. d ≡ begun_with
         (client (by_rfcs (settings_of config.now)) max_payload_size identity.now.tag identity.now.initial_tsn
-        identity.now.cookie d.association.remote_addr None now) identity.now.tag) }
+        identity.now.cookie d.association.remote_addr None now) identity.now.tag
+        (settings_of config.now).max_init_retransmits) }
     ensures left { result ≢ 0 → slot.new.handle.driver ≡ slot.old.handle.driver }
 {
     if !config.names_profile() {
@@ -92,7 +93,8 @@ pub extern "C" fn sctp_assoc_server(
         (timeout_refusal (settings_of config.now)) (create_refusal max_payload_size identity.now.initial_tsn)) result }
     ensures created { result ≡ 0 → IsSomeAnd slot.new.handle.driver (λ d. d ≡ begun_with
         (server (by_rfcs (settings_of config.now)) max_payload_size identity.now.tag identity.now.initial_tsn
-        identity.now.cookie d.association.remote_addr None) identity.now.tag) }
+        identity.now.cookie d.association.remote_addr None) identity.now.tag
+        (settings_of config.now).max_init_retransmits) }
     ensures left { result ≢ 0 → slot.new.handle.driver ≡ slot.old.handle.driver }
 {
     if !config.names_profile() {
@@ -122,7 +124,8 @@ fn by_tokens(
         ⊎ Refuses result (first_refusal (timeout_refusal (settings_of config.now))
         (join_refusal max_payload_size (token_chunk local.now) (token_chunk remote.now))) }
     ensures joined { IfOk result (λ d. d ≡ begun_with (joined (by_rfcs (settings_of config.now)) max_payload_size
-        d.association.remote_addr None (token_chunk local.now) (token_chunk remote.now)) local.now.tag) }
+        d.association.remote_addr None (token_chunk local.now) (token_chunk remote.now)) local.now.tag
+        (settings_of config.now).max_init_retransmits) }
 {
     let local_init = local.chunk(alloc)?;
     let remote_init = remote.chunk(alloc)?;
@@ -152,7 +155,8 @@ pub extern "C" fn sctp_assoc_joined(
         (join_refusal max_payload_size (token_chunk local.now) (token_chunk remote.now))) result }
     ensures created { result ≡ 0 → IsSomeAnd slot.new.handle.driver (λ d. d ≡ begun_with
         (joined (by_rfcs (settings_of config.now)) max_payload_size d.association.remote_addr None
-        (token_chunk local.now) (token_chunk remote.now)) local.now.tag) }
+        (token_chunk local.now) (token_chunk remote.now)) local.now.tag
+        (settings_of config.now).max_init_retransmits) }
     ensures left { result ≢ 0 → slot.new.handle.driver ≡ slot.old.handle.driver }
 {
     if !config.names_profile() {

@@ -1,11 +1,11 @@
 // Datagrams and moments.
 ghost use Rattle.std.specs.Prelude.{◌≡◌, ◌≢◌, ◌⊎◌, None, IfSome};
 ghost use Rattle.sctp_parts.specs.Timers.{least_moment};
-ghost use Rattle.sctp_assoc.specs.Timeouts.{after_timeouts};
 ghost use Rattle.sctp_driver.specs.declared.tags.DatagramAnswer.TheVariants as fates;
 ghost use Rattle.sctp_driver.specs.Driving.{RunsOutOfMemory, with_association};
 ghost use Rattle.sctp_driver.specs.Sending.{Sends, asked};
 ghost use Rattle.sctp_driver.specs.Late.{with_datagram};
+ghost use Rattle.sctp_driver.specs.Silence.{timed_out};
 ghost use Rattle.sctp_driver.specs.Tags.{answer_to};
 ghost use Rattle.sctp_slots.specs.Codes.{code_of};
 ghost use Rattle.sctp_c.specs.Codes.{answer_in, fate_of, code_with, found_by, received_by};
@@ -142,7 +142,7 @@ pub extern "C" fn sctp_assoc_poll_timeout(slot: &mut Slot, alloc: Global, moment
 #[tactic(auto, using(crate::proofs::Refusals::when_done, crate::proofs::Refusals::when_failed, crate::proofs::Refusals::when_memory))]
 pub extern "C" fn sctp_assoc_handle_timeout(slot: &mut Slot, alloc: Global, now: u64) -> u32
     ensures done { result ≡ 0 → OnHeld slot.old.handle.driver slot.new.handle.driver
-        (λ d e. e ≡ with_association d (after_timeouts d.association now)) }
+        (λ d e. e ≡ with_association d (timed_out d.association d.shutdown_limit now)) }
     ensures empty { slot.old.handle.driver ≡ None → (result ≡ 1) × (slot.new.handle.driver ≡ None) }
     ensures refused { result ≡ 10 → slot.new.handle.driver ≡ slot.old.handle.driver }
     ensures memory { result ≡ 2 → OnHeld slot.old.handle.driver slot.new.handle.driver (λ d e. RunsOutOfMemory d e) }

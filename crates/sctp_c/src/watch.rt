@@ -35,6 +35,8 @@ const FAULT: u32 = 5;
 
 const BUFFER_EXHAUSTED: u32 = 6;
 
+const SILENT: u32 = 7;
+
 fn end_number(end: &End) -> u32
     ensures { result ≡ end_number end.now }
 {
@@ -45,6 +47,7 @@ fn end_number(end: &End) -> u32
         End::AbortCame(_) => ABORT_CAME,
         End::Fault => FAULT,
         End::BufferExhausted => BUFFER_EXHAUSTED,
+        End::Silent => SILENT,
     }
 }
 

@@ -33,12 +33,12 @@ made of remote_addr now =
 module _ (of : Making) (remote_addr : SocketAddr) {a : Shown} {m now : ℕ} (is_made : a ≡ made of remote_addr m)
     (moment : m ≡ now)
   where
-    pub made_driver : {d : Driving} → d ≡ begun_with a of.tag
-        → d ≡ begun_with (made of d.association.remote_addr now) of.tag
+    pub made_driver : {d : Driving} → d ≡ begun_with a of.tag of.config.max_init_retransmits
+        → d ≡ begun_with (made of d.association.remote_addr now) of.tag of.config.max_init_retransmits
     made_driver {d} is =
         let same : a ≡ made of remote_addr now = is_made ∙ ap (made of remote_addr) moment in
         let there : d.association.remote_addr ≡ remote_addr =
         ap (λ (x : Driving). x.association.remote_addr) is ∙ ap (λ (x : Shown). x.remote_addr) same
         ∙ addressed of.of_server of.config of.size of.tag of.initial_tsn of.cookie remote_addr now in
-        is ∙ ap (λ x. begun_with x of.tag) same
-        ∙ ap (λ x. begun_with (made of x now) of.tag) (sym there)
+        is ∙ ap (λ x. begun_with x of.tag of.config.max_init_retransmits) same
+        ∙ ap (λ x. begun_with (made of x now) of.tag of.config.max_init_retransmits) (sym there)

@@ -19,6 +19,8 @@ pub record Driving : Type 0 where
   pub association : Shown
   -- this side's verification tag
   pub own_tag : ℕ
+  -- how often SHUTDOWN, or SHUTDOWN ACK, goes out again before the association ends; None is no limit
+  pub shutdown_limit : Option ℕ
   -- the datagrams that wait to go out, oldest first
   pub waiting : List (List ℕ)
   -- the messages that wait for a buffer that is long enough, oldest first; of each stream at most the next one
@@ -41,8 +43,8 @@ abbrev pub with_association : Driving → Shown → Driving
 with_association d a = record d { association = a }
 
 -- a driver before its first call: nothing waits at it
-abbrev pub begun_with : Shown → ℕ → Driving
-begun_with a tag = record { association = a; own_tag = tag; waiting = []; kept = [] }
+abbrev pub begun_with : Shown → ℕ → Option ℕ → Driving
+begun_with a tag limit = record { association = a; own_tag = tag; shutdown_limit = limit; waiting = []; kept = [] }
 
 -- the association found no memory in the middle of the call and failed, and nothing else changed
 abbrev pub RunsOutOfMemory : Driving → Driving → Type 0

@@ -4,5 +4,6 @@ pub mod Late
 pub mod Messages
 pub mod Paths
 pub mod Sending
+pub mod Silence
 pub mod Streams
 pub mod Tags

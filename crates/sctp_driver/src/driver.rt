@@ -12,15 +12,15 @@ ghost use Rattle.sctp_assoc.specs.Created.{client, create_refusal, created, join
 ghost use Rattle.sctp_assoc.specs.Gather.{has_something_to_give};
 ghost use Rattle.sctp_assoc.specs.Inbound.{taken_packet};
 ghost use Rattle.sctp_assoc.specs.Shutdown.{endpoint_event_polled, shutdown_begun, shutdown_refusal};
-ghost use Rattle.sctp_assoc.specs.Timeouts.{after_timeouts, timeouts_take_memory};
 ghost use Rattle.sctp_driver.specs.Driving.{RunsOutOfMemory, begun_with, by_rfcs, timeout_refusal, with_association};
 ghost use Rattle.sctp_driver.specs.Late.{with_datagram};
 ghost use Rattle.sctp_driver.specs.Sending.{Sends, asked};
+ghost use Rattle.sctp_driver.specs.Silence.{timed_out, timing_out_takes_memory};
 ghost use Rattle.sctp_driver.specs.Tags.{answer_to, begins, judged_packet};
 
-use crate::lending;
 use crate::messages::Kept;
 use crate::sending::{PollAnswer, packets_in, take_first};
+use crate::silence::time_out;
 use crate::tags::{DatagramAnswer, first_chunk, judge};
 use bytes::Bytes;
 use sctp_assoc::{
@@ -42,6 +42,7 @@ pub struct Driver {
     pub(crate) alloc: Global,
     pub(crate) association: Association,
     own_tag: u32,
+    shutdown_limit: Option<usize>,
     pub(crate) waiting: VecDeque<Bytes>,
     pub(crate) kept: VecDeque<Kept>,
 }
@@ -53,6 +54,7 @@ impl Drop for Driver {
             alloc: _alloc,
             association: _association,
             own_tag: _own_tag,
+            shutdown_limit: _shutdown_limit,
             waiting: _waiting,
             kept: _kept,
         } = self;
@@ -67,6 +69,7 @@ impl Model for Driver {
     ghost view = { λ d. record {
       association = d.association;
       own_tag = d.own_tag;
+      shutdown_limit = d.shutdown_limit;
       waiting = d.waiting.items;
       kept = d.kept.items;
     } };
@@ -95,7 +98,7 @@ impl Driver {
         ensures refused { RefusesOrLacksMemory result
             (first_refusal (timeout_refusal config.now) (create_refusal max_payload_size initial_tsn)) }
         ensures created { IfOk result (λ d. d ≡ begun_with (client (by_rfcs config.now) max_payload_size local_tag
-            initial_tsn cookie d.association.remote_addr None now) local_tag) }
+            initial_tsn cookie d.association.remote_addr None now) local_tag config.now.max_init_retransmits) }
     {
         Driver::made(
             alloc,
@@ -123,7 +126,7 @@ impl Driver {
         ensures refused { RefusesOrLacksMemory result
             (first_refusal (timeout_refusal config.now) (create_refusal max_payload_size initial_tsn)) }
         ensures created { IfOk result (λ d. d ≡ begun_with (server (by_rfcs config.now) max_payload_size local_tag
-            initial_tsn cookie d.association.remote_addr None) local_tag) }
+            initial_tsn cookie d.association.remote_addr None) local_tag config.now.max_init_retransmits) }
     {
         let of_server = ServerConfig::default();
         Driver::made(
@@ -153,7 +156,7 @@ impl Driver {
             (first_refusal (timeout_refusal config.now) (create_refusal max_payload_size initial_tsn)) }
         ensures created { IfOk result (λ d. d ≡ begun_with (created (option_copied server_config.entry)
             (by_rfcs config.now) max_payload_size local_tag initial_tsn cookie d.association.remote_addr None now)
-            local_tag) }
+            local_tag config.now.max_init_retransmits) }
     {
         let config = driven(config)?;
         let association = Association::new(
@@ -168,7 +171,7 @@ impl Driver {
             None,
             Instant::from_nanos(now),
         )?;
-        Ok(Driver::of(alloc, association, local_tag))
+        Ok(Driver::of(alloc, association, local_tag, config.max_init_retransmits()))
     }
 
     /// Makes a side that is established at once, by the two sides' INIT chunks (tokens), which were exchanged in
@@ -186,7 +189,8 @@ impl Driver {
         ensures refused { RefusesOrLacksMemory result (first_refusal (timeout_refusal config.now)
             (join_refusal max_payload_size local_token.now remote_token.now)) }
         ensures joined { IfOk result (λ d. d ≡ begun_with (joined (by_rfcs config.now) max_payload_size
-            d.association.remote_addr None local_token.now remote_token.now) local_token.now.initiate_tag) }
+            d.association.remote_addr None local_token.now remote_token.now) local_token.now.initiate_tag
+            config.now.max_init_retransmits) }
     {
         let config = driven(config)?;
         let association = Association::new_with_out_of_band_init(
@@ -198,16 +202,27 @@ impl Driver {
             local_token,
             remote_token,
         )?;
-        Ok(Driver::of(alloc, association, local_token.initiate_tag))
+        Ok(Driver::of(
+            alloc,
+            association,
+            local_token.initiate_tag,
+            config.max_init_retransmits(),
+        ))
     }
 
-    fn of(alloc: Global, association: Association, own_tag: u32) -> Driver
-        ensures { result ≡ begun_with association own_tag }
+    fn of(
+        alloc: Global,
+        association: Association,
+        own_tag: u32,
+        shutdown_limit: Option<usize>,
+    ) -> Driver
+        ensures { result ≡ begun_with association own_tag shutdown_limit }
     {
         Driver {
             alloc,
             association,
             own_tag,
+            shutdown_limit,
             waiting: VecDeque::new(alloc),
             kept: VecDeque::new(alloc),
         }
@@ -339,19 +354,24 @@ impl Driver {
     /// Does what the timers that expired by `now`, in nanoseconds, ask for, and nothing where none did (RFC 4960
     /// sections 5.1, 6.2, 6.3.3 and 9.2). `poll_transmit` gives the packets.
     ///
+    /// By the rules of the RFCs a peer that is silent for good ends the association (sections 8.1 and 9.2): where DATA
+    /// went out again `max_data_retransmits` times in a row and is not acknowledged, or a SHUTDOWN ACK
+    /// `max_init_retransmits` times and is not answered, it closes, as by `close`, in place of what the timers ask for.
+    ///
     /// Errors: `ErrAssociationFailed`, with nothing changed, and `ErrNoMemory` only where INIT or COOKIE ECHO is to go
-    /// out again or a request to reset streams is given up, after which the association is failed.
+    /// out again, a request to reset streams is given up or the association is to close, after which the association
+    /// is failed.
     pub fn handle_timeout(&mut self, now: u64) -> Result<(), Error>
         ensures ok { OnOk result
-            (self.new ≡ with_association self.old (after_timeouts self.old.association now)) }
+            (self.new ≡ with_association self.old (timed_out self.old.association self.old.shutdown_limit now)) }
         ensures failed { IsErrOf result Error.ErrAssociationFailed ↔ (self.old.association.failed ≡ true) }
         ensures refused { IsErrOf result Error.ErrAssociationFailed → self.new ≡ self.old }
         ensures memory { IsErrOf result Error.ErrNoMemory → RunsOutOfMemory self.old self.new }
         ensures again { IsErrOf result Error.ErrNoMemory
-            → timeouts_take_memory self.old.association now ≡ true }
+            → timing_out_takes_memory self.old.association self.old.shutdown_limit now ≡ true }
         ensures only { OnErr result ((result ≡ Err Error.ErrAssociationFailed) ⊎ (result ≡ Err Error.ErrNoMemory)) }
     {
-        lending::meet_timers(&mut self.association, now)
+        time_out(&mut self.association, self.shutdown_limit, now)
     }
 
     /// Takes out the oldest event; None where none waits. Its one error is `ErrAssociationFailed`, with nothing
@@ -379,7 +399,8 @@ impl Driver {
     /// stops are refused. What was accepted is still sent, and messages of the peer still come; go on with datagrams,
     /// moments and events. Once all DATA of both sides is acknowledged the association closes, as by `close`, and the
     /// peer's does; `Event::AssociationLost` tells it, for the reason `AssociationClosed`. Read what comes before that,
-    /// as the end of a stream takes unread messages with it. A peer that is gone is waited for without a limit of time.
+    /// as the end of a stream takes unread messages with it. Where the peer is gone `handle_timeout` ends it by the
+    /// rules of the RFCs; by those of the port the peer is waited for without a limit of time.
     ///
     /// Refused, in this order with nothing changed: `ErrAssociationFailed`; `ErrShutdownNonEstablished` in any state
     /// but Established, so also where the peer began a shutdown. Takes no memory.

@@ -14,6 +14,8 @@
 //!    step 3.
 //! 6. Sleep until the moment that `poll_timeout` answers, or until a datagram comes.
 //!
+//! A peer that is silent for good ends the association, too, by the rules of the RFCs: `handle_timeout` closes it then.
+//!
 //! A stream ends when either side stops or closes it (`stop`, `close_stream`). Both sides are told, and can then open
 //! it anew.
 //!
@@ -33,6 +35,7 @@ mod messages;
 mod paths;
 mod readers;
 mod sending;
+mod silence;
 mod streams;
 mod tags;
 

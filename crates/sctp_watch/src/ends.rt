@@ -73,6 +73,9 @@ pub enum End {
     Fault,
     /// What waited in the receive buffer left no room, and none of it could be read.
     BufferExhausted,
+    /// The peer is silent for good: DATA went out again as often as it may and was not acknowledged, or so did SHUTDOWN
+    /// or SHUTDOWN ACK without an answer (RFC 4960 sections 8.1 and 9.2).
+    Silent,
 }
 
 // The first bytes of a cause's value, and zeros.

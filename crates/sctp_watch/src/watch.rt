@@ -8,6 +8,7 @@ ghost use Rattle.sctp_driver.specs.Aborting.{Aborts, IsTooLong};
 ghost use Rattle.sctp_driver.specs.Driving.{RunsOutOfMemory, with_association};
 ghost use Rattle.sctp_driver.specs.Sending.{Sends, asked};
 ghost use Rattle.sctp_driver.specs.Late.{with_datagram};
+ghost use Rattle.sctp_driver.specs.Silence.{timed_out, timing_out_takes_memory};
 ghost use Rattle.sctp_driver.specs.Tags.{answer_to, packet_in};
 ghost use Rattle.sctp_streams.specs.declared.event.AssociationError.TheVariants as reasons;
 ghost use Rattle.sctp_driver.specs.declared.tags.DatagramAnswer.TheVariants as fates;
@@ -127,6 +128,25 @@ impl Watch {
         let answer = driver.poll_transmit(now, buffer);
         self.traffic.count_poll(&answer);
         self.end_with(!was_drained && driver.is_drained(), End::ShutDown);
+        answer
+    }
+
+    /// As `Driver::handle_timeout`. An association that it closes ended since its peer is silent.
+    pub fn handle_timeout(&mut self, driver: &mut Driver, now: u64) -> Result<(), Error>
+        ensures traffic { self.new.traffic ≡ self.old.traffic }
+        ensures end { self.new.end ≡ end_after driver.old driver.new ends.Silent self.old.end }
+        ensures ok { OnOk result (driver.new ≡ with_association driver.old
+            (timed_out driver.old.association driver.old.shutdown_limit now)) }
+        ensures failed { IsErrOf result Error.ErrAssociationFailed ↔ (driver.old.association.failed ≡ true) }
+        ensures refused { IsErrOf result Error.ErrAssociationFailed → driver.new ≡ driver.old }
+        ensures memory { IsErrOf result Error.ErrNoMemory → RunsOutOfMemory driver.old driver.new }
+        ensures again { IsErrOf result Error.ErrNoMemory
+            → timing_out_takes_memory driver.old.association driver.old.shutdown_limit now ≡ true }
+        ensures only { OnErr result ((result ≡ Err Error.ErrAssociationFailed) ⊎ (result ≡ Err Error.ErrNoMemory)) }
+    {
+        let was_drained = driver.is_drained();
+        let answer = driver.handle_timeout(now);
+        self.end_with(!was_drained && driver.is_drained(), End::Silent);
         answer
     }
 

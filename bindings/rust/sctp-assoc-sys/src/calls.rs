@@ -189,6 +189,12 @@ extern "C" {
         room: usize,
         length: *mut usize,
     ) -> sctp_assoc_code;
+    /// [`sctp_assoc_handle_timeout`], which the watch notes.
+    pub fn sctp_assoc_watched_handle_timeout(
+        slot: *mut sctp_assoc,
+        watch: *mut sctp_assoc_watch,
+        now: u64,
+    ) -> sctp_assoc_code;
     /// [`sctp_assoc_poll_event`], by which the watch notes that a read or a stop left the receive buffer exhausted.
     pub fn sctp_assoc_watched_poll_event(
         slot: *mut sctp_assoc,

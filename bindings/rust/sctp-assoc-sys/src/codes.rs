@@ -125,6 +125,8 @@ pub const SCTP_ASSOC_END_ABORT_CAME: u32 = 4;
 pub const SCTP_ASSOC_END_FAULT: u32 = 5;
 /// The receive buffer is full of what can never be read.
 pub const SCTP_ASSOC_END_BUFFER_EXHAUSTED: u32 = 6;
+/// The peer is silent: DATA, or the end of a shutdown, is not answered.
+pub const SCTP_ASSOC_END_SILENT: u32 = 7;
 
 /// None of the payload protocol identifiers with a name (RFC 8831 section 8).
 pub const SCTP_ASSOC_PPID_UNKNOWN: u32 = 0;

@@ -143,7 +143,9 @@ impl Association {
         self.began.checked_add(Duration::from_nanos(self.slot.poll_timeout()?))
     }
 
-    /// Does what the timers that expired by `now` ask for, and nothing if none did.
+    /// Does what the timers that expired by `now` ask for, and nothing if none did. By
+    /// [`Profile::Rfc`](crate::Profile::Rfc) a peer that is silent for good ends the association here:
+    /// [`Event::Lost`] tells it, and [`end`](Association::end) says [`End::Silent`](crate::End::Silent).
     ///
     /// Errors: `Failed`; `NoMemory`: the association failed.
     pub fn handle_timeout(&mut self, now: Instant) -> Result<(), Error> {
@@ -170,8 +172,10 @@ impl Association {
     /// comes at once: unread messages are gone then. The loop is over once [`is_drained`](Association::is_drained) says
     /// so and `poll_transmit` gives None.
     ///
-    /// A peer that is gone is waited for without a limit of time, and a side that closed answers nothing any more, even
-    /// if the last datagram that it sent is lost. So wait for a bounded time, and [`close`](Association::close) then.
+    /// A peer that is gone is waited for until SHUTDOWN went out again as often as
+    /// [`max_init_retransmits`](crate::Config::max_init_retransmits) says, which takes minutes; by
+    /// [`Profile::Port`](crate::Profile::Port) without a limit. A side that closed may answer nothing any more, even if
+    /// the last datagram that it sent is lost. So wait for a bounded time, and [`close`](Association::close) then.
     ///
     /// Errors: `Failed`; `ShutdownNotEstablished`, also if either side has begun a shutdown.
     pub fn shutdown(&mut self) -> Result<(), Error> {

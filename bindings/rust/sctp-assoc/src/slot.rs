@@ -122,8 +122,9 @@ impl Slot {
     }
 
     pub(crate) fn handle_timeout(&mut self, now: u64) -> Result<(), Error> {
+        let (slot, watch) = self.watched();
         // SAFETY: as the file's head says.
-        done(unsafe { sys::sctp_assoc_handle_timeout(self.raw.get(), now) })
+        done(unsafe { sys::sctp_assoc_watched_handle_timeout(slot, watch, now) })
     }
 
     pub(crate) fn poll_event(&mut self) -> Result<Option<sys::sctp_assoc_event>, Error> {

@@ -61,6 +61,11 @@ pub enum End {
     /// The receive buffer is full of what can never be read. If a read or a stop left it so, this is told from
     /// [`Event::Lost`](crate::Event::Lost) on.
     BufferExhausted,
+    /// The peer is silent: DATA went out again as often as
+    /// [`max_data_retransmits`](crate::Config::max_data_retransmits) says and is not acknowledged, or SHUTDOWN ACK as
+    /// often as [`max_init_retransmits`](crate::Config::max_init_retransmits) says and is not answered.
+    /// By [`Profile::Rfc`](crate::Profile::Rfc) alone.
+    Silent,
 }
 
 /// The first cause of an ABORT that came (RFC 4960 section 3.3.10).
@@ -121,6 +126,7 @@ impl End {
                 End::AbortCame(Cause { code: watch.cause, reason: watch.reason, length: watch.reason_length })
             }
             sys::SCTP_ASSOC_END_BUFFER_EXHAUSTED => End::BufferExhausted,
+            sys::SCTP_ASSOC_END_SILENT => End::Silent,
             _ => End::Fault,
         })
     }

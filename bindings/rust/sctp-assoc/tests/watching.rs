@@ -1,7 +1,9 @@
 //! What passed through an association, why it ended at either side, and what an observer is told.
 mod support;
 
-use sctp_assoc::{Association, Config, Direction, End, Error, Event, Fate, PayloadType, Reason, Traffic};
+use sctp_assoc::{
+    Association, Config, Direction, End, Error, Event, Fate, PayloadType, Profile, Reason, Traffic, MAX_DATAGRAM,
+};
 use std::sync::{Arc, Mutex};
 use std::time::Duration;
 use support::{pass_on, Link};
@@ -109,6 +111,30 @@ fn a_receive_buffer_that_is_exhausted_is_told() -> Result<(), Error> {
     assert_eq!(link.ends[1].end(), Some(End::BufferExhausted));
     while link.ends[1].poll_event()?.is_some() {}
     assert_eq!(link.ends[1].end(), Some(End::BufferExhausted));
+    Ok(())
+}
+
+/// By the port's rules nothing is told of it.
+#[test]
+fn a_silent_peer_is_told() -> Result<(), Error> {
+    for profile in [Profile::Rfc, Profile::Port] {
+        let mut config = Config::default();
+        config.profile = profile;
+        config.max_data_retransmits = Some(2);
+        let mut link = Link::established(&config)?;
+        let (mut now, mut datagram) = (link.now, [0; MAX_DATAGRAM]);
+        let end = &mut link.ends[0];
+        end.open_stream(1, PayloadType::Binary)?.write(&[7; 100])?;
+        for _ in 0..3 {
+            assert_eq!(end.end(), None);
+            while end.poll_transmit(now, &mut datagram)?.is_some() {}
+            now = end.poll_timeout().expect("DATA is timed");
+            end.handle_timeout(now)?;
+        }
+        assert_eq!(end.end(), (profile == Profile::Rfc).then_some(End::Silent));
+        assert_eq!(end.poll_timeout(), None);
+        assert_eq!(is_lost(end)?, profile == Profile::Rfc);
+    }
     Ok(())
 }
 

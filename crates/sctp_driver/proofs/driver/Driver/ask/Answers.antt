@@ -22,6 +22,7 @@ returns-in_err-given-clause-failed c =
     failing_given (record {
       association = c.self.inside.association;
       own_tag = c.self.inside.own_tag;
+      shutdown_limit = c.self.inside.shutdown_limit;
       waiting = c.self.inside.waiting.items;
       kept = c.self.inside.kept.items;
     }) c.args.self.now errors.ErrAssociationFailed c.self.view_is none c.in_err-given.ensures.failed.0
@@ -32,6 +33,7 @@ returns-clause-ok c =
     let d : Driving = record {
       association = c.self.inside.association;
       own_tag = c.self.inside.own_tag;
+      shutdown_limit = c.self.inside.shutdown_limit;
       waiting = c.self.inside.waiting.items;
       kept = c.self.inside.kept.items;
     } in

@@ -10,6 +10,7 @@ returns-in_err-close_stream-clause-unchanged c =
     rw (← c.self.view_is) (unchanged_beside (refusal_to_stop c.self.inside.association c.args.id) (record {
       association = c.self.inside.association;
       own_tag = c.self.inside.own_tag;
+      shutdown_limit = c.self.inside.shutdown_limit;
       waiting = c.self.inside.waiting.items;
       kept = c.self.inside.kept.items;
     }) c.close_stream.new.association c.close_stream.ensures.unchanged)
@@ -19,6 +20,7 @@ returns-clause-ok c =
     let before : Driving = record {
       association = c.self.inside.association;
       own_tag = c.self.inside.own_tag;
+      shutdown_limit = c.self.inside.shutdown_limit;
       waiting = c.self.inside.waiting.items;
       kept = c.self.inside.kept.items;
     } in

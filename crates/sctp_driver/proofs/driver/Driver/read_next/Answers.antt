@@ -9,6 +9,7 @@ returns-in-Some-clause-ok c =
     let d : Driving = record {
       association = c.self.inside.association;
       own_tag = c.self.inside.own_tag;
+      shutdown_limit = c.self.inside.shutdown_limit;
       waiting = c.self.inside.waiting.items;
       kept = c.self.inside.kept.items;
     } in

@@ -11,6 +11,7 @@ returns-in_err-stop-clause-unchanged c =
     rw (← c.self.view_is) (unchanged_beside (refusal_to_stop c.self.inside.association c.args.id) (record {
       association = c.self.inside.association;
       own_tag = c.self.inside.own_tag;
+      shutdown_limit = c.self.inside.shutdown_limit;
       waiting = c.self.inside.waiting.items;
       kept = c.self.inside.kept.items;
     }) c.stop.new.association c.stop.ensures.unchanged)
@@ -20,6 +21,7 @@ returns-clause-ok c =
     let before : Driving = record {
       association = c.self.inside.association;
       own_tag = c.self.inside.own_tag;
+      shutdown_limit = c.self.inside.shutdown_limit;
       waiting = c.self.inside.waiting.items;
       kept = c.self.inside.kept.items;
     } in
