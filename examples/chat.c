@@ -1,20 +1,22 @@
 /*
  * A chat by a data channel (RFC 8831, RFC 8832) between two UDP sockets of this machine (RFC 6951): each line of the
  * standard input goes as a text, and each text that comes is printed. One side waits, the other connects and opens the
- * channel. The end of either side's input ends the chat at both, once all that was said was sent and acknowledged.
- * docs/GUIDE.md explains the calls.
+ * channel. The end of either side's input, or Ctrl-C, ends the chat at both, once all that was said was sent and
+ * acknowledged; a second Ctrl-C ends the program at once. docs/GUIDE.md explains the calls.
  *
  *   ./library channels            builds the archive, once; a release has it in lib/, not in out/
  *   cc -O2 -Iinclude -o chat examples/chat.c out/libsctp_channels.a
  *   ./chat serve                  takes a free port, and prints which
  *   ./chat connect 9899
  */
-#define _DEFAULT_SOURCE
+#define _GNU_SOURCE
 #include "sctp_channels.h"
 
 #include <arpa/inet.h>
+#include <err.h>
 #include <errno.h>
 #include <poll.h>
+#include <signal.h>
 #include <stdio.h>
 #include <stdlib.h>
 #include <string.h>
@@ -35,16 +37,13 @@ static bool is_client, is_up, is_open, is_ending;
 static uint64_t end_until; /* where it is ending */
 static int udp;
 static struct sockaddr_in peer; /* of a server, once a client came */
-
-static void stop(const char *why, unsigned number) {
-    fprintf(stderr, "chat: %s %u\n", why, number);
-    exit(1);
-}
+static volatile sig_atomic_t is_interrupted;
+static sigset_t while_waiting; /* the signals that are blocked then: not that of Ctrl-C */
 
 /* Ends the program at a code that it does not go on with. Answers whether the call was done. */
 static bool done(sctp_assoc_code code) {
     if (code != SCTP_ASSOC_DONE && code != SCTP_ASSOC_NOTHING)
-        stop("a call answered the code", code);
+        errx(1, "a call answered %s", sctp_channels_code_name(code));
     return code == SCTP_ASSOC_DONE;
 }
 
@@ -75,7 +74,7 @@ static void print_all(uint16_t id) {
     while ((code = sctp_channels_receive(&channels, &assoc, id, text, sizeof text, &length, &is_text)) ==
                SCTP_CHANNELS_OTHER || done(code))
         if (fwrite(text, 1, length, stdout) != length || putchar('\n') == EOF)
-            stop("no output: errno", (unsigned)errno);
+            err(1, "no output");
     fflush(stdout);
 }
 
@@ -105,9 +104,9 @@ static void on_event(const sctp_channels_event *event) {
     if (event->kind == SCTP_CHANNELS_EVENT_CONNECTED)
         is_up = true;
     else if (event->kind == SCTP_CHANNELS_EVENT_HANDSHAKE_FAILED)
-        stop("nobody answered for the reason", event->reason);
+        errx(1, "nobody answered: %s", sctp_assoc_reason_name(event->reason));
     else if (event->kind == SCTP_CHANNELS_EVENT_FAILED && is_client)
-        stop("no channel was begun on the stream", event->id);
+        errx(1, "no channel was begun on the stream %u", event->id);
     else if (event->kind == SCTP_CHANNELS_EVENT_OPENED || event->kind == SCTP_CHANNELS_EVENT_ANNOUNCED)
         take_channel(event->id);
     else if (event->kind == SCTP_CHANNELS_EVENT_MESSAGE)
@@ -170,7 +169,7 @@ static void take_input(void) {
     uint8_t *line_end;
     ssize_t came = read(STDIN_FILENO, text + length, sizeof text - length);
     if (came < 0)
-        stop("no input: errno", (unsigned)errno);
+        err(1, "no input");
     length += (size_t)came;
     while ((line_end = memchr(text, '\n', length))) {
         say(text, (size_t)(line_end - text));
@@ -178,7 +177,7 @@ static void take_input(void) {
         memmove(text, line_end + 1, length);
     }
     if (length == sizeof text)
-        stop("a line has more bytes than", MAX_TEXT);
+        errx(1, "a line has more bytes than %d", MAX_TEXT);
     if (came > 0)
         return;
     if (length > 0)
@@ -193,15 +192,29 @@ static bool wants_input(void) {
            buffered < MAX_BUFFERED;
 }
 
-/* Until a datagram or input comes, or a timer expires. Takes the input. */
+/* The next moment at which a timer expires, or the end has to be; UINT64_MAX if there is none. */
+static uint64_t next_due(void) {
+    uint64_t next = is_ending ? end_until : UINT64_MAX, due;
+    return done(sctp_assoc_poll_timeout(&assoc, &due)) && due < next ? due : next;
+}
+
+/* Until a datagram or input comes, a timer expires, or Ctrl-C. Takes the input. */
 static void wait_for_any(void) {
-    uint64_t due, at = now();
-    bool is_timed = done(sctp_assoc_poll_timeout(&assoc, &due));
-    int timeout_ms = !is_timed ? -1 : due > at ? (int)((due - at + 999999) / 1000000) : 0;
+    uint64_t due = next_due(), at = now(), left = due > at ? due - at : 0;
+    struct timespec limit = {.tv_sec = (time_t)(left / SECOND), .tv_nsec = (long)(left % SECOND)};
     int input = wants_input() ? STDIN_FILENO : -1;
     struct pollfd ready[] = {{.fd = udp, .events = POLLIN}, {.fd = input, .events = POLLIN}};
-    if (poll(ready, 2, timeout_ms) > 0 && ready[1].revents)
+    if (ppoll(ready, 2, due == UINT64_MAX ? NULL : &limit, &while_waiting) > 0 && ready[1].revents)
         take_input();
+}
+
+/* Ctrl-C ends the chat as the end of the input does. */
+static void meet_interrupt(void) {
+    if (!is_interrupted || is_ending)
+        return;
+    if (!is_up)
+        errx(1, "Ctrl-C before anybody came");
+    end();
 }
 
 static void meet_timer(void) {
@@ -215,8 +228,33 @@ static bool goes_on(void) {
     bool is_over = false;
     done(sctp_assoc_is_drained(&assoc, &is_over));
     if (is_ending && !is_over && now() > end_until)
-        stop("the end was not answered within seconds:", END_WITHIN);
+        errx(1, "the end was not answered within %d seconds", END_WITHIN);
     return !is_over;
+}
+
+static void on_interrupt(int signal) {
+    is_interrupted = signal == SIGINT;
+}
+
+/* Ctrl-C is taken in where the program waits, and nowhere else. A second one does what it does to any program. */
+static void take_interrupt(void) {
+    const struct sigaction once = {.sa_handler = on_interrupt, .sa_flags = SA_RESETHAND};
+    sigset_t interrupt;
+    sigemptyset(&interrupt);
+    sigaddset(&interrupt, SIGINT);
+    sigprocmask(SIG_BLOCK, &interrupt, &while_waiting);
+    sigdelset(&while_waiting, SIGINT);
+    sigaction(SIGINT, &once, NULL);
+}
+
+/* A number of the command line. */
+static unsigned long number_in(const char *word, unsigned long least, unsigned long most) {
+    char *word_end;
+    errno = 0;
+    unsigned long number = strtoul(word, &word_end, 10);
+    if (*word < '0' || *word > '9' || *word_end || errno != 0 || number < least || number > most)
+        errx(2, "%s is no number from %lu to %lu", word, least, most);
+    return number;
 }
 
 /* A socket of this machine alone, as what goes over it is not encrypted. */
@@ -226,7 +264,7 @@ static void open_socket(void) {
     udp = socket(AF_INET, SOCK_DGRAM, 0);
     if (udp < 0 || bind(udp, (struct sockaddr *)&own, sizeof own) != 0 ||
         getsockname(udp, (struct sockaddr *)&own, &size) != 0)
-        stop("no UDP socket: errno", (unsigned)errno);
+        err(1, "no UDP socket");
     if (!is_client)
         printf("serving on port %u\n", (unsigned)ntohs(own.sin_port));
     fflush(stdout);
@@ -241,17 +279,21 @@ int main(int argc, char **argv) {
     peer.sin_family = AF_INET;
     peer.sin_addr.s_addr = htonl(INADDR_LOOPBACK);
     if (is_client)
-        peer.sin_port = htons((uint16_t)atoi(argv[2]));
+        peer.sin_port = htons((uint16_t)number_in(argv[2], 1, UINT16_MAX));
     open_socket();
+    take_interrupt();
     begin();
     serve();
     while (goes_on()) {
         wait_for_any();
+        meet_interrupt();
         meet_timer();
         receive_all();
         serve();
     }
     done(sctp_channels_free(&channels));
     done(sctp_assoc_free(&assoc));
-    return watch.end == SCTP_ASSOC_END_SHUT_DOWN ? 0 : 1;
+    if (watch.end != SCTP_ASSOC_END_SHUT_DOWN)
+        errx(1, "the chat ended: %s", sctp_assoc_end_name(watch.end));
+    return 0;
 }

@@ -1,19 +1,22 @@
 /*
  * Messages that come back, over UDP (RFC 6951): a server that echoes, and a client that sends COUNT messages of 1 to
  * 8,192 bytes and looks at what comes back. Then the client closes the stream, which ends at both sides, and shuts the
- * association down, which ends at both sides, too. docs/GUIDE.md explains the calls.
+ * association down, which ends at both sides, too. At Ctrl-C either side shuts down what it has, and ends once that is
+ * over or some seconds have passed; a second Ctrl-C ends it at once. docs/GUIDE.md explains the calls.
  *
  *   ./library                             builds the archive, once; a release has it in lib/, not in out/
  *   cc -O2 -Iinclude -o echo examples/echo.c out/libsctp_assoc.a
  *   ./echo server 9899                    serves up to 16 clients; at port 0 it takes a free one, and prints which
  *   ./echo client 127.0.0.1 9899 100
  */
-#define _DEFAULT_SOURCE
+#define _GNU_SOURCE
 #include "sctp_assoc.h"
 
 #include <arpa/inet.h>
+#include <err.h>
 #include <errno.h>
 #include <poll.h>
+#include <signal.h>
 #include <stdio.h>
 #include <stdlib.h>
 #include <string.h>
@@ -42,16 +45,13 @@ static int udp;
 static bool is_client, is_ending;
 static uint64_t end_until; /* where it is ending */
 static unsigned long count, sent, echoed;
-
-static void stop(const char *why, unsigned number) {
-    fprintf(stderr, "echo: %s %u\n", why, number);
-    exit(1);
-}
+static volatile sig_atomic_t is_interrupted;
+static sigset_t while_waiting; /* the signals that are blocked then: not that of Ctrl-C */
 
 /* Ends the program at a code that it does not go on with. Answers whether the call was done. */
 static bool done(sctp_assoc_code code) {
     if (code != SCTP_ASSOC_DONE && code != SCTP_ASSOC_NOTHING)
-        stop("a call answered the code", code);
+        errx(1, "a call answered %s", sctp_assoc_code_name(code));
     return code == SCTP_ASSOC_DONE;
 }
 
@@ -84,6 +84,13 @@ static size_t message(unsigned long number, uint8_t *bytes) {
     return length;
 }
 
+/* Whether neither side has begun to end the association. */
+static bool is_established(struct end *end) {
+    bool answer = false;
+    done(sctp_assoc_is_established(&end->slot, &answer));
+    return answer;
+}
+
 static void send_more(struct end *end) {
     uint8_t bytes[8192];
     for (; sent < count && sent < echoed + ON_THE_WAY; sent++)
@@ -114,28 +121,38 @@ static void read_all(struct end *end, uint16_t stream) {
         if (!is_client)
             send_back(end, stream, type, bytes, length);
         else if (message(echoed++, wanted) != length || memcmp(wanted, bytes, length) != 0)
-            stop("another message came back than that with the number", (unsigned)echoed - 1);
+            errx(1, "another message came back than that with the number %lu", echoed - 1);
     }
-    if (is_client && echoed == count)
+    if (!is_client || !is_established(end))
+        return;
+    if (echoed == count)
         done(sctp_assoc_close_stream(&end->slot, stream));
-    else if (is_client)
+    else
         send_more(end);
+}
+
+/* From now on this side ends, and does not wait for ever. */
+static void begin_to_end(void) {
+    is_ending = true;
+    end_until = now() + END_WITHIN * SECOND;
 }
 
 static void on_client_event(struct end *end, const sctp_assoc_event *event) {
     if (event->kind == SCTP_ASSOC_EVENT_CONNECTED) {
+        end->is_up = true;
         done(sctp_assoc_open_stream(&end->slot, STREAM, SCTP_ASSOC_PPID_BINARY));
         send_more(end);
     } else if (event->kind == SCTP_ASSOC_EVENT_READABLE && echoed < count) {
         read_all(end, event->stream);
+    } else if (is_ending) {
+        return; /* what else comes belongs to the end */
     } else if (event->kind == SCTP_ASSOC_EVENT_RESET_COMPLETE) {
-        is_ending = done(sctp_assoc_shutdown(&end->slot));
-        end_until = now() + END_WITHIN * SECOND;
+        done(sctp_assoc_shutdown(&end->slot));
+        begin_to_end();
     } else if (event->kind == SCTP_ASSOC_EVENT_RESET_FAILED) {
-        stop("the stream was not reset for the reason", event->reason);
+        errx(1, "the stream was not reset: %s", sctp_assoc_reason_name(event->reason));
     } else if (event->kind == SCTP_ASSOC_EVENT_LOST || event->kind == SCTP_ASSOC_EVENT_HANDSHAKE_FAILED) {
-        if (!is_ending)
-            stop("the association ended for the reason", event->reason);
+        errx(1, "the association ended: %s", sctp_assoc_reason_name(event->reason));
     }
 }
 
@@ -239,26 +256,27 @@ static void receive_all(void) {
                 end->heard = now();
             serve(end);
         }
-        if (!is_client && (!end || (fate == SCTP_ASSOC_REPEATED_INIT && now() - end->heard > SILENT * SECOND)))
+        if (!is_client && !is_ending &&
+            (!end || (fate == SCTP_ASSOC_REPEATED_INIT && now() - end->heard > SILENT * SECOND)))
             meet(&from, datagram, (size_t)length, end);
     }
 }
 
-/* The next moment at which a timer of any association expires; UINT64_MAX if none runs. */
+/* The next moment at which a timer of any association expires, or the end has to be; UINT64_MAX if there is none. */
 static uint64_t next_due(void) {
-    uint64_t next = UINT64_MAX, due;
+    uint64_t next = is_ending ? end_until : UINT64_MAX, due;
     for (struct end *end = ends; end < ends + CLIENTS; end++)
         if (sctp_assoc_poll_timeout(&end->slot, &due) == SCTP_ASSOC_DONE && due < next)
             next = due;
     return next;
 }
 
-/* Until a datagram comes or a timer expires. */
-static void wait_for_either(void) {
-    uint64_t due = next_due(), at = now();
-    int timeout_ms = due == UINT64_MAX ? -1 : due > at ? (int)((due - at + 999999) / 1000000) : 0;
+/* Until a datagram comes, a timer expires, or Ctrl-C. */
+static void wait_for_any(void) {
+    uint64_t due = next_due(), at = now(), left = due > at ? due - at : 0;
+    struct timespec limit = {.tv_sec = (time_t)(left / SECOND), .tv_nsec = (long)(left % SECOND)};
     struct pollfd ready = {.fd = udp, .events = POLLIN};
-    poll(&ready, 1, timeout_ms);
+    ppoll(&ready, 1, due == UINT64_MAX ? NULL : &limit, &while_waiting);
 }
 
 static void meet_timers(void) {
@@ -271,30 +289,77 @@ static void meet_timers(void) {
     }
 }
 
-/* A server goes on; a client does so until the association has ended, but not for ever. */
+/* At Ctrl-C: what is up is shut down, and what is not yet is let go. */
+static void meet_interrupt(void) {
+    if (!is_interrupted || is_ending)
+        return;
+    begin_to_end();
+    for (struct end *end = ends; end < ends + CLIENTS; end++) {
+        if (!is_live(end))
+            continue;
+        if (end->is_up) {
+            sctp_assoc_shutdown(&end->slot); /* refused if the peer has begun to, and then that goes on */
+            serve(end);
+        } else {
+            done(sctp_assoc_free(&end->slot));
+        }
+    }
+}
+
+static bool is_any_left(void) {
+    bool is_over;
+    for (struct end *end = ends; end < ends + CLIENTS; end++)
+        if (sctp_assoc_is_drained(&end->slot, &is_over) == SCTP_ASSOC_DONE && !is_over)
+            return true;
+    return false;
+}
+
+/* A server goes on until Ctrl-C. Both sides end once all their associations are over, and do not wait for ever. */
 static bool goes_on(void) {
-    bool is_over = false;
-    if (!is_client)
-        return true;
-    done(sctp_assoc_is_drained(&ends[0].slot, &is_over));
-    if (is_ending && !is_over && now() > end_until)
-        stop("the shutdown was not answered within seconds:", END_WITHIN);
-    return count > 0 && !is_over;
+    bool is_left = is_any_left();
+    if (is_ending && is_left && now() > end_until)
+        errx(1, "the shutdown was not answered within %d seconds", END_WITHIN);
+    return is_left || (!is_client && !is_ending);
+}
+
+static void on_interrupt(int signal) {
+    is_interrupted = signal == SIGINT;
+}
+
+/* Ctrl-C is taken in where the program waits, and nowhere else. A second one does what it does to any program. */
+static void take_interrupt(void) {
+    const struct sigaction once = {.sa_handler = on_interrupt, .sa_flags = SA_RESETHAND};
+    sigset_t interrupt;
+    sigemptyset(&interrupt);
+    sigaddset(&interrupt, SIGINT);
+    sigprocmask(SIG_BLOCK, &interrupt, &while_waiting);
+    sigdelset(&while_waiting, SIGINT);
+    sigaction(SIGINT, &once, NULL);
 }
 
 static void print_port(void) {
     struct sockaddr_in own;
     socklen_t size = sizeof own;
     if (getsockname(udp, (struct sockaddr *)&own, &size) != 0)
-        stop("no port: errno", (unsigned)errno);
+        err(1, "no port");
     printf("serving on port %u\n", (unsigned)ntohs(own.sin_port));
     fflush(stdout);
 }
 
-static struct sockaddr_in address_of(const char *address, const char *port) {
-    struct sockaddr_in at = {.sin_family = AF_INET, .sin_port = htons((uint16_t)atoi(port))};
+/* A number of the command line. */
+static unsigned long number_in(const char *word, unsigned long least, unsigned long most) {
+    char *end;
+    errno = 0;
+    unsigned long number = strtoul(word, &end, 10);
+    if (*word < '0' || *word > '9' || *end || errno != 0 || number < least || number > most)
+        errx(2, "%s is no number from %lu to %lu", word, least, most);
+    return number;
+}
+
+static struct sockaddr_in address_of(const char *address, unsigned long port) {
+    struct sockaddr_in at = {.sin_family = AF_INET, .sin_port = htons((uint16_t)port)};
     if (inet_pton(AF_INET, address, &at.sin_addr) != 1)
-        stop("no IPv4 address in word", 2);
+        errx(2, "%s is no IPv4 address", address);
     return at;
 }
 
@@ -304,24 +369,28 @@ int main(int argc, char **argv) {
         fprintf(stderr, "usage: echo server PORT | echo client ADDRESS PORT COUNT\n");
         return 2;
     }
-    struct sockaddr_in own = address_of("0.0.0.0", is_client ? "0" : argv[2]);
+    struct sockaddr_in own = address_of("0.0.0.0", is_client ? 0 : number_in(argv[2], 0, UINT16_MAX));
     udp = socket(AF_INET, SOCK_DGRAM, 0);
     if (udp < 0 || bind(udp, (struct sockaddr *)&own, sizeof own) != 0)
-        stop("no UDP socket: errno", (unsigned)errno);
+        err(1, "no UDP socket");
+    take_interrupt();
     done(sctp_assoc_default_config(&config));
     if (is_client) {
-        struct sockaddr_in peer = address_of(argv[2], argv[3]);
-        count = strtoul(argv[4], NULL, 10);
+        struct sockaddr_in peer = address_of(argv[2], number_in(argv[3], 1, UINT16_MAX));
+        count = number_in(argv[4], 1, UINT32_MAX);
         begin(&ends[0], &peer);
         serve(&ends[0]);
     } else {
         print_port();
     }
     while (goes_on()) {
-        wait_for_either();
+        wait_for_any();
+        meet_interrupt();
         meet_timers();
         receive_all();
     }
+    if (echoed < count)
+        errx(1, "Ctrl-C after %lu messages came back", echoed);
     if (is_client)
         printf("%lu messages came back, the stream ended at both sides, and so did the association\n", echoed);
     return is_client && !done(sctp_assoc_free(&ends[0].slot)) ? 1 : 0;

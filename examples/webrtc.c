@@ -66,7 +66,7 @@ static char fingerprint[96]; /* of this side's certificate */
 /* Ends the program at a code that it does not go on with. Answers whether the call was done. */
 static bool done(sctp_assoc_code code) {
     if (code != SCTP_ASSOC_DONE && code != SCTP_ASSOC_NOTHING)
-        errx(1, "a call answered the code %u", code);
+        errx(1, "a call answered %s", sctp_channels_code_name(code));
     return code == SCTP_ASSOC_DONE;
 }
 
@@ -173,7 +173,7 @@ static void receive_on(uint16_t id) {
 static void on_event(const sctp_channels_event *event) {
     static const char *const ends[] = {"the page did not answer the handshake of SCTP", "it was closed here",
                                        "it was aborted here", "it was shut down in order", "the page aborted it",
-                                       "the page broke a rule of the protocol"};
+                                       "the page broke a rule of SCTP", "no room is left", "the page is silent"};
     if (event->kind == SCTP_CHANNELS_EVENT_CONNECTED)
         puts("the page is connected");
     else if (event->kind == SCTP_CHANNELS_EVENT_LOST || event->kind == SCTP_CHANNELS_EVENT_HANDSHAKE_FAILED)
@@ -465,9 +465,7 @@ static void open_sockets(void) {
         err(1, "%s, port %d", address, port);
 }
 
-static void on_interrupt(int signal) {
-    interrupts += signal == SIGINT;
-}
+static void on_interrupt(int signal) { interrupts += signal == SIGINT; }
 
 int main(int argc, char **argv) {
     static const struct option names[] = {{"address", 1, 0, 'a'}, {"port", 1, 0, 'p'},  {"client", 0, 0, 'c'},
@@ -479,9 +477,11 @@ int main(int argc, char **argv) {
         case 'c': prefers_client = true; break;
         case 'l': loss = atof(optarg); break;
         case 'd': delay = strtoul(optarg, NULL, 10) * (SECOND / 1000); break;
-        default: errx(2, "[--address A] [--port N] [--client] [--loss P] [--delay MS]");
+        default: port = 0;
         }
     }
+    if (port < 1 || port > UINT16_MAX || !(loss >= 0 && loss <= 100) || delay > 60 * SECOND)
+        errx(2, "[--address A] [--port 1..65535] [--client] [--loss 0..100] [--delay 0..60000]");
     setvbuf(stdin, NULL, _IONBF, 0); /* no line is hidden from poll() in a buffer */
     setvbuf(stdout, NULL, _IOLBF, 0);
     signal(SIGINT, on_interrupt);

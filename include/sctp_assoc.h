@@ -34,6 +34,9 @@
  * - The library takes memory by malloc and realloc and gives it back by free. A program that defines rattle_alloc,
  *   rattle_realloc and rattle_dealloc itself (SCTP_ASSOC_HEAP below) has those called in their place.
  *
+ * sctp_assoc_code_name gives the name of a code to print, and four calls beside it those of fates, events, reasons and
+ * ends.
+ *
  * Moments (`now`) are nanoseconds from one that the program chooses. Lengths and sizes are bytes. Numbers are in the
  * host's byte order. Bytes that go in are copied, and no pointer is kept after a call.
  */
@@ -568,6 +571,18 @@ sctp_assoc_code sctp_assoc_watched_poll_event(sctp_assoc *slot, sctp_assoc_watch
 sctp_assoc_code sctp_assoc_watched_close(sctp_assoc *slot, sctp_assoc_watch *watch);
 sctp_assoc_code sctp_assoc_watched_abort(sctp_assoc *slot, sctp_assoc_watch *watch, const uint8_t *reason,
                                          size_t length);
+
+/* ---- Names to print ----
+ *
+ * What a number is called here, without its prefix: "NO_MEMORY" is the name of SCTP_ASSOC_NO_MEMORY, and "SHUT_DOWN"
+ * that of SCTP_ASSOC_END_SHUT_DOWN. A number that has none here is "unknown code", "unknown fate" and so on. The text
+ * is constant, and nobody frees it. These calls touch no slot and may be made at any time, from any thread.
+ */
+const char *sctp_assoc_code_name(sctp_assoc_code code);
+const char *sctp_assoc_fate_name(uint32_t fate);     /* SCTP_ASSOC_TAKEN and the three after it */
+const char *sctp_assoc_event_name(uint32_t kind);    /* SCTP_ASSOC_EVENT_.. */
+const char *sctp_assoc_reason_name(uint32_t reason); /* SCTP_ASSOC_REASON_.. */
+const char *sctp_assoc_end_name(uint32_t end);       /* SCTP_ASSOC_END_.. */
 
 /* ---- An observer of datagrams ----
  *

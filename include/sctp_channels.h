@@ -15,6 +15,8 @@
  * association from the first call that gets both, and streams of that association which have a channel are left to
  * these calls: on them sctp_assoc_write, _read, _finish, _stop and _close_stream are not called. Other calls of
  * sctp_assoc.h may be made as ever.
+ *
+ * sctp_channels_code_name gives the name of a code to print, and two calls beside it those of events and states.
  */
 #ifndef SCTP_CHANNELS_H
 #define SCTP_CHANNELS_H
@@ -209,6 +211,15 @@ sctp_assoc_code sctp_channels_buffered_amount(sctp_channels *slot, sctp_assoc *a
  * tells when it falls to that. Setting it tells nothing. */
 sctp_assoc_code sctp_channels_low_threshold(sctp_channels *slot, sctp_assoc *assoc, uint16_t id, size_t *bytes);
 sctp_assoc_code sctp_channels_set_low_threshold(sctp_channels *slot, sctp_assoc *assoc, uint16_t id, size_t bytes);
+
+/* ---- Names to print ----
+ *
+ * What a number is called, as of sctp_assoc_code_name. That of a code is one of this header or of sctp_assoc.h, as
+ * the calls answer both.
+ */
+const char *sctp_channels_code_name(sctp_assoc_code code);
+const char *sctp_channels_event_name(uint32_t kind);  /* SCTP_CHANNELS_EVENT_.. */
+const char *sctp_channels_state_name(uint32_t state); /* SCTP_CHANNELS_STATE_.. */
 
 #ifdef __cplusplus
 }

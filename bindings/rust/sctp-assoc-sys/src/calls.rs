@@ -2,6 +2,7 @@ use crate::{
     sctp_assoc, sctp_assoc_code, sctp_assoc_config, sctp_assoc_counters, sctp_assoc_event, sctp_assoc_identity,
     sctp_assoc_path_values, sctp_assoc_token, sctp_assoc_totals, sctp_assoc_watch,
 };
+use core::ffi::c_char;
 
 extern "C" {
     /// The release of the archive: 10,000 times the first number, 100 times the second, and the third.
@@ -210,4 +211,15 @@ extern "C" {
         reason: *const u8,
         length: usize,
     ) -> sctp_assoc_code;
+
+    /// The name of a code, without its prefix: constant text that ends with a byte 0.
+    pub fn sctp_assoc_code_name(code: sctp_assoc_code) -> *const c_char;
+    /// That of the fate of a datagram.
+    pub fn sctp_assoc_fate_name(fate: u32) -> *const c_char;
+    /// That of a kind of event.
+    pub fn sctp_assoc_event_name(kind: u32) -> *const c_char;
+    /// That of a reason.
+    pub fn sctp_assoc_reason_name(reason: u32) -> *const c_char;
+    /// That of the end that a watch noted.
+    pub fn sctp_assoc_end_name(end: u32) -> *const c_char;
 }

@@ -1,5 +1,5 @@
 use crate::{sctp_assoc, sctp_assoc_code};
-use core::ffi::c_void;
+use core::ffi::{c_char, c_void};
 use core::ptr;
 
 /// The label or the protocol is longer than 65,535 bytes.
@@ -206,4 +206,11 @@ extern "C" {
         id: u16,
         bytes: usize,
     ) -> sctp_assoc_code;
+
+    /// The name of a code of these calls, without its prefix: constant text that ends with a byte 0.
+    pub fn sctp_channels_code_name(code: sctp_assoc_code) -> *const c_char;
+    /// That of a kind of event.
+    pub fn sctp_channels_event_name(kind: u32) -> *const c_char;
+    /// That of a state.
+    pub fn sctp_channels_state_name(state: u32) -> *const c_char;
 }

@@ -52,7 +52,8 @@ impl Declared {
 
     fn calls_of_header(&self) -> Vec<&str> {
         let call_in = |line: &'static str| {
-            let rest = line.strip_prefix("sctp_assoc_code ").or_else(|| line.strip_prefix("uint32_t "))?;
+            let types = ["sctp_assoc_code ", "uint32_t ", "const char *"];
+            let rest = types.iter().find_map(|answer| line.strip_prefix(answer))?;
             rest.starts_with("sctp_").then(|| name_at(rest))
         };
         sorted(self.header.lines().filter_map(call_in))
