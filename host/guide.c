@@ -1,6 +1,6 @@
 /* Runs the C code of docs/GUIDE.md, which host/run takes out of the page: a client and a server, whose datagrams go
  * through two queues, shake hands, exchange a message in each direction, close the stream and shut down. Two others are
- * watched, and one aborts. */
+ * watched, and one aborts. Of two more one keeps a timer of silence, and the other loses the consent of ICE. */
 #define _DEFAULT_SOURCE
 #include "support.h"
 
@@ -96,8 +96,43 @@ static void watched(void) {
     free_both(ends);
 }
 
+static bool is_over(int end) {
+    bool is_drained = false;
+    return done(sctp_assoc_is_drained(&ends[end], &is_drained)) && is_drained;
+}
+
+/* The peer is asked once it was silent for 10 s, and after 30 s the association ends. A datagram that is taken begins
+ * the time anew, one with another tag does not. */
+static void silent(void) {
+    struct silence silence = {0, false};
+    uint8_t datagram[PAYLOAD_SIZE + 28];
+    size_t length;
+    begin(&ends[0], true, 0);
+    begin(&ends[1], false, 0);
+    go_on(0);
+    for (int tenths = 1; tenths <= 10; tenths++)
+        go_on((uint64_t)tenths * 100 * MS);
+    CHECK(done(sctp_assoc_open_stream(&ends[0], PROBES, SCTP_ASSOC_PPID_BINARY)));
+    hear(&silence, SCTP_ASSOC_TAKEN, SECOND);
+    hear(&silence, SCTP_ASSOC_OTHER_TAG, 2 * SECOND);
+    CHECK(look_at_silence(&ends[0], &silence, 10 * SECOND) == 11 * SECOND);
+    CHECK(!done(sctp_assoc_poll_transmit(&ends[0], 10 * SECOND, datagram, sizeof datagram, &length)));
+    for (int looks = 0; looks < 2; looks++)
+        CHECK(look_at_silence(&ends[0], &silence, 11 * SECOND) == 31 * SECOND);
+    CHECK(done(sctp_assoc_poll_transmit(&ends[0], 11 * SECOND, datagram, sizeof datagram, &length)));
+    CHECK(!done(sctp_assoc_poll_transmit(&ends[0], 11 * SECOND, datagram, sizeof datagram, &length)));
+    CHECK(look_at_silence(&ends[0], &silence, 30 * SECOND) == 31 * SECOND && !is_over(0));
+    CHECK(look_at_silence(&ends[0], &silence, 31 * SECOND) == UINT64_MAX && is_over(0));
+    CHECK(!is_over(1));
+    lose_consent(&ends[1]);
+    CHECK(is_over(1) && !take_events(&ends[1]));
+    free_both(ends);
+    came = 0;
+}
+
 int main(void) {
     watched();
+    silent();
     begin(&ends[0], true, 0);
     begin(&ends[1], false, 0);
     go_on(0);
@@ -110,10 +145,7 @@ int main(void) {
     CHECK(done(sctp_assoc_stream_ids(&ends[1], NULL, 0, &count)) && count == 0);
     CHECK(done(sctp_assoc_shutdown(&ends[0])));
     go_on(1200 * MS);
-    for (int end = 0; end < 2; end++) {
-        bool is_over = false;
-        CHECK(done(sctp_assoc_is_drained(&ends[end], &is_over)) && is_over);
-    }
+    CHECK(is_over(0) && is_over(1));
     free_both(ends);
     puts("guide: ok");
     return 0;

@@ -122,6 +122,7 @@ static void tokens_take_the_place_of_the_handshake(void) {
 /* The peer takes the OPEN for any message. The channel can be sent on, and is closed. */
 static void nobody_acknowledges_the_channel(void) {
     sctp_channels_info info;
+    uint32_t type;
     join_both();
     CHECK(done(sctp_channels_begin(&sides[OURS], SCTP_CHANNELS_CLIENT)));
     CHECK(done(open_wanted(&ends[OURS], &sides[OURS], wanted, 1)));
@@ -132,7 +133,7 @@ static void nobody_acknowledges_the_channel(void) {
     CHECK(info.state == SCTP_CHANNELS_STATE_CONNECTING && done(send_bytes(OURS, 5)));
     CHECK(done(sctp_channels_close(&sides[OURS], &ends[OURS], wanted[0].id)));
     exchange();
-    while (sctp_assoc_read(&ends[BROWSER], 0, bytes, sizeof bytes, &length, &(uint32_t){0}) == SCTP_ASSOC_DONE)
+    while (sctp_assoc_read(&ends[BROWSER], 0, bytes, sizeof bytes, &length, &type) == SCTP_ASSOC_DONE)
         ;
     exchange();
     CHECK(sctp_channels_get_info(&sides[OURS], wanted[0].id, &info) == SCTP_CHANNELS_NO_CHANNEL);

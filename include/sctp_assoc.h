@@ -147,8 +147,8 @@ typedef struct sctp_assoc_config {
     uint64_t rto_min_ms;
     uint64_t rto_max_ms;
     size_t max_init_retransmits;       /* how often INIT and COOKIE ECHO go out again, and a request to reset streams
-                                        * until SCTP_ASSOC_EVENT_RESET_FAILED; by SCTP_ASSOC_PROFILE_RFC SHUTDOWN and
-                                        * SHUTDOWN ACK, too, until the association ends; SCTP_ASSOC_NO_LIMIT */
+                                        * until SCTP_ASSOC_EVENT_RESET_FAILED; by SCTP_ASSOC_PROFILE_RFC SHUTDOWN ACK,
+                                        * too, until the association ends; SCTP_ASSOC_NO_LIMIT */
     size_t max_data_retransmits;       /* timeouts in a row in which DATA is sent again. At the next one the association
                                         * ends by SCTP_ASSOC_PROFILE_RFC, where a SACK with a window of 0 ends the row,
                                         * too. By SCTP_ASSOC_PROFILE_PORT DATA is no longer sent, and nothing tells of
@@ -231,9 +231,8 @@ sctp_assoc_code sctp_assoc_free(sctp_assoc *slot);
  * with the reason SCTP_ASSOC_REASON_CLOSED. Read what comes at once, since unread messages are gone then. The loop is
  * over once sctp_assoc_is_drained says so and sctp_assoc_poll_transmit answers NOTHING.
  *
- * A peer that is gone is waited for until SHUTDOWN went out again as often as max_init_retransmits says, which takes
- * minutes; by SCTP_ASSOC_PROFILE_PORT without a limit. A side that closed may answer nothing any more, even if the last
- * datagram that it sent is lost. So wait for a bounded time, and then call sctp_assoc_close.
+ * A peer that is gone is waited for without a limit, as it may have much to send. A side that closed may answer nothing
+ * any more, even if the last datagram that it sent is lost. So wait for a bounded time, and then call sctp_assoc_close.
  *
  * Codes: DONE, EMPTY_SLOT, FAILED, SHUTDOWN_NOT_ESTABLISHED (also if either side has begun a shutdown). */
 sctp_assoc_code sctp_assoc_shutdown(sctp_assoc *slot);

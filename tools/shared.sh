@@ -2,7 +2,9 @@
 # What the scripts in bash share. Each sources this once it has set `root`, the folder of the checkout.
 
 # A script's head, the comment at its top, is what it prints for --help.
-[ "${1-}" != --help ] || exec sed -n '2,/^[^#]/s/^# \{0,1\}//p' "$0"
+case "${1-}" in
+    -h | --help) exec sed -n '2,/^[^#]/s/^# \{0,1\}//p' "$0" ;;
+esac
 
 # Ends the script with one line that says why.
 stop() {
@@ -18,10 +20,10 @@ needs() {
         command -v "$tool" > /dev/null && continue
         case "$tool" in
             rt) stop "no rt: install the Rattle kit that README.md names, and put its rt on the path" ;;
-            ar | nm | objcopy) stop "no $tool: install binutils" ;;
-            cargo) stop "no cargo: install Rust (https://rustup.rs)" ;;
-            "${CC:-cc}") stop "no C compiler: install one, or name it by CC" ;;
-            *) stop "no $tool: install it" ;;
+            ar | nm | objcopy) stop "no $tool: install binutils (Debian: apt-get install binutils)" ;;
+            cargo) stop "no cargo: install Rust 1.74 or later (https://rustup.rs), and put its cargo on the path" ;;
+            "${CC:-cc}") stop "no C compiler $tool: install one (Debian: apt-get install gcc), or name it by CC" ;;
+            *) stop "no $tool: install it (Debian: apt-get install $tool)" ;;
         esac
     done
 }
@@ -32,7 +34,7 @@ take_archives() {
     SCTP_CHANNELS_ARCHIVE="${SCTP_CHANNELS_ARCHIVE:-$("$root/library" channels)}"
     SCTP_ASSOC_ARCHIVE="${SCTP_ASSOC_ARCHIVE:-$root/out/libsctp_assoc.a}"
     for archive in "$SCTP_ASSOC_ARCHIVE" "$SCTP_CHANNELS_ARCHIVE"; do
-        [ -f "$archive" ] || stop "no archive at $archive"
+        [ -f "$archive" ] || stop "no archive at $archive: build both by './library channels', or name them"
     done
     SCTP_ASSOC_ARCHIVE="$(realpath "$SCTP_ASSOC_ARCHIVE")"
     SCTP_CHANNELS_ARCHIVE="$(realpath "$SCTP_CHANNELS_ARCHIVE")"

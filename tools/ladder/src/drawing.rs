@@ -77,6 +77,9 @@ impl Drawing {
                     }
                 }
                 Happening::Came { side, number, dropped } => drawing.came(*side, *number, *dropped),
+                Happening::Missing { side, number } => {
+                    drawing.row(Column::Outside(*side), Style::Note, &format!("packet {number}: there is none"))
+                }
                 Happening::Expired { side, timer } => drawing.row(Column::Outside(*side), Style::Expired, timer),
                 Happening::Asked { side, words } => drawing.row(Column::Outside(*side), Style::Asked, words),
                 Happening::Told { side, words } => drawing.row(Column::Outside(*side), Style::Told, words),

@@ -4,7 +4,7 @@
 //!     ladder --datagrams sessions/lost.lab    each datagram in hex behind the moment at which it went out
 //!
 //! It carries the session out by the library. If the replies that are expected lie beside it, as `lost.out`, these have
-//! to come.
+//! to come. If none lie there, the standard error tells of each line that hands over a packet which is not there.
 mod chunks;
 mod drawing;
 mod replay;
@@ -61,6 +61,9 @@ fn story_of(session: &str) -> Result<Vec<Happening>, String> {
         if let Some(wanted) = expected(i).filter(|wanted| !reply::is_expected(&reply, wanted)) {
             let drop = last_drop(&replay.story).map_or(String::new(), |words| format!("; before that {words}"));
             return Err(format!("line {number}: the reply is '{reply}', and '{wanted}' was expected{drop}"));
+        }
+        if reply == reply::NO_PACKET && expected(i).is_none() {
+            eprintln!("ladder: line {number}: {reply}");
         }
     }
     Ok(replay.story)

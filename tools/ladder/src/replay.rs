@@ -88,10 +88,11 @@ impl Replay {
     }
 
     fn deliver(&mut self, side: Side, number: usize, now: u64) -> String {
-        let Some(datagram) = self.sent[side.other() as usize].get(number).cloned() else {
-            return "no such packet".to_string();
-        };
         let moment = self.at(now);
+        let Some(datagram) = self.sent[side.other() as usize].get(number).cloned() else {
+            self.story.push(Happening::Missing { side, number });
+            return reply::NO_PACKET.to_string();
+        };
         let answer = self.end(side).handle_datagram(moment, &datagram);
         let dropped = match answer {
             Ok(Fate::NoPacket) => Some("no packet"),

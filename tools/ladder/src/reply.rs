@@ -1,6 +1,9 @@
 //! Replies in the words of docs/SESSIONS.md.
 use sctp_assoc::{Error, Event, PayloadType, Reason};
 
+/// The reply to a delivery of a packet that the other side never gave out.
+pub const NO_PACKET: &str = "no such packet";
+
 /// A refusal, by its number.
 pub fn refusal(error: Error) -> String {
     let number = match error {

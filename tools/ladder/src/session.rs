@@ -82,8 +82,21 @@ pub fn beginning_of(line: &str, profile: Profile) -> Option<Beginning> {
     })
 }
 
+/// The line with its bytes in hex, if it writes a text: `write A 1 "hi"` is `write A 1 6869`.
+fn in_hex(line: &str) -> String {
+    let text = line.split_once(" \"").and_then(|(step, text)| Some((step, text.strip_suffix('"')?)));
+    match text {
+        Some((step, "")) if step.starts_with("write") => format!("{step} -"),
+        Some((step, text)) if step.starts_with("write") => {
+            text.bytes().fold(format!("{step} "), |line, byte| line + &format!("{byte:02x}"))
+        }
+        _ => line.to_string(),
+    }
+}
+
 /// Reads a line behind that; None if it is no step.
 pub fn step_of(line: &str) -> Option<(Side, Step)> {
+    let line = in_hex(line);
     let mut fields = line.split(' ');
     let (name, side) = (fields.next()?, Side::named(fields.next()?)?);
     let rest: Vec<&str> = fields.collect();
@@ -170,4 +183,24 @@ fn bytes_of(text: &str) -> Option<Vec<u8>> {
     let digits: Vec<u32> = text.chars().map(|digit| digit.to_digit(16)).collect::<Option<_>>()?;
     let is_whole = !digits.is_empty() && digits.len() % 2 == 0;
     is_whole.then(|| digits.chunks(2).map(|pair| (16 * pair[0] + pair[1]) as u8).collect())
+}
+
+#[cfg(test)]
+mod tests {
+    use super::*;
+
+    #[test]
+    fn a_text_stands_for_its_bytes() {
+        let bytes = |line| match step_of(line) {
+            Some((Side::A, Step::Write { id: 1, bytes, .. })) => Some(bytes),
+            _ => None,
+        };
+        assert_eq!(bytes("write A 1 6869"), Some(b"hi".to_vec()));
+        assert_eq!(bytes("write A 1 \"hi\""), Some(b"hi".to_vec()));
+        assert_eq!(bytes("writeas A 1 51 \"say \"hi\" twice\""), Some(b"say \"hi\" twice".to_vec()));
+        assert_eq!(bytes("write A 1 \"\u{e9}\""), Some(vec![0xc3, 0xa9]));
+        assert_eq!(bytes("write A 1 \"\""), Some(Vec::new()));
+        assert_eq!(bytes("write A 1 \"hi"), None);
+        assert!(step_of("read A \"1\"").is_none());
+    }
 }

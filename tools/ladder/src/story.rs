@@ -10,6 +10,8 @@ pub enum Happening {
     Sent { side: Side, number: usize, datagram: Vec<u8> },
     /// A datagram of the other side came to this one, which may drop it, and why.
     Came { side: Side, number: usize, dropped: Option<&'static str> },
+    /// A datagram of the other side was to come to this one, which has sent none with this number.
+    Missing { side: Side, number: usize },
     /// A timer expired.
     Expired { side: Side, timer: &'static str },
     /// The application asked for something.

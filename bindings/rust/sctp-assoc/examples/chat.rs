@@ -9,6 +9,7 @@ use sctp_assoc::{Association, Config, End, Fate, Identity, MAX_DATAGRAM};
 use std::error::Error;
 use std::io::{stdin, stdout, BufRead, Write};
 use std::net::{Ipv4Addr, SocketAddr, UdpSocket};
+use std::process::ExitCode;
 use std::sync::mpsc::{channel, sync_channel, Receiver, RecvTimeoutError, Sender, SyncSender};
 use std::thread;
 use std::time::{Duration, Instant};
@@ -246,12 +247,19 @@ impl Chat {
     }
 }
 
-fn main() -> Result<()> {
+/// The address of the server on this machine at the port that it prints.
+fn server_at(port: &str) -> Result<SocketAddr> {
+    let number = port.parse().ok().filter(|number| *number > 0);
+    let number = number.ok_or_else(|| format!("{port} is no port: a number from 1 to 65535"))?;
+    Ok((Ipv4Addr::LOCALHOST, number).into())
+}
+
+fn run() -> Result<()> {
     let words: Vec<String> = std::env::args().skip(1).collect();
     let words: Vec<&str> = words.iter().map(String::as_str).collect();
     let peer = match words[..] {
         ["serve"] => None,
-        ["connect", port] => Some((Ipv4Addr::LOCALHOST, port.parse()?).into()),
+        ["connect", port] => Some(server_at(port)?),
         _ => return Err("usage: chat serve | chat connect PORT".into()),
     };
     let mut chat = Chat::new(peer)?;
@@ -259,4 +267,10 @@ fn main() -> Result<()> {
         println!("serving on port {}", chat.udp.local_addr()?.port());
     }
     chat.run()
+}
+
+fn main() -> ExitCode {
+    let Err(error) = run() else { return ExitCode::SUCCESS };
+    eprintln!("chat: {error}");
+    ExitCode::FAILURE
 }

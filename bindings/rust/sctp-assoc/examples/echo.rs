@@ -9,6 +9,7 @@ use std::error::Error;
 use std::io::ErrorKind;
 use std::mem;
 use std::net::{SocketAddr, UdpSocket};
+use std::process::ExitCode;
 use std::time::{Duration, Instant};
 
 const STREAM: u16 = 1;
@@ -208,7 +209,7 @@ impl Echo {
         if !is_over && client.ends_until.is_some_and(|until| until < Instant::now()) {
             return Err("the shutdown was not answered".into());
         }
-        Ok(client.count > 0 && !is_over)
+        Ok(!is_over)
     }
 
     /// A server lets an association go that is over.
@@ -305,22 +306,32 @@ fn is_no_fault(kind: ErrorKind) -> bool {
 }
 
 fn be_server(port: &str) -> Result<Echo> {
-    let udp = UdpSocket::bind(("0.0.0.0", port.parse()?))?;
+    let port: u16 = port.parse().map_err(|_| format!("{port} is no port: a number from 0 to 65535"))?;
+    let udp = UdpSocket::bind(("0.0.0.0", port)).map_err(|error| format!("no UDP socket at port {port}: {error}"))?;
     println!("serving on port {}", udp.local_addr()?.port());
     Ok(Echo { udp, ends: Vec::new(), client: None, buffer: vec![0; MAX_DATAGRAM] })
 }
 
+/// An address to which something can be sent from the client's socket.
+fn address_of(word: &str) -> Option<SocketAddr> {
+    word.parse().ok().filter(|address: &SocketAddr| address.is_ipv4() && address.port() != 0)
+}
+
 fn be_client(peer: &str, count: &str) -> Result<Echo> {
+    let peer =
+        address_of(peer).ok_or_else(|| format!("{peer} is no IPv4 address with a port, as 127.0.0.1:9899 is"))?;
+    let count = count.parse().ok().filter(|count| *count > 0);
+    let count = count.ok_or("COUNT is how many messages go out: a number from 1 on")?;
     let association = Association::client(&Config::default(), &Identity::random()?, Instant::now())?;
     Ok(Echo {
         udp: UdpSocket::bind("0.0.0.0:0")?,
-        ends: vec![End::new(peer.parse()?, association)],
-        client: Some(Client { count: count.parse()?, sent: 0, echoed: 0, ends_until: None }),
+        ends: vec![End::new(peer, association)],
+        client: Some(Client { count, sent: 0, echoed: 0, ends_until: None }),
         buffer: vec![0; MAX_DATAGRAM],
     })
 }
 
-fn main() -> Result<()> {
+fn run() -> Result<()> {
     let words: Vec<String> = std::env::args().skip(1).collect();
     let words: Vec<&str> = words.iter().map(String::as_str).collect();
     let mut echo = match words[..] {
@@ -333,4 +344,10 @@ fn main() -> Result<()> {
         println!("{} messages came back, the stream ended at both sides, and so did the association", client.echoed);
     }
     Ok(())
+}
+
+fn main() -> ExitCode {
+    let Err(error) = run() else { return ExitCode::SUCCESS };
+    eprintln!("echo: {error}");
+    ExitCode::FAILURE
 }

@@ -172,10 +172,9 @@ impl Association {
     /// comes at once: unread messages are gone then. The loop is over once [`is_drained`](Association::is_drained) says
     /// so and `poll_transmit` gives None.
     ///
-    /// A peer that is gone is waited for until SHUTDOWN went out again as often as
-    /// [`max_init_retransmits`](crate::Config::max_init_retransmits) says, which takes minutes; by
-    /// [`Profile::Port`](crate::Profile::Port) without a limit. A side that closed may answer nothing any more, even if
-    /// the last datagram that it sent is lost. So wait for a bounded time, and [`close`](Association::close) then.
+    /// A peer that is gone is waited for without a limit, as it may have much to send. A side that closed may answer
+    /// nothing any more, even if the last datagram that it sent is lost. So wait for a bounded time, and
+    /// [`close`](Association::close) then.
     ///
     /// Errors: `Failed`; `ShutdownNotEstablished`, also if either side has begun a shutdown.
     pub fn shutdown(&mut self) -> Result<(), Error> {

@@ -35,8 +35,8 @@ pub struct Config {
     /// Greatest retransmission timeout; 60 s. The same holds of it.
     pub rto_max: Duration,
     /// How often INIT and COOKIE ECHO go out again before the handshake fails, and a request to reset streams before
-    /// [`Event::ResetFailed`](crate::Event::ResetFailed); by [`Profile::Rfc`] SHUTDOWN and SHUTDOWN ACK, too, before
-    /// the association ends; 8. None is no limit.
+    /// [`Event::ResetFailed`](crate::Event::ResetFailed); by [`Profile::Rfc`] SHUTDOWN ACK, too, before the association
+    /// ends; 8. None is no limit.
     pub max_init_retransmits: Option<usize>,
     /// Timeouts in a row in which DATA is sent again. At the next one the association ends by [`Profile::Rfc`], where a
     /// SACK with a window of 0 ends the row, too. By [`Profile::Port`] DATA is no longer sent, and nothing tells of
