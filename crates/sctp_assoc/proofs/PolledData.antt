@@ -15,7 +15,7 @@ use Rattle.sctp_outbound_queue.specs.Outbound.{Outbound, pieces_waiting, sent_ne
 use Rattle.sctp_streams.specs.Streams.{StreamMap}
 use Rattle.sctp_outbound.specs.declared.sender.Sender.{Sender}
 use Rattle.sctp_outbound.specs.Sender.{alone_length_of, both_windows, can_send_next, resend_window}
-use Rattle.sctp_outbound.specs.Sender.{chunk_of, first_chunk}
+use Rattle.sctp_outbound.specs.Sender.{asks_at_once, chunk_of, first_chunk}
 use Rattle.sctp_outbound.specs.Sender.{after_marked, after_missing, fast_room, marked_by, missing_by}
 use Rattle.sctp_outbound.specs.Sender.{first_counted, fits_windows, resends_alone, resent_chunks}
 use Rattle.sctp_outbound.specs.Sender.{resent_pieces, sent_one, sent_within, with_in_flight}
@@ -201,7 +201,7 @@ one_tied s now h tied =
 
 one_gives : (ms : List Waiting) (s : Sender) (now : ℕ) (m : StreamMap) (h : History) → s.queue.pending ≡ ms
     → s.queue.first_tsn ≡ tsn h.own h.base
-    → Gives (first_sent ms now) (sending s m h) (sending (sent_one ms s now).0 m h) (sent_one ms s now).1
+    → Gives (first_sent (asks_at_once s) ms now) (sending s m h) (sending (sent_one ms s now).0 m h) (sent_one ms s now).1
 unfolding sent_one
 one_gives [] s now m h e tied = gives_none (sending s m h)
 one_gives (w ∷ ws) s now m h e tied = record {
@@ -211,7 +211,7 @@ one_gives (w ∷ ws) s now m h e tied = record {
 }
 
 is_pending : (ms : List Waiting) (s : Sender) (now : ℕ) → fits_windows s (slice_get ms 0) ≡ true
-    → first_sent ms now ≡ Act.Sent now ∷ []
+    → first_sent (asks_at_once s) ms now ≡ Act.Sent (asks_at_once s) now ∷ []
 is_pending [] s now fits = absurd (false≢true fits)
 is_pending (m ∷ ms) s now fits = refl
 
@@ -228,14 +228,14 @@ module _ (now : ℕ) (m : StreamMap) (h : History) where
   sending_gives_if : (c : Bool) (n : ℕ) (s : Sender) → can_send_next s ≡ c → s.queue.first_tsn ≡ tsn h.own h.base
       → ((t : Sender) → t.queue.first_tsn ≡ tsn h.own h.base
       → Gives (acts_of_sending n t now) (sending t m h) (sending (sent_within n t now).0 m h) (sent_within n t now).1)
-      → Gives (if c then Act.Sent now ∷ acts_of_sending n (sent_one s.queue.pending s now).0 now else [])
+      → Gives (if c then Act.Sent (asks_at_once s) now ∷ acts_of_sending n (sent_one s.queue.pending s now).0 now else [])
       (sending s m h) (sending (within_if c n s now).0 m h) (within_if c n s now).1
   sending_gives_if false n s e tied rest = gives_none (sending s m h)
   sending_gives_if true n s e tied rest =
       let one = sent_one s.queue.pending s now in
       let first =
       gives_same (sym (is_pending s.queue.pending s now e)) refl refl (one_gives s.queue.pending s now m h refl tied) in
-      gives_on (Act.Sent now ∷ []) (acts_of_sending n one.0 now) (sending s m h) (sending one.0 m h)
+      gives_on (Act.Sent (asks_at_once s) now ∷ []) (acts_of_sending n one.0 now) (sending s m h) (sending one.0 m h)
       (sending (sent_within n one.0 now).0 m h) one.1 (sent_within n one.0 now).1 first
       (rest one.0 (one_tied s now h tied))
 
@@ -246,7 +246,7 @@ module _ (now : ℕ) (m : StreamMap) (h : History) where
       sending_gives_if (can_send_next s) n s refl tied (λ t bound. sending_gives n t bound)
 
   pub new_gives_if : (c : Bool) (s : Sender) → s.queue.first_tsn ≡ tsn h.own h.base
-      → Gives (if c then first_sent s.queue.pending now else acts_of_sending (pieces_waiting s.queue.pending) s now)
+      → Gives (if c then first_sent (asks_at_once s) s.queue.pending now else acts_of_sending (pieces_waiting s.queue.pending) s now)
       (sending s m h)
       (sending (if c then sent_one s.queue.pending s now else
       sent_within (pieces_waiting s.queue.pending) s now).0 m h)

@@ -39,7 +39,7 @@ use Rattle.sctp_outbound.specs.Abandonment.{abandoned_if, first_dropped, has_lat
 use Rattle.sctp_outbound.specs.Abandonment.{with_started}
 use Rattle.sctp_outbound.specs.Forward.{gives_forward}
 use Rattle.sctp_outbound.specs.Sender.{both_windows, can_send_next, fast_room, resends_alone, sack_outcome, sent_one}
-use Rattle.sctp_outbound.specs.Sender.{tsns_up_to}
+use Rattle.sctp_outbound.specs.Sender.{asks_at_once, tsns_up_to}
 use Rattle.sctp_assoc.specs.declared.inbound.Flow.{Flow}
 use Rattle.sctp_assoc.specs.declared.inbound.Flow.TheVariants as flows
 use Rattle.sctp_directions.specs.Acts.{Act, History, all_data_given}
@@ -287,15 +287,17 @@ acts_of_missing s =
 abbrev pub acts_of_sending : ℕ → Sender → ℕ → List Act
 acts_of_sending zero s now = []
 acts_of_sending (suc n) s now =
-    if can_send_next s then Act.Sent now ∷ acts_of_sending n (sent_one s.queue.pending s now).0 now else []
+    if can_send_next s then
+    Act.Sent (asks_at_once s) now ∷ acts_of_sending n (sent_one s.queue.pending s now).0 now
+    else []
 
-abbrev pub first_sent : List Waiting → ℕ → List Act
-first_sent [] now = []
-first_sent (m ∷ ms) now = Act.Sent now ∷ []
+abbrev pub first_sent : Bool → List Waiting → ℕ → List Act
+first_sent at_once [] now = []
+first_sent at_once (m ∷ ms) now = Act.Sent at_once now ∷ []
 
 abbrev pub acts_of_new : Sender → ℕ → List Act
 acts_of_new s now =
-    if length s.queue.in_flight == 0 && not (can_send_next s) then first_sent s.queue.pending now else
+    if length s.queue.in_flight == 0 && not (can_send_next s) then first_sent (asks_at_once s) s.queue.pending now else
     acts_of_sending (pieces_waiting s.queue.pending) s now
 
 -- the message of the piece at this index in flight, if there is one, is abandoned

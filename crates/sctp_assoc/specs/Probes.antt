@@ -37,6 +37,7 @@ timed_out_by probing s = record s {
   is_after_timeout = (sender_behind probing s).is_after_timeout;
   burst_room = (sender_behind probing s).burst_room;
   fresh_tsn = (sender_behind probing s).fresh_tsn;
+  is_round_over = (sender_behind probing s).is_round_over;
 }
 
 abbrev pub timed_out_sender : Shown → Sender

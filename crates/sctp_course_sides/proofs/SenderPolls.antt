@@ -61,7 +61,7 @@ old_is (Act.SentAgain by index) g = tt
 old_is act g = absurd g
 
 new_is : (act : Act) → GivesNew act → IsOfPoll act
-new_is (Act.Sent now) g = tt
+new_is (Act.Sent at_once now) g = tt
 new_is act g = absurd g
 
 are_of_poll_if : (exchanges : Bool) (a : Shown) (now : ℕ) → exchanges_data a.state ≡ exchanges

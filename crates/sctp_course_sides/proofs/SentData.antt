@@ -136,7 +136,7 @@ flagged_same message x = same_if (is_of message x) x _ refl
 
 -- What an act may be that a poll does, or a timeout.
 abbrev pub IsOfPoll : Act → Type 0
-IsOfPoll (Act.Sent now) = ⊤
+IsOfPoll (Act.Sent at_once now) = ⊤
 IsOfPoll (Act.SentAgain by index) = ⊤
 IsOfPoll Act.Marked = ⊤
 IsOfPoll (Act.Abandoned index) = ⊤
@@ -303,25 +303,25 @@ module _ (initial id : ℕ) (p : Parts) (c : Course) (h : LeadsData initial id p
 
   -- New DATA
 
-  sent_one : (now : ℕ) (ws : List Waiting) → p.queue.pending ≡ ws → Leads (Act.Sent now)
-  sent_one now [] e =
+  sent_one : (at_once : Bool) (now : ℕ) (ws : List Waiting) → p.queue.pending ≡ ws → Leads (Act.Sent at_once now)
+  sent_one at_once now [] e =
       let t = tsn p.history.own (p.history.base + length p.queue.in_flight) in
       let r : Parts = record p { queue = sent_from [] p.queue now } in
-      stays initial id (Act.Sent now) p r c tt
+      stays initial id (Act.Sent at_once now) p r c tt
       (ap (λ (ws : List Waiting). record p { queue = sent_from ws p.queue now }) e) refl h refl h.stand
-      (subst (λ (ws : List Waiting). AllByRecursion (IsOfCourse initial id c) (next_chunks ws t)) (sym e) tt)
-  sent_one now (m ∷ ms) e =
+      (subst (λ (ws : List Waiting). AllByRecursion (IsOfCourse initial id c) (next_chunks at_once ws t)) (sym e) tt)
+  sent_one at_once now (m ∷ ms) e =
       let t = tsn p.history.own (p.history.base + length p.queue.in_flight) in
       let r : Parts = record p { queue = sent_from (m ∷ ms) p.queue now } in
       let at : t ≡ tsn initial c.assigned =
       ap (λ (own : ℕ). tsn own (p.history.base + length p.queue.in_flight)) h.own
       ∙ ap (tsn initial) (sym h.assigned) in
-      takes initial id (Act.Sent now) p r c tt
+      takes initial id (Act.Sent at_once now) p r c tt
       (ap (λ (ws : List Waiting). record p { queue = sent_from ws p.queue now }) e) refl h (sent_once now m)
       (one_more p.queue.in_flight (sent_once now m)) (λ mine s. s)
       (first_waits id p.queue m ms e)
       (λ d one mine.
-      subst (λ (ws : List Waiting). AllByRecursion (IsOfCourse initial id d) (next_chunks ws t)) (sym e)
+      subst (λ (ws : List Waiting). AllByRecursion (IsOfCourse initial id d) (next_chunks at_once ws t)) (sym e)
       (record { offset = c.assigned; assigned = just_past c.assigned d.assigned one; is = at; mine = mine }, tt))
 
   -- DATA again
@@ -411,7 +411,7 @@ module _ (initial id : ℕ) (p : Parts) (c : Course) (h : LeadsData initial id p
 
   -- each act of a poll
   pub act_sends : (act : Act) → IsOfPoll act → Leads act
-  act_sends (Act.Sent now) ours = sent_one now p.queue.pending refl
+  act_sends (Act.Sent at_once now) ours = sent_one at_once now p.queue.pending refl
   act_sends (Act.SentAgain by index) ours = sent_again by index (slice_get p.queue.in_flight index) refl
   act_sends Act.Marked ours =
       stays initial id Act.Marked p (done Act.Marked p) c tt refl refl h (length-map p.queue.in_flight marked_again)

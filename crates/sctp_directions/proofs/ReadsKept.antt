@@ -187,7 +187,7 @@ only_ends_close_reads (Act.Wrote id named bytes) p s can others kept =
 only_ends_close_reads (Act.Adjusted id setting) p s can others kept =
     kept_changed (λ t. with_setting t setting) (stream_at p.streams id) p.streams id s refl
     (λ t. setting_leaves setting t) kept
-only_ends_close_reads (Act.Sent now) p s can others kept = kept
+only_ends_close_reads (Act.Sent at_once now) p s can others kept = kept
 only_ends_close_reads (Act.SentAgain by index) p s can others kept = kept
 only_ends_close_reads (Act.SpansEnded ids m) p s can others kept = kept_beside ids p.streams m s can others kept
 only_ends_close_reads Act.Marked p s can others kept = kept
@@ -225,7 +225,7 @@ own_acts_end_no_span (Act.PeerKnown t) s own ends = ends
 own_acts_end_no_span (Act.Opened id first kind) s own ends = ends
 own_acts_end_no_span (Act.Wrote id named bytes) s own ends = ends
 own_acts_end_no_span (Act.Adjusted id setting) s own ends = ends
-own_acts_end_no_span (Act.Sent now) s own ends = ends
+own_acts_end_no_span (Act.Sent at_once now) s own ends = ends
 own_acts_end_no_span (Act.SentAgain by index) s own ends = ends
 own_acts_end_no_span (Act.SpansEnded ids m) s own ends = own
 own_acts_end_no_span Act.Marked s own ends = ends
@@ -247,7 +247,7 @@ what_comes_ends_no_span (Act.PeerKnown t) s comes ends = ends
 what_comes_ends_no_span (Act.Opened id first kind) s comes ends = ends
 what_comes_ends_no_span (Act.Wrote id named bytes) s comes ends = ends
 what_comes_ends_no_span (Act.Adjusted id setting) s comes ends = ends
-what_comes_ends_no_span (Act.Sent now) s comes ends = ends
+what_comes_ends_no_span (Act.Sent at_once now) s comes ends = ends
 what_comes_ends_no_span (Act.SentAgain by index) s comes ends = ends
 what_comes_ends_no_span (Act.SpansEnded ids m) s comes ends = comes
 what_comes_ends_no_span Act.Marked s comes ends = ends

@@ -90,8 +90,8 @@ pub data Act : Type 0 where
   Adjusted : ℕ → Setting → Act
   -- the spans of these streams ended, and the live streams are these
   SpansEnded : List ℕ → StreamMap → Act
-  -- the next piece that waits got the next offset and went out, at this moment
-  Sent : ℕ → Act
+  -- the next piece that waits got the next offset and went out, at this moment; it may have asked for its SACK at once
+  Sent : Bool → ℕ → Act
   -- the piece in flight that is so many offsets past the first one went out again, for a reason
   SentAgain : Retransmission → ℕ → Act
   -- all that is outstanding is to go out again
@@ -221,7 +221,7 @@ done (Opened id first kind) p = record p { streams = made p.streams id first kin
 done (Wrote id named bytes) p = with_written (stream_at p.streams id) p id named bytes
 done (Adjusted id setting) p = record p { streams = changed_stream (λ s. with_setting s setting) p.streams id }
 done (SpansEnded ids m) p = record p { streams = m }
-done (Sent now) p = record p { queue = sent_next p.queue now }
+done (Sent at_once now) p = record p { queue = sent_next p.queue now }
 done (SentAgain by index) p = record p { queue = changed_at (counted_again by) p.queue index }
 done Marked p = record p { queue = all_marked p.queue }
 done (Acknowledged n blocks missing) p = with_reports missing (with_acknowledged n blocks p)
@@ -282,7 +282,7 @@ pub record IsAhead (h : History) (t : ℕ) : Type 0 where
 -- an act can be done where the parts stand so
 abbrev pub Can : Act → Parts → Type 0
 Can (SpansEnded ids m) p = (t : ℕ) → mem t ids ≡ false → stream_at m t ≡ stream_at p.streams t
-Can (Sent now) p = is_some (slice_get p.queue.pending 0) ≡ true
+Can (Sent at_once now) p = is_some (slice_get p.queue.pending 0) ≡ true
 Can (SentAgain by index) p = can_go_again (slice_get p.queue.in_flight index) ≡ true
 Can (Acknowledged n blocks missing) p = n ≤ length p.queue.in_flight
 Can (Abandoned index) p = can_abandon (slice_get p.queue.in_flight index) ≡ true
@@ -305,8 +305,8 @@ chunk_said (Some p) t = chunk_of p t ∷ []
 
 -- the DATA that an act gives out
 abbrev pub data_given : Act → Parts → List ChunkPayloadData
-data_given (Sent now) p =
-    next_chunks p.queue.pending (tsn p.history.own (p.history.base + length p.queue.in_flight))
+data_given (Sent at_once now) p =
+    next_chunks at_once p.queue.pending (tsn p.history.own (p.history.base + length p.queue.in_flight))
 data_given (SentAgain by index) p =
     chunk_said (slice_get p.queue.in_flight index) (tsn p.history.own (p.history.base + index))
 data_given act p = []
@@ -325,7 +325,7 @@ IsNotPeerKnown act = Unit {0}
 abbrev pub IsOfItsOwn : Act → Type 0
 IsOfItsOwn (Wrote id named bytes) = Unit {0}
 IsOfItsOwn (Adjusted id setting) = Unit {0}
-IsOfItsOwn (Sent now) = Unit {0}
+IsOfItsOwn (Sent at_once now) = Unit {0}
 IsOfItsOwn (SentAgain by index) = Unit {0}
 IsOfItsOwn Marked = Unit {0}
 IsOfItsOwn (Acknowledged n blocks missing) = Unit {0}

@@ -8,16 +8,17 @@ use Rattle.std.specs.List.{AllByRecursion}
 use Rattle.std.proofs.Math.Dec.{eqb-suc-zero}
 use Rattle.std.proofs.lemmas.Bool.{and_parts, cases_Bool, cases_lt, cond_both, cond-true, cond-false}
 use Rattle.std.proofs.lemmas.Bool.{false_from_ne_true, not-true, true_from_ne_false, true≢false}
+use Rattle.sctp_wire_types.specs.declared.chunk.ChunkPayloadData.{ChunkPayloadData}
 use Rattle.sctp_outbound_queue.specs.declared.message.InFlight.{InFlight}
 use Rattle.sctp_outbound_queue.specs.Waiting.{Waiting}
 use Rattle.sctp_outbound_queue.specs.Message.{sent_once, without_piece}
 use Rattle.sctp_outbound_queue.specs.Outbound.{left_behind, sent_from}
-use Rattle.sctp_outbound.specs.Sender.{next_chunk_of}
+use Rattle.sctp_outbound.specs.Sender.{chunk_of, next_chunk_of}
 use Rattle.sctp_streams.specs.Stream.{StreamView}
 use Rattle.sctp_streams.specs.Streams.{stream_at}
 use Rattle.sctp_serial.specs.Serial.{tsn}
 use Rattle.sctp_model.specs.Messages.{Place, Plan, is_last, is_last_piece, message_at, piece_of, place_at}
-use Rattle.sctp_model.specs.Packets.{data_of, mem}
+use Rattle.sctp_model.specs.Packets.{Data, data_of, mem}
 use Rattle.sctp_model.specs.Machine.{Direction, Event, Sender, first_place, following, is_unsent, left_after, next_data}
 use Rattle.sctp_model.specs.Machine.{put, put_2, run, with_place}
 use Rattle.sctp_model.specs.Invariants.{Invariant, IsGoing}
@@ -40,6 +41,24 @@ none_past w inv o l = false_from_ne_true _ (λ (a : w.sender.acknowledged o ≡ 
     (λ (m : mem o w.receiver.taken ≡ true). let t = (inv.taken o m).0 in omega arith)
     (λ (b : o < w.receiver.passed). let t = inv.passed in omega arith)
     (inv.acknowledged o a))
+
+-- it is the same DATA, whether it asks for its SACK at once or not
+said_asking : (over : ℕ → Bool) (initial : ℕ) (at_once : Bool) (c : ChunkPayloadData) (d : Data)
+    → IsSaid over initial c d → IsSaid over initial (record c { immediate_sack = at_once }) d
+said_asking over initial at_once c d said = record {
+  stream = said.stream;
+  tsn = said.tsn;
+  carries = λ v.
+      (let x = said.carries v in record {
+        tsn = x.tsn;
+        ssn = x.ssn;
+        ordered = x.ordered;
+        first = x.first;
+        last = x.last;
+        payload_type = x.payload_type;
+        bytes = x.bytes;
+      });
+}
 
 -- Pieces
 
@@ -135,13 +154,15 @@ module _ (n : Names) (w : Direction) (inv : Invariant w) (x : Waiting) (y : Plac
   }
 
   -- it is said to be the DATA of that offset
-  said : (own : ℕ) → ((s : ℕ) → w.over s ≡ false → n.within s ≡ true)
-      → IsSaid w.over own (next_chunk_of x (tsn own (length w.sender.plan.places))) (next_data w.sender y)
-  said own within =
-      subst (λ z. IsSaid w.over own (next_chunk_of x (tsn own (length w.sender.plan.places)))
+  said : (own : ℕ) (at_once : Bool) → ((s : ℕ) → w.over s ≡ false → n.within s ≡ true)
+      → IsSaid w.over own (next_chunk_of at_once x (tsn own (length w.sender.plan.places))) (next_data w.sender y)
+  said own at_once within =
+      subst (λ z. IsSaid w.over own (next_chunk_of at_once x (tsn own (length w.sender.plan.places)))
       (data_of (with_place w.sender.plan y) (length w.sender.plan.places) z)) (sym now_on)
+      (said_asking w.over own at_once (chunk_of (sent_once 0 x) (tsn own (length w.sender.plan.places)))
+      (data_of (with_place w.sender.plan y) (length w.sender.plan.places) y)
       (said_at w.over own n within (with_place w.sender.plan y) (length w.sender.plan.places) y (sent_once 0 x) message
-      h.stream (carries 0))
+      h.stream (carries 0)))
 
   -- what waits once it went out
   waiting_left : (unsent : ℕ → ℕ → Bool) (numbers : ℕ → ℕ) (xs : List Waiting)
@@ -198,22 +219,22 @@ own_placed p y freed s (Some t) h = h
 
 -- What waits first goes out
 
-module _ (own : ℕ) (a : Sending) (now : ℕ) (w : Direction) (inv : Invariant w) (counts : CountsBegun w.sender)
-    (f : FitsOutgoing a w) (x : Waiting) (xs : List Waiting) (e : a.queue.pending ≡ x ∷ xs) where
+module _ (own : ℕ) (a : Sending) (at_once : Bool) (now : ℕ) (w : Direction) (inv : Invariant w)
+    (counts : CountsBegun w.sender) (f : FitsOutgoing a w) (x : Waiting) (xs : List Waiting) (e : a.queue.pending ≡ x ∷ xs) where
   -- the piece of the place y is DATA of the direction once it went out
   given : (y : Place) (c : Counters) → IsNextPiece f.named w.sender y x
-      → IsGiven own (with_piece w y c) (next_chunk_of x (tsn own (a.base + length a.queue.in_flight)))
+      → IsGiven own (with_piece w y c) (next_chunk_of at_once x (tsn own (a.base + length a.queue.in_flight)))
   given y c h = (
     length w.datas,
     next_data w.sender y,
     got_last w.datas _,
-    subst (λ o. IsSaid w.over own (next_chunk_of x (tsn own o)) (next_data w.sender y))
+    subst (λ o. IsSaid w.over own (next_chunk_of at_once x (tsn own o)) (next_data w.sender y))
         (let l =
         flight_length f.named w.sender.plan w.sender.acknowledged w.sender.gone w.sender.reach a.queue.in_flight
         f.flight in
         let b = f.base in
         let g : length w.sender.plan.places ≡ a.base + length a.queue.in_flight = omega arith in g)
-        (said f.named w inv x y h own (named_within a w f)),
+        (said f.named w inv x y h own at_once (named_within a w f)),
   )
 
   -- events that lead to the direction in which it went out are those by which the next piece is sent
@@ -221,7 +242,7 @@ module _ (own : ℕ) (a : Sending) (now : ℕ) (w : Direction) (inv : Invariant 
       → run events w ≡ with_piece w y c → IsNextPiece f.named w.sender y x
       → AreUnsent f.named (with_place w.sender.plan y) (is_unsent (with_piece w y c).sender) (λ s. 0) c.ssn xs
       → ((s : ℕ) → numbers_after c.ssn xs s ≡ numbers_after w.sender.ssn (x ∷ xs) s)
-      → IsSentBy own a now w events
+      → IsSentBy own a at_once now w events
   sent_by y c events sends is h all numbers = record {
     sends = sends;
     fits = subst (FitsOutgoing (sent a now)) (sym is)
@@ -246,8 +267,8 @@ module _ (own : ℕ) (a : Sending) (now : ℕ) (w : Direction) (inv : Invariant 
         }));
     given =
         subst (λ ps. AllByRecursion (IsGiven own (run events w))
-        (next_chunks ps (tsn own (a.base + length a.queue.in_flight)))) (sym e) (
-          subst (λ v. IsGiven own v (next_chunk_of x (tsn own (a.base + length a.queue.in_flight)))) (sym is)
+        (next_chunks at_once ps (tsn own (a.base + length a.queue.in_flight)))) (sym e) (
+          subst (λ v. IsGiven own v (next_chunk_of at_once x (tsn own (a.base + length a.queue.in_flight)))) (sym is)
               (given y c h),
           tt,
         );
@@ -256,7 +277,7 @@ module _ (own : ℕ) (a : Sending) (now : ℕ) (w : Direction) (inv : Invariant 
   -- the message that was begun goes on
   goes_on : (y : Place) → w.sender.current ≡ Some y → IsGoingOn f.named w.sender.plan y x
       → AreUnsent f.named w.sender.plan (is_unsent w.sender) (λ s. 0) w.sender.ssn xs
-      → (events : List Event) × IsSentBy own a now w events
+      → (events : List Event) × IsSentBy own a at_once now w events
   goes_on y c h all = (
     Event.GoOn ∷ [],
     sent_by y (counters_of w.sender) (Event.GoOn ∷ []) (tt, tt) (happens_go_on w y c)
@@ -281,7 +302,7 @@ module _ (own : ℕ) (a : Sending) (now : ℕ) (w : Direction) (inv : Invariant 
       → IsUnsent f.named w.sender.plan (is_unsent w.sender) 0 (number_at w.sender.ssn x.message) i x
       → AreUnsent f.named w.sender.plan (is_unsent w.sender) (put (λ s. 0) x.message.stream_identifier (suc i))
       (numbers_past w.sender.ssn x.message) xs
-      → (events : List Event) × IsSentBy own a now w events
+      → (events : List Event) × IsSentBy own a at_once now w events
   begins c i h all = ⊎_elim
       (λ (u : x.message.unordered ≡ true).
       by_events (record { events = first ∷ []; after = w.sender.next; sends = (tt, tt); leads = refl })
@@ -321,7 +342,7 @@ module _ (own : ℕ) (a : Sending) (now : ℕ) (w : Direction) (inv : Invariant 
           not-true _ (and_parts (not (w.sender.begun s i)) (not (w.sender.gone s i)) b).1
 
       by_events : (r : PassesTo w w.sender.next first) → (x.message.unordered ≡ false → r.after s ≡ i)
-          → (events : List Event) × IsSentBy own a now w events
+          → (events : List Event) × IsSentBy own a at_once now w events
       by_events r there =
           let b =
           happens_begin w s i x.message.stream_sequence_number r.after c h.is x.message.unordered
@@ -344,16 +365,16 @@ module _ (own : ℕ) (a : Sending) (now : ℕ) (w : Direction) (inv : Invariant 
   -- whichever it is
   next_sent : (c : Option Place) → w.sender.current ≡ c
       → AreWaiting f.named w.sender.plan (is_unsent w.sender) w.sender.ssn c (x ∷ xs)
-      → (events : List Event) × IsSentBy own a now w events
+      → (events : List Event) × IsSentBy own a at_once now w events
   next_sent None c (i, h, hs) = begins c i h hs
   next_sent (Some y) c (h, hs) = goes_on y c h hs
 
 -- A piece that goes out for the first time begins a message or goes on with one, and is DATA of the direction.
 pub sent_pieces_are_events : SentPiecesAreEvents
-sent_pieces_are_events own a now w can inv counts f = by_first a.queue.pending refl can f.waiting
+sent_pieces_are_events own a at_once now w can inv counts f = by_first a.queue.pending refl can f.waiting
   where
     by_first : (ps : List Waiting) → a.queue.pending ≡ ps → is_some (slice_get ps 0) ≡ true
         → AreWaiting f.named w.sender.plan (is_unsent w.sender) w.sender.ssn w.sender.current ps
-        → (events : List Event) × IsSentBy own a now w events
+        → (events : List Event) × IsSentBy own a at_once now w events
     by_first [] e some all = absurd (true≢false (sym some))
-    by_first (x ∷ xs) e some all = next_sent own a now w inv counts f x xs e w.sender.current refl all
+    by_first (x ∷ xs) e some all = next_sent own a at_once now w inv counts f x xs e w.sender.current refl all

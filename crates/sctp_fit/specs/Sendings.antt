@@ -1,5 +1,5 @@
 -- The laws of DATA that goes out, for the first time or again: each piece is DATA of the direction.
-use Rattle.std.specs.Prelude.{◌≡◌, ℕ, ◌+◌, true, List, [], ◌∷◌, length, slice_get, is_some, Some, ⊤}
+use Rattle.std.specs.Prelude.{◌≡◌, Bool, ℕ, ◌+◌, true, List, [], ◌∷◌, length, slice_get, is_some, Some, ⊤}
 use Rattle.std.specs.List.{AllByRecursion}
 use Rattle.sctp_wire_types.specs.declared.chunk.ChunkPayloadData.{ChunkPayloadData}
 use Rattle.sctp_outbound_queue.specs.declared.message.Attributes.{Attributes}
@@ -28,28 +28,29 @@ SendsNext (Event.Begin s i any) = ⊤
 SendsNext Event.GoOn = ⊤
 SendsNext e = ⊥
 
--- the next piece that waits, as DATA with this TSN
-abbrev pub next_chunks : List Waiting → ℕ → List ChunkPayloadData
-next_chunks [] t = []
-next_chunks (m ∷ ms) t = next_chunk_of m t ∷ []
+-- the next piece that waits, as DATA with this TSN, which may ask for its SACK at once
+abbrev pub next_chunks : Bool → List Waiting → ℕ → List ChunkPayloadData
+next_chunks at_once [] t = []
+next_chunks at_once (m ∷ ms) t = next_chunk_of at_once m t ∷ []
 
 -- the next piece that waits goes out at a moment
 abbrev pub sent : Sending → ℕ → Sending
 sent a now = record a { queue = sent_next a.queue now }
 
 -- The events of a direction by which an association with this initial TSN sends its next piece.
-pub record IsSentBy (own : ℕ) (a : Sending) (now : ℕ) (w : Direction) (events : List Event) : Type 0 where
+pub record IsSentBy (own : ℕ) (a : Sending) (at_once : Bool) (now : ℕ) (w : Direction) (events : List Event)
+    : Type 0 where
   pub sends : AllByRecursion SendsNext events
   pub fits : FitsOutgoing (sent a now) (run events w)
   pub given : AllByRecursion (IsGiven own (run events w))
-      (next_chunks a.queue.pending (tsn own (a.base + length a.queue.in_flight)))
+      (next_chunks at_once a.queue.pending (tsn own (a.base + length a.queue.in_flight)))
 
 -- A piece that goes out for the first time begins a message or goes on with one, and is DATA of the direction.
 abbrev pub SentPiecesAreEvents : Type 0
-SentPiecesAreEvents = (own : ℕ) (a : Sending) (now : ℕ) (w : Direction)
+SentPiecesAreEvents = (own : ℕ) (a : Sending) (at_once : Bool) (now : ℕ) (w : Direction)
     → is_some (slice_get a.queue.pending 0) ≡ true
     → Invariant w → CountsBegun w.sender → FitsOutgoing a w
-    → (events : List Event) × IsSentBy own a now w events
+    → (events : List Event) × IsSentBy own a at_once now w events
 
 -- An outstanding piece that goes out again, for whatever reason, is that of its offset, and is DATA of the direction.
 abbrev pub PiecesAreGiven : Type 0

@@ -20,7 +20,8 @@ use Rattle.sctp_outbound.specs.declared.recovery.Heard.{Heard}
 use Rattle.sctp_outbound.specs.declared.sender.Sender.{Sender}
 use Rattle.sctp_outbound.specs.Congestion.{halved}
 use Rattle.sctp_outbound.specs.GapAcks.{acked_among, with_blocks}
-use Rattle.sctp_outbound.specs.Recovery.{acknowledges_fresh, exit_of, goes_on, in_front_of, is_among_last, is_lost}
+use Rattle.sctp_outbound.specs.Recovery.{acknowledges_fresh, ends_round, exit_of, goes_on, in_front_of, is_among_last}
+use Rattle.sctp_outbound.specs.Recovery.{is_lost}
 use Rattle.sctp_outbound.specs.Recovery.{is_made_due, misses_counted, missing_of, past_recovery, recovers, reports_by}
 use Rattle.sctp_outbound.specs.Recovery.{tells_nothing}
 use Rattle.sctp_outbound.specs.Sacks.{all_acknowledged, before_acknowledging, brought_by, fresh_of, grown_by, heard_by}
@@ -48,7 +49,7 @@ reports_from h rfc recovering waiting flying outstanding payload = record {
       if h.moved then flying else 0);
   among =
       (if not rfc then amongs.Outstanding else
-      if is_among_last h.newest h.fresh flying then amongs.Flying else amongs.NotResent);
+      if h.is_round_over && is_among_last h.newest h.fresh flying then amongs.Flying else amongs.NotResent);
   enough =
       (if rfc && (not (nat_lt 0 waiting) && (nat_le flying h.reach && nat_le outstanding payload)) then 1 else 3);
 }
@@ -148,7 +149,7 @@ module _ (s : Sender) (cumulative_tsn_ack : ℕ) (blocks : List GapAckBlock) (wi
 pub heard_is : {n fresh reach : ℕ} {newest : Option ℕ} (s : Sender) (cumulative_tsn_ack : ℕ)
     (blocks : List GapAckBlock) → n ≡ tsns_up_to s cumulative_tsn_ack
     → newest ≡ newest_of s cumulative_tsn_ack blocks → fresh ≡ fresh_of s → reach ≡ reach_of blocks
-    → record { moved = nat_lt 0 n; newest = newest; fresh = fresh; reach = reach }
+    → record { moved = nat_lt 0 n; newest = newest; fresh = fresh; is_round_over = s.is_round_over; reach = reach }
     ≡ heard_by s cumulative_tsn_ack blocks
 heard_is s cumulative_tsn_ack blocks count newest fresh reach = rw (count, newest, fresh, reach) refl
 
@@ -200,14 +201,18 @@ none_due h s none lost =
     either_none (is_rfc s.profile) (is_lost h s) (if recovers s then h.moved else is_lost h s) lost
     (ap (λ (z : Bool). if z then h.moved else is_lost h s) none ∙ lost)
 
--- the sender by what is found and due
-abbrev counted_by : Bool → Bool → Reports → Sender → Sender
-counted_by found due r s = record s {
+none_ended : (h : Heard) (s : Sender) → h.newest ≡ None → ends_round h s ≡ false
+none_ended h s none = ap (λ (z : Option ℕ). is_among_last z h.fresh (length s.queue.in_flight)) none
+
+-- the sender by what is found, is due, and ends a round trip
+abbrev counted_by : Bool → Bool → Bool → Reports → Sender → Sender
+counted_by found due ends r s = record s {
   queue = with_missing r s.queue;
   congestion = (if found then halved s.mtu s.congestion else s.congestion);
   recovery_exit = (if found then Some (exit_of r s) else s.recovery_exit);
   is_fast_due = s.is_fast_due || due;
-  fresh_tsn = (if due then next_tsn_of s.queue else s.fresh_tsn);
+  fresh_tsn = (if due || (ends && not s.is_round_over) then next_tsn_of s.queue else s.fresh_tsn);
+  is_round_over = not due && (s.is_round_over || ends);
 }
 
 pub nothing_counted : (h : Heard) (s : Sender) → tells_nothing h s ≡ true → s ≡ misses_counted h s
@@ -217,9 +222,14 @@ nothing_counted h s nothing =
     let lost = none_lost h s few none.2 in
     let r = reports_by h s in
     sym (
-    ap (λ (z : Bool). counted_by (z && not (recovers s)) (is_made_due h s) r s) lost
-    ∙ ap (λ (z : Bool). counted_by false z r s) (none_due h s none.1 lost)
-    ∙ ap (λ (z : Outbound). record s { queue = z; is_fast_due = s.is_fast_due || false })
-    (none_reported r s.queue few)
-    ∙ ap (λ (z : Bool). record s { is_fast_due = z }) (or_false s.is_fast_due)
+    ap (λ (z : Bool). counted_by (z && not (recovers s)) (is_made_due h s) (ends_round h s) r s) lost
+    ∙ ap (λ (z : Bool). counted_by false z (ends_round h s) r s) (none_due h s none.1 lost)
+    ∙ ap (λ (z : Bool). counted_by false false z r s) (none_ended h s none.0)
+    ∙ ap (λ (z : Outbound). record s {
+      queue = z;
+      is_fast_due = s.is_fast_due || false;
+      is_round_over = s.is_round_over || false;
+    }) (none_reported r s.queue few)
+    ∙ ap (λ (z : Bool). record s { is_fast_due = z; is_round_over = s.is_round_over || false }) (or_false s.is_fast_due)
+    ∙ ap (λ (z : Bool). record s { is_round_over = z }) (or_false s.is_round_over)
     )

@@ -46,12 +46,17 @@ abbrev pub is_among_last : Option ℕ → ℕ → ℕ → Bool
 is_among_last None fresh count = false
 is_among_last (Some last) fresh count = nat_le (count - last) fresh
 
--- a SACK newly acknowledges what was first sent after whatever went again
+-- A SACK newly acknowledges what was first sent after whatever went again: a round trip is over since then.
+abbrev pub ends_round : Heard → Sender → Bool
+ends_round h s = is_among_last h.newest h.fresh (length s.queue.in_flight)
+
+-- A SACK newly acknowledges what was first sent a round trip after whatever went again. What was only overtaken has
+-- come by then.
 abbrev pub acknowledges_fresh : Heard → Sender → Bool
-acknowledges_fresh h s = is_among_last h.newest h.fresh (length s.queue.in_flight)
+acknowledges_fresh h s = h.is_round_over && ends_round h s
 
 -- Which of them it counts for. By the rules of the RFCs these fly; and it tells of one that was sent again only where it
--- newly acknowledges what was first sent later.
+-- newly acknowledges what was first sent a round trip later.
 abbrev pub among_of : Heard → Sender → Among
 among_of h s =
     if not (is_rfc s.profile) then amongs.Outstanding else
@@ -74,7 +79,7 @@ reports_by h s = record { count = missing_of h s; among = among_of h s; enough =
 
 -- Fast retransmission goes on as long as pieces are to go again by it, and none that T3-rtx marked is. While a loss is
 -- recovered from, it does with a SACK that moves the cumulative TSN ack point, or that newly acknowledges what was first
--- sent after whatever went again: what is only late has come by then.
+-- sent a round trip after whatever went again.
 abbrev pub goes_on : Heard → Sender → Outbound → Bool
 goes_on h s q =
     (h.moved || not (recovers s) || acknowledges_fresh h s) && (marked_of q.in_flight == 0 && any_missing q)
@@ -108,14 +113,20 @@ exit_of r s =
 abbrev pub tells_nothing : Heard → Sender → Bool
 tells_nothing h s = not (is_some h.newest) && not (recovers s) && not (any_missing s.queue)
 
--- What a SACK reports missing was counted. Where that finds a loss the congestion window falls; where fast
--- retransmission is due, what is sent next for the first time is sent after it.
+-- What is sent next for the first time is sent after what is due to go again now, or, where a round trip is over, a
+-- round trip after what went again at last.
+abbrev pub with_round : Bool → Bool → ℕ → Sender → Sender
+with_round due ends next s = record s {
+  fresh_tsn = (if due || (ends && not s.is_round_over) then next else s.fresh_tsn);
+  is_round_over = not due && (s.is_round_over || ends);
+}
+
+-- What a SACK reports missing was counted. Where that finds a loss the congestion window falls.
 abbrev pub misses_counted : Heard → Sender → Sender
 misses_counted h s =
-    let r = reports_by h s in record s {
+    let r = reports_by h s in with_round (is_made_due h s) (ends_round h s) (next_tsn_of s.queue) (record s {
       queue = with_missing r s.queue;
       congestion = (if finds_loss h s then halved s.mtu s.congestion else s.congestion);
       recovery_exit = (if finds_loss h s then Some (exit_of r s) else s.recovery_exit);
       is_fast_due = s.is_fast_due || is_made_due h s;
-      fresh_tsn = (if is_made_due h s then next_tsn_of s.queue else s.fresh_tsn);
-    }
+    })

@@ -72,7 +72,8 @@ abbrev pub newest_of : Sender → ℕ → List GapAckBlock → Option ℕ
 newest_of s cumulative_tsn_ack blocks =
     last_new (λ j. is_named (j + 1) blocks) 0 (drop (tsns_up_to s cumulative_tsn_ack) s.queue.in_flight)
 
--- how many in flight, of the last ones, were first sent after whatever went again
+-- How many in flight, of the last ones, were first sent after whatever went again, and once a round trip is over since,
+-- a round trip after it.
 abbrev pub fresh_of : Sender → ℕ
 fresh_of s = tsn_past s.fresh_tsn (next_tsn_of s.queue)
 
@@ -86,6 +87,7 @@ heard_by s cumulative_tsn_ack blocks = record {
   moved = nat_lt 0 (tsns_up_to s cumulative_tsn_ack);
   newest = newest_of s cumulative_tsn_ack blocks;
   fresh = fresh_of s;
+  is_round_over = s.is_round_over;
   reach = reach_of blocks;
 }
 

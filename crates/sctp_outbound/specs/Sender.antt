@@ -50,6 +50,7 @@ fresh_sender profile size tsn window = record {
   is_after_timeout = false;
   burst_room = burst_of (size + 28);
   fresh_tsn = tsn;
+  is_round_over = false;
 }
 
 -- the peer's receive window less the bytes in flight
@@ -151,6 +152,7 @@ expired_by rfc s = record s {
   is_after_timeout = (if rfc then true else s.is_after_timeout);
   burst_room = (if rfc then burst_of s.mtu else s.burst_room);
   fresh_tsn = next_tsn_of s.queue;
+  is_round_over = false;
 }
 
 abbrev pub after_t3_timeout : Sender → Sender
@@ -162,6 +164,7 @@ probe_marked s = record s {
   queue = all_marked s.queue;
   is_after_timeout = false;
   fresh_tsn = next_tsn_of s.queue;
+  is_round_over = false;
 }
 
 -- T3-rtx, without retries where a TSN was acknowledged for the first time
@@ -181,13 +184,13 @@ abbrev pub t3_after_sack : Progress → ℕ → ℕ → ℕ → Timers → Timer
 t3_after_sack p left now rto t =
     if nat_lt 0 left then restarted_if_stale names.T3RTX now rto (t3_cleared p t) else with_stopped names.T3RTX t
 
--- a piece of a message, as DATA (RFC 4960 section 3.3.1)
-abbrev pub data_of : Attributes → Bool → Bool → List ℕ → ℕ → ChunkPayloadData
-data_of a begins ends bytes tsn = record {
+-- a piece of a message, as DATA (RFC 4960 section 3.3.1), which may ask for its SACK at once (RFC 7053)
+abbrev pub data_of : Attributes → Bool → Bool → Bool → List ℕ → ℕ → ChunkPayloadData
+data_of a begins ends at_once bytes tsn = record {
   unordered = a.unordered;
   beginning_fragment = begins;
   ending_fragment = ends;
-  immediate_sack = false;
+  immediate_sack = at_once;
   tsn = tsn;
   stream_identifier = a.stream_identifier;
   stream_sequence_number = a.stream_sequence_number;
@@ -197,11 +200,16 @@ data_of a begins ends bytes tsn = record {
 
 -- a piece in flight
 abbrev pub chunk_of : InFlight → ℕ → ChunkPayloadData
-chunk_of p tsn = data_of p.message p.beginning_fragment p.ending_fragment p.user_data tsn
+chunk_of p tsn = data_of p.message p.beginning_fragment p.ending_fragment false p.user_data tsn
 
 -- the next piece of a message that waits
-abbrev pub next_chunk_of : Waiting → ℕ → ChunkPayloadData
-next_chunk_of m tsn = data_of m.message (not m.begun) (length m.rest == 0) m.user_data tsn
+abbrev pub next_chunk_of : Bool → Waiting → ℕ → ChunkPayloadData
+next_chunk_of at_once m tsn = data_of m.message (not m.begun) (length m.rest == 0) at_once m.user_data tsn
+
+-- By the rules of the RFCs new DATA asks for its SACK at once where the congestion window is below three packets: its
+-- sender waits for that SACK, which its receiver would hold back for a second packet (RFC 7053).
+abbrev pub asks_at_once : Sender → Bool
+asks_at_once s = is_rfc s.profile && nat_lt s.congestion.cwnd (3 * s.mtu)
 
 abbrev pub with_in_flight : Sender → List InFlight → Sender
 with_in_flight s pieces = record s { queue = (let q = s.queue in record q { in_flight = pieces }) }
@@ -374,7 +382,7 @@ sent_one (m ∷ ms) s now = (
     queue = sent_next s.queue now;
     burst_room = s.burst_room - data_length (length m.user_data);
   },
-  next_chunk_of m (next_tsn_of s.queue) ∷ [],
+  next_chunk_of (asks_at_once s) m (next_tsn_of s.queue) ∷ [],
 )
 
 -- of the first n pieces that wait those go out, in the order in which they were accepted, that both windows have room

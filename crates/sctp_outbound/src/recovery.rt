@@ -2,9 +2,9 @@
 ghost use Rattle.std.specs.Prelude.{◌≡◌, ◌==◌, ◌&&◌, ◌||◌, not, if◌then◌else◌};
 ghost use Rattle.sctp_wire_types.specs.Config.{is_rfc};
 ghost use Rattle.sctp_outbound_queue.specs.Outbound.{any_missing, marked_of};
-ghost use Rattle.sctp_outbound.specs.Recovery.{acknowledges_fresh, among_of, enough_of, exit_of, is_left};
+ghost use Rattle.sctp_outbound.specs.Recovery.{acknowledges_fresh, among_of, ends_round, enough_of, exit_of, is_left};
 ghost use Rattle.sctp_outbound.specs.Recovery.{is_short, misses_counted, missing_of, past_recovery, recovers};
-ghost use Rattle.sctp_outbound.specs.Recovery.{reports_by, tells_nothing};
+ghost use Rattle.sctp_outbound.specs.Recovery.{reports_by, tells_nothing, with_round};
 
 use crate::sender::Sender;
 use sctp_outbound_queue::{Among, Reports};
@@ -16,8 +16,11 @@ pub struct Heard {
     pub moved: bool,
     /// Of those that this leaves in flight, the last index that its blocks newly acknowledge.
     pub newest: Option<usize>,
-    /// The last so many in flight were first sent after whatever went again.
+    /// The last so many in flight were first sent after whatever went again, and where `is_round_over` a round trip
+    /// after it.
     pub fresh: u32,
+    /// Since something went again at last, a SACK acknowledged what was first sent after it.
+    pub is_round_over: bool,
     /// Its blocks name none behind the first so many in flight.
     pub reach: usize,
 }
@@ -62,16 +65,26 @@ impl Sender {
         let next_tsn = self.queue.next_tsn();
         let exit = self.exit(&reports);
         let is_time = self.is_time(heard);
+        let ends_round = self.ends_round(heard);
         let any_last = self.queue.report_missing(&reports);
         let is_lost = self.is_lost(is_time, any_last);
         if is_lost && !recovers {
             self.recovery_exit = Some(exit);
             self.congestion.on_third_report(self.mtu);
         }
-        if self.is_due(heard, is_lost, recovers) {
-            self.is_fast_due = true;
+        let is_due = self.is_due(heard, is_lost, recovers);
+        self.is_fast_due = self.is_fast_due || is_due;
+        self.begin_round(is_due, ends_round, next_tsn);
+    }
+
+    // What is sent next for the first time is sent after what is due now, or a round trip after what went again.
+    fn begin_round(&mut self, is_due: bool, ends_round: bool, next_tsn: u32)
+        ensures { self.new ≡ with_round is_due ends_round next_tsn self.old }
+    {
+        if is_due || (ends_round && !self.is_round_over) {
             self.fresh_tsn = next_tsn;
         }
+        self.is_round_over = !is_due && (self.is_round_over || ends_round);
     }
 
     fn tells_nothing(&self, heard: &Heard) -> bool
@@ -120,6 +133,13 @@ impl Sender {
 
     fn acknowledges_fresh(&self, heard: &Heard) -> bool
         ensures { result ≡ acknowledges_fresh heard.now self.now }
+    {
+        heard.is_round_over && self.ends_round(heard)
+    }
+
+    // Whether a SACK newly acknowledges one of those that were first sent after whatever went again.
+    fn ends_round(&self, heard: &Heard) -> bool
+        ensures { result ≡ ends_round heard.now self.now }
     {
         match heard.newest {
             Some(newest) => {

@@ -13,7 +13,7 @@ ghost use Rattle.sctp_outbound.specs.Sacks.{fresh_of, progress_of, sack_taken};
 ghost use Rattle.sctp_outbound.specs.Progress.{any_new_up_to, is_new_piece};
 ghost use Rattle.sctp_outbound.specs.Sender.{after_t3_timeout};
 ghost use Rattle.sctp_outbound.specs.Sender.{sack_outcome, with_first_window, with_window, t3_after_sack, chunk_of};
-ghost use Rattle.sctp_outbound.specs.Sender.{next_chunk_of, data_of, can_send_next, is_measured};
+ghost use Rattle.sctp_outbound.specs.Sender.{asks_at_once, next_chunk_of, data_of, can_send_next, is_measured};
 ghost use Rattle.sctp_wire.specs.DataPackets.{with_all};
 ghost use Rattle.sctp_outbound.specs.Sender.{allows_new, burst_of, is_past_timeout, sent_new, sent_probing};
 ghost use Rattle.sctp_outbound.specs.Sender.{probe_marked, sent_one, sent_within};
@@ -88,8 +88,11 @@ pub struct Sender {
     pub is_after_timeout: bool,
     /// Bytes of chunks that new DATA may take up until the next SACK (`Profile::Rfc`).
     pub burst_room: u64,
-    /// What was sent again at last was so before this TSN was first sent (`Profile::Rfc`).
+    /// What was sent again at last was so before this TSN was first sent, and once `is_round_over` a round trip before
+    /// that (`Profile::Rfc`).
     pub fresh_tsn: u32,
+    /// Since something was sent again at last, a SACK acknowledged what was first sent after it (`Profile::Rfc`).
+    pub is_round_over: bool,
 }
 
 impl Sender {
@@ -119,6 +122,7 @@ impl Sender {
             is_after_timeout: false,
             burst_room: burst_of(mtu),
             fresh_tsn: initial_tsn,
+            is_round_over: false,
         }
     }
 
@@ -196,6 +200,7 @@ impl Sender {
         let before = self.queue.inflight_bytes();
         let any_marked = self.queue.marked_len() > 0;
         let fresh = self.fresh_pieces();
+        let is_round_over = self.is_round_over;
         let earliest = self.names_earliest(count, blocks);
         self.advertised_window = window;
         self.leave_recovery(count);
@@ -215,6 +220,7 @@ impl Sender {
             moved: count > 0,
             newest,
             fresh,
+            is_round_over,
             reach: reach(blocks),
         });
         self.run_t3(timers, rto, progress, now);
@@ -247,7 +253,8 @@ impl Sender {
         self.queue.first_tsn().wrapping_sub(1)
     }
 
-    // How many pieces, of the last ones in flight, were first sent after whatever went again.
+    // How many pieces, of the last ones in flight, were first sent after whatever went again, and once a round trip is
+    // over since, a round trip after it.
     fn fresh_pieces(&self) -> u32
         ensures { result ≡ fresh_of self.now }
     {
@@ -337,6 +344,7 @@ impl Sender {
         ensures { self.new ≡ after_t3_timeout self.old }
     {
         self.fresh_tsn = self.queue.next_tsn();
+        self.is_round_over = false;
         self.queue.mark_all_to_retransmit();
         self.congestion.on_t3_timeout(self.mtu);
         if self.is_by_rfcs() {
@@ -352,6 +360,7 @@ impl Sender {
         ensures { self.new ≡ probe_marked self.old }
     {
         self.fresh_tsn = self.queue.next_tsn();
+        self.is_round_over = false;
         self.queue.mark_all_to_retransmit();
         self.is_after_timeout = false;
     }
@@ -420,7 +429,8 @@ impl Sender {
             return Ok(false);
         };
         let room = data_length(message.user_data.len() as u64);
-        out.add_borrowed(&waiting_chunk(message, self.queue.next_tsn()))?;
+        let at_once = self.asks_at_once();
+        out.add_borrowed(&waiting_chunk(message, self.queue.next_tsn(), at_once))?;
         self.queue.send_next(now)?;
         self.burst_room = self.burst_room.saturating_sub(room);
         Ok(true)
@@ -448,6 +458,13 @@ impl Sender {
         self.is_past_timeout()
             && self.queue.marked_len() == 0
             && data_length(message.user_data.len() as u64) <= self.burst_room
+    }
+
+    // Whether new DATA asks for its SACK at once (RFC 7053).
+    fn asks_at_once(&self) -> bool
+        ensures { result ≡ asks_at_once self.now }
+    {
+        self.is_by_rfcs() && u64::from(self.congestion.cwnd) < 3 * u64::from(self.mtu)
     }
 
     // Whether nothing that T3-rtx had go again is still to be answered.
@@ -490,19 +507,21 @@ pub(crate) fn sent_chunk(piece: &InFlight, tsn: u32) -> DataRef<'_>
         &piece.message,
         piece.beginning_fragment,
         piece.ending_fragment,
+        false,
         &piece.user_data,
         tsn,
     )
 }
 
 // The next piece of a message that waits, as DATA.
-fn waiting_chunk(message: &PendingMessage, tsn: u32) -> DataRef<'_>
-    ensures { result ≡ next_chunk_of message.now tsn }
+fn waiting_chunk(message: &PendingMessage, tsn: u32, at_once: bool) -> DataRef<'_>
+    ensures { result ≡ next_chunk_of at_once message.now tsn }
 {
     data_chunk(
         &message.message,
         !message.begun,
         message.is_last_piece(),
+        at_once,
         &message.user_data,
         tsn,
     )
@@ -512,16 +531,17 @@ fn data_chunk<'a>(
     message: &Attributes,
     beginning_fragment: bool,
     ending_fragment: bool,
+    immediate_sack: bool,
     user_data: &'a Bytes,
     tsn: u32,
 ) -> DataRef<'a>
-    ensures { result ≡ data_of message.now beginning_fragment ending_fragment user_data.now tsn }
+    ensures { result ≡ data_of message.now beginning_fragment ending_fragment immediate_sack user_data.now tsn }
 {
     DataRef {
         unordered: message.unordered,
         beginning_fragment,
         ending_fragment,
-        immediate_sack: false,
+        immediate_sack,
         tsn,
         stream_identifier: message.stream_identifier,
         stream_sequence_number: message.stream_sequence_number,

@@ -43,7 +43,7 @@ use Rattle.sctp_pair.proofs.PollCall.{all_sent_is, complete_is_due}
 -- Where all was sent a poll sends nothing
 
 one_leaves_all_sent : (act : Act) (p : Parts) → IsOfPoll act → Can act p → IsAllSent p → IsAllSent (done act p)
-one_leaves_all_sent (Act.Sent now) p is can d =
+one_leaves_all_sent (Act.Sent at_once now) p is can d =
     absurd (no_message (λ (m : Option Waiting). is_some m) refl p 0 d can)
 one_leaves_all_sent (Act.SentAgain by index) p is can d = old_leaves_all_sent (Act.SentAgain by index) p tt can d
 one_leaves_all_sent (Act.Abandoned index) p is can d = old_leaves_all_sent (Act.Abandoned index) p tt can d

@@ -96,8 +96,8 @@ says_sent (m ∷ ms) q now =
 pub new_data_says_the_same : (acts : List Act) (p : Parts) → AllByRecursion GivesNew acts
     → SaysTheSame p.queue (done_all acts p).queue
 new_data_says_the_same [] p new = says_itself p.queue
-new_data_says_the_same (Act.Sent now ∷ acts) p (g, gs) =
-    let q : Parts = done (Act.Sent now) p in
+new_data_says_the_same (Act.Sent at_once now ∷ acts) p (g, gs) =
+    let q : Parts = done (Act.Sent at_once now) p in
     says_on p.queue q.queue (done_all acts q).queue (says_sent p.queue.pending p.queue now)
     (new_data_says_the_same acts q gs)
 new_data_says_the_same (act ∷ acts) p (g, gs) = absurd g

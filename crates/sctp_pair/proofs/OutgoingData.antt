@@ -158,15 +158,16 @@ module _ (x : Surroundings) (p : Parts) (h : Holds x p) where
     said = subst (λ o. AllByRecursion (IsGivenPiece o out2) given) h.own_is said;
   }
 
-  act_sent : (now : ℕ) → Can (Act.Sent now) p → AfterOut x (done (Act.Sent now) p) (data_given (Act.Sent now) p)
-  act_sent now can =
+  act_sent : (at_once : Bool) (now : ℕ) → Can (Act.Sent at_once now) p
+      → AfterOut x (done (Act.Sent at_once now) p) (data_given (Act.Sent at_once now) p)
+  act_sent at_once now can =
       let sent =
-      sent_pieces_are_events p.history.own (sending p) now x.out can h.sound_out.invariant h.sound_out.counts
+      sent_pieces_are_events p.history.own (sending p) at_once now x.out can h.sound_out.invariant h.sound_out.counts
       h.between.outgoing in
       let after = after_sendings sent.0 x sent.1.sends h.sound_out h.other in
-      act_at_sender (Act.Sent now) (run sent.0 x.out) (data_given (Act.Sent now) p) can tt tt
+      act_at_sender (Act.Sent at_once now) (run sent.0 x.out) (data_given (Act.Sent at_once now) p) can tt tt
       (λ s n. n) after sent.1.fits
-      (next_pieces_given p.history.own (sending p) now (run sent.0 x.out) after.sound.invariant sent.1.fits
+      (next_pieces_given p.history.own (sending p) at_once now (run sent.0 x.out) after.sound.invariant sent.1.fits
       sent.1.given)
 
   -- an act by which a message is given up, or a piece goes out again
@@ -348,10 +349,10 @@ all_old (act ∷ acts) x p (g, gs) (can, cans) h =
 pub all_new : (xs : List Act) (x : Surroundings) (p : Parts) → AllByRecursion GivesNew xs → CanAll xs p → Holds x p
     → AfterOut x (done_all xs p) (all_data_given xs p)
 all_new [] x p g can h = record { out2 = x.out; goes = goes_nowhere None_brought x.out; holds = h; said = tt }
-all_new (Act.Sent now ∷ acts) x p (g, gs) (can, cans) h =
-    let one = act_sent x p h now can in
-    let q : Parts = done (Act.Sent now) p in
-    after_both x (done_all acts q) one.out2 (data_given (Act.Sent now) p) (all_data_given acts q) one.goes one.said
+all_new (Act.Sent at_once now ∷ acts) x p (g, gs) (can, cans) h =
+    let one = act_sent x p h at_once now can in
+    let q : Parts = done (Act.Sent at_once now) p in
+    after_both x (done_all acts q) one.out2 (data_given (Act.Sent at_once now) p) (all_data_given acts q) one.goes one.said
     (all_new acts (record x { out = one.out2 }) q gs cans one.holds)
 all_new (act ∷ acts) x p (g, gs) (can, cans) h = absurd g
 
@@ -360,7 +361,7 @@ pub all_new_stays : (xs : List Act) (x : Surroundings) (p : Parts) (g : AllByRec
     (h : Holds x p) → IsAllSent p → (all_new xs x p g can h).out2 ≡ x.out
 unfolding all_new
 all_new_stays [] x p g can h d = refl
-all_new_stays (Act.Sent now ∷ acts) x p (g, gs) (can, cans) h d =
+all_new_stays (Act.Sent at_once now ∷ acts) x p (g, gs) (can, cans) h d =
     absurd (no_message (λ (m : Option Waiting). is_some m) refl p 0 d can)
 all_new_stays (act ∷ acts) x p (g, gs) can h d = absurd g
 

@@ -1,5 +1,5 @@
 -- DATA that an association gives out is a piece of a message that it accepted, on a stream past its span, too.
-use Rattle.std.proofs.Common.{◌≡◌, refl, sym, ap, ◌∙◌, subst, ℕ, ◌+◌, ◌<◌, true, false, not, List, [], ◌∷◌}
+use Rattle.std.proofs.Common.{◌≡◌, refl, sym, ap, ◌∙◌, subst, ℕ, ◌+◌, ◌<◌, Bool, true, false, not, List, [], ◌∷◌}
 use Rattle.std.proofs.Common.{length, Option, Some, None}
 use Rattle.std.specs.Prelude.{slice_get}
 use Rattle.std.specs.List.{AllByRecursion}
@@ -65,27 +65,50 @@ module _ (own : ℕ) (a : Sending) (w : Direction) (inv : Invariant w) (f : Fits
   again_is_accepted k (Some x) there can =
       (flying_is_accepted k x there (not-true _ (and_parts (not x.acked) (not x.abandoned) can).1), tt)
 
+-- it is the same piece, whether it asks for its SACK at once or not
+asked_is_accepted : (own : ℕ) (p : Plan) (at_once : Bool) (c : ChunkPayloadData) → IsAcceptedPiece own p c
+    → IsAcceptedPiece own p (record c { immediate_sack = at_once })
+asked_is_accepted own p at_once c piece =
+    let x = piece.of_plan in record {
+      of_plan = record {
+        offset = x.offset;
+        known = x.known;
+        is = x.is;
+        sent = x.sent;
+        stream = x.stream;
+        first = x.first;
+        last = x.last;
+        bytes = x.bytes;
+      };
+      accepted = piece.accepted;
+      payload_type = piece.payload_type;
+    }
+
 -- and the next one that waits, once it went out
-next_is_accepted : (own : ℕ) (a : Sending) (now : ℕ) (v : Direction) → Invariant v → FitsOutgoing (sent a now) v
+next_is_accepted : (own : ℕ) (a : Sending) (at_once : Bool) (now : ℕ) (v : Direction) → Invariant v → FitsOutgoing (sent a now) v
     → (ms : List Waiting) → a.queue.pending ≡ ms
-    → AllByRecursion (IsAcceptedPiece own v.sender.plan) (next_chunks ms (tsn own (a.base + length a.queue.in_flight)))
-next_is_accepted own a now v inv f [] e = tt
-next_is_accepted own a now v inv f (m ∷ ms) e = (
-  flying_is_accepted own (sent a now) v inv f (length a.queue.in_flight) (sent_once now m)
-      (ap (λ (ps : List Waiting). slice_get (sent_from ps a.queue now).in_flight (length a.queue.in_flight)) e
-      ∙ got_last a.queue.in_flight (sent_once now m))
-      refl,
-  tt,
-)
+    → AllByRecursion (IsAcceptedPiece own v.sender.plan)
+    (next_chunks at_once ms (tsn own (a.base + length a.queue.in_flight)))
+next_is_accepted own a at_once now v inv f [] e = tt
+next_is_accepted own a at_once now v inv f (m ∷ ms) e =
+    let piece =
+    flying_is_accepted own (sent a now) v inv f (length a.queue.in_flight) (sent_once now m)
+    (ap (λ (ps : List Waiting). slice_get (sent_from ps a.queue now).in_flight (length a.queue.in_flight)) e
+    ∙ got_last a.queue.in_flight (sent_once now m))
+    refl in (
+      asked_is_accepted own v.sender.plan at_once
+          (chunk_of (sent_once now m) (tsn own (a.base + length a.queue.in_flight))) piece,
+      tt,
+    )
 
 -- DATA that goes out for the first time
-pub next_pieces_given : (own : ℕ) (a : Sending) (now : ℕ) (v : Direction) → Invariant v → FitsOutgoing (sent a now) v
-    → AllByRecursion (IsGiven own v) (next_chunks a.queue.pending (tsn own (a.base + length a.queue.in_flight)))
-    → AllByRecursion (IsGivenPiece own v) (next_chunks a.queue.pending (tsn own (a.base + length a.queue.in_flight)))
-next_pieces_given own a now v inv f given =
+pub next_pieces_given : (own : ℕ) (a : Sending) (at_once : Bool) (now : ℕ) (v : Direction) → Invariant v → FitsOutgoing (sent a now) v
+    → AllByRecursion (IsGiven own v) (next_chunks at_once a.queue.pending (tsn own (a.base + length a.queue.in_flight)))
+    → AllByRecursion (IsGivenPiece own v) (next_chunks at_once a.queue.pending (tsn own (a.base + length a.queue.in_flight)))
+next_pieces_given own a at_once now v inv f given =
     all_both (IsGiven own v) (IsAcceptedPiece own v.sender.plan)
-    (next_chunks a.queue.pending (tsn own (a.base + length a.queue.in_flight))) given
-    (next_is_accepted own a now v inv f a.queue.pending refl)
+    (next_chunks at_once a.queue.pending (tsn own (a.base + length a.queue.in_flight))) given
+    (next_is_accepted own a at_once now v inv f a.queue.pending refl)
 
 -- and again
 pub pieces_given_again : (own : ℕ) (a : Sending) (k : ℕ) (w v : Direction) → Invariant w → FitsOutgoing a w

@@ -46,7 +46,7 @@ use Rattle.sctp_assoc.specs.Happened.{acts_of_unsent, forwards_of_poll}
 use Rattle.sctp_assoc.specs.Happened.{acts_of_ack, acts_of_checked, acts_of_chunk, acts_of_data_poll}
 use Rattle.sctp_assoc.specs.Happened.{acts_of_missing}
 use Rattle.sctp_outbound.specs.Sacks.{reports_of}
-use Rattle.sctp_outbound.specs.Sender.{fast_room}
+use Rattle.sctp_outbound.specs.Sender.{asks_at_once, fast_room}
 use Rattle.sctp_outbound.specs.declared.abandonment.Reason.{Reason}
 use Rattle.sctp_outbound.specs.declared.abandonment.Reason.TheVariants as reasons
 use Rattle.sctp_outbound.specs.Abandonment.{abandoned_if, first_dropped, has_late_tail, late_given_up, next_given_up}
@@ -437,21 +437,22 @@ late_gives a now =
 
 -- what goes out for the first time
 
-first_sent_gives : (ms : List Waiting) (now : ℕ) → AllByRecursion GivesNew (first_sent ms now)
-first_sent_gives [] now = tt
-first_sent_gives (m ∷ ms) now = (tt, tt)
+first_sent_gives : (at_once : Bool) (ms : List Waiting) (now : ℕ) → AllByRecursion GivesNew (first_sent at_once ms now)
+first_sent_gives at_once [] now = tt
+first_sent_gives at_once (m ∷ ms) now = (tt, tt)
 
 sending_gives : (n : ℕ) (s : Sender) (now : ℕ) → AllByRecursion GivesNew (acts_of_sending n s now)
 sending_gives zero s now = tt
 sending_gives (suc n) s now =
-    give_if GivesNew (can_send_next s) (Act.Sent now ∷ acts_of_sending n (sent_one s.queue.pending s now).0 now) []
+    give_if GivesNew (can_send_next s)
+    (Act.Sent (asks_at_once s) now ∷ acts_of_sending n (sent_one s.queue.pending s now).0 now) []
     (tt, sending_gives n (sent_one s.queue.pending s now).0 now) tt
 
 pub new_gives : (s : Sender) (now : ℕ) → AllByRecursion GivesNew (acts_of_new s now)
 new_gives s now =
-    give_if GivesNew (eqb (length s.queue.in_flight) 0 && not (can_send_next s)) (first_sent s.queue.pending now)
+    give_if GivesNew (eqb (length s.queue.in_flight) 0 && not (can_send_next s)) (first_sent (asks_at_once s) s.queue.pending now)
     (acts_of_sending (pieces_waiting s.queue.pending) s now)
-    (first_sent_gives s.queue.pending now) (sending_gives (pieces_waiting s.queue.pending) s now)
+    (first_sent_gives (asks_at_once s) s.queue.pending now) (sending_gives (pieces_waiting s.queue.pending) s now)
 
 -- the acts of a poll before new DATA goes out, and those by which it goes out
 abbrev pub old_acts : Shown → ℕ → List Act

@@ -261,7 +261,7 @@ old_is_no_write (Act.Wrote id named bytes) e = absurd e
 old_is_no_write act e = tt
 
 new_is_no_write : (act : Act) → GivesNew act → IsNoWrite act
-new_is_no_write (Act.Sent now) e = tt
+new_is_no_write (Act.Sent at_once now) e = tt
 new_is_no_write act e = absurd e
 
 data_poll_writes_nothing : (a : Shown) (now : ℕ) → AreNoWrites (acts_of_data_poll a now)

@@ -368,7 +368,7 @@ act_orderly (Act.Opened id first kind) p h = h
 act_orderly (Act.Wrote id named bytes) p h = written_orderly (stream_at p.streams id) p id named bytes h
 act_orderly (Act.Adjusted id setting) p h = h
 act_orderly (Act.SpansEnded ids m) p h = h
-act_orderly (Act.Sent now) p h = sent_orderly p.queue.pending p.queue now refl h
+act_orderly (Act.Sent at_once now) p h = sent_orderly p.queue.pending p.queue now refl h
 act_orderly (Act.SentAgain by index) p h =
     again_orderly by (slice_get p.queue.in_flight index) p.queue index refl h
 act_orderly Act.Marked p (pieces, rest) =

@@ -69,7 +69,7 @@ silent_spare (act ∷ xs) p (can, cans) none =
 
 new_spare : (xs : List Act) (p : Parts) → AllByRecursion GivesNew xs → AllSpare xs p
 new_spare [] p all = tt
-new_spare (Act.Sent now ∷ xs) p (one, more) = (tt, new_spare xs (done (Act.Sent now) p) more)
+new_spare (Act.Sent at_once now ∷ xs) p (one, more) = (tt, new_spare xs (done (Act.Sent at_once now) p) more)
 new_spare (act ∷ xs) p (one, more) = absurd one
 
 -- What goes out again

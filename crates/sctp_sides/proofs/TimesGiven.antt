@@ -197,7 +197,7 @@ module _ (under : Bool) (n o t : ℕ) (small : n < 2 ^ 32 - 1) where
   act_stands (Act.Wrote id named bytes) p can spares h = written_stands (stream_at p.streams id) p id named bytes h
   act_stands (Act.Adjusted id setting) p can spares h = same_stands p (done (Act.Adjusted id setting) p) refl refl h
   act_stands (Act.SpansEnded ids m) p can spares h = same_stands p (done (Act.SpansEnded ids m) p) refl refl h
-  act_stands (Act.Sent now) p can spares h = sent_stands p.queue.pending now p can h
+  act_stands (Act.Sent at_once now) p can spares h = sent_stands p.queue.pending now p can h
   act_stands (Act.SentAgain by index) p can spares h =
       again_stands (slice_get p.queue.in_flight index) by index p refl spares h
   act_stands Act.Marked p can spares h =
@@ -275,7 +275,7 @@ module _ (n o : ℕ) (p : Parts) (message : Attributes) (policy : message.policy
   act_under : (x : Act) → offset_given x p ≡ Some o
       → message_given x p.queue ≡ Some message
       → IsUnder n o (done x p).history.base (tallies (done x p).queue.in_flight)
-  act_under (Act.Sent now) at of =
+  act_under (Act.Sent at_once now) at of =
       sent_under p.queue.pending now (sym (same_value (p.history.base + length p.queue.in_flight) o at)) of
   act_under (Act.SentAgain by index) at of =
       again_under (slice_get p.queue.in_flight index) by index refl (sym (same_value (p.history.base + index) o at)) of

@@ -197,8 +197,8 @@ sent_in_time now moment (m ∷ ms) q h all = left_if now (length m.rest == 0) m 
 pub new_acts_in_time : (now : ℕ) (acts : List Act) (p : Parts) → AllByRecursion GivesNew acts
     → AreWaitingInTime now p.queue.pending → GiveNothingLate now acts p
 new_acts_in_time now [] p only h = tt
-new_acts_in_time now (Act.Sent moment ∷ acts) p (one, only) h = (
+new_acts_in_time now (Act.Sent at_once moment ∷ acts) p (one, only) h = (
   first_is_not_late now p.queue.pending h,
-  new_acts_in_time now acts (done (Act.Sent moment) p) only (sent_in_time now moment p.queue.pending p.queue h h),
+  new_acts_in_time now acts (done (Act.Sent at_once moment) p) only (sent_in_time now moment p.queue.pending p.queue h h),
 )
 new_acts_in_time now (act ∷ acts) p (one, only) h = absurd one

@@ -18,7 +18,7 @@ use Rattle.sctp_outbound.specs.declared.sender.Sender.{Sender}
 use Rattle.sctp_streams.specs.Streams.{StreamMap}
 use Rattle.sctp_outbound.specs.Abandonment.{abandoned_of, first_dropped, tail_given_up}
 use Rattle.sctp_outbound.specs.Forward.{forward_given}
-use Rattle.sctp_outbound.specs.Sender.{can_send_next, fits_windows, sent_new, sent_one, sent_within, window_left}
+use Rattle.sctp_outbound.specs.Sender.{asks_at_once, can_send_next, fits_windows, sent_new, sent_one, sent_within, window_left}
 use Rattle.sctp_directions.specs.Acts.{Act}
 use Rattle.sctp_assoc.specs.Calls.{exchanges_data}
 use Rattle.sctp_assoc.specs.Gather.{data_polled, fast_polled, is_due, late_dropped, open_polled, polled}
@@ -135,7 +135,7 @@ one_counts (m ∷ ms) s now e fits =
     let more = length-append s.queue.in_flight (sent_once now m ∷ []) in rw e (omega (arith, more))
 
 first_counts : (ms : List Waiting) (s : Sender) (now : ℕ) → s.queue.pending ≡ ms
-    → length (sent_one ms s now).0.queue.in_flight ≡ length s.queue.in_flight + length (first_sent ms now)
+    → length (sent_one ms s now).0.queue.in_flight ≡ length s.queue.in_flight + length (first_sent (asks_at_once s) ms now)
 unfolding sent_one
 first_counts [] s now e = omega arith
 first_counts (m ∷ ms) s now e =
@@ -157,7 +157,7 @@ within_counts (suc n) s now = ⊎_elim
 new_counts_if : (c : Bool) (s : Sender) (now : ℕ)
     → length (if c then sent_one s.queue.pending s now else
     sent_within (pieces_waiting s.queue.pending) s now).0.queue.in_flight
-    ≡ length s.queue.in_flight + length (if c then first_sent s.queue.pending now else
+    ≡ length s.queue.in_flight + length (if c then first_sent (asks_at_once s) s.queue.pending now else
     acts_of_sending (pieces_waiting s.queue.pending) s now)
 new_counts_if true s now = first_counts s.queue.pending s now refl
 new_counts_if false s now = within_counts (pieces_waiting s.queue.pending) s now
@@ -184,11 +184,11 @@ sent_stays s now bound some = ⊎_elim
 -- Which acts are first sendings.
 
 abbrev is_sent : Act → Bool
-is_sent (Act.Sent now) = true
+is_sent (Act.Sent at_once now) = true
 is_sent act = false
 
 old_is_not_sent : (act : Act) → GivesUpOrAgain act → is_sent act ≡ false
-old_is_not_sent (Act.Sent now) g = absurd g
+old_is_not_sent (Act.Sent at_once now) g = absurd g
 old_is_not_sent act g = refl
 
 neither : (a b : Bool) → a ≡ false → b ≡ false → (a || b) ≡ false
@@ -198,11 +198,13 @@ none_sent : (acts : List Act) → AllByRecursion GivesUpOrAgain acts → list_an
 none_sent [] g = refl
 none_sent (x ∷ xs) (g, gs) = neither (is_sent x) (list_any is_sent xs) (old_is_not_sent x g) (none_sent xs gs)
 
-any_at : (acts : List Act) (index at : ℕ) → slice_get acts index ≡ Some (Act.Sent at) → list_any is_sent acts ≡ true
-any_at [] index at e = absurd cc
-any_at (x ∷ xs) zero at e =
-    let same : x ≡ Act.Sent at = cc in or_left (is_sent x) (list_any is_sent xs) (ap is_sent same)
-any_at (x ∷ xs) (suc index) at e = or_right (is_sent x) (list_any is_sent xs) (any_at xs index at e)
+any_at : (acts : List Act) (index : ℕ) (at_once : Bool) (at : ℕ) → slice_get acts index ≡ Some (Act.Sent at_once at)
+    → list_any is_sent acts ≡ true
+any_at [] index at_once at e = absurd cc
+any_at (x ∷ xs) zero at_once at e =
+    let same : x ≡ Act.Sent at_once at = cc in or_left (is_sent x) (list_any is_sent xs) (ap is_sent same)
+any_at (x ∷ xs) (suc index) at_once at e =
+    or_right (is_sent x) (list_any is_sent xs) (any_at xs index at_once at e)
 
 some_there : (acts : List Act) → list_any is_sent acts ≡ true → 0 < length acts
 some_there [] e = absurd (false≢true e)
@@ -306,6 +308,6 @@ sent_in_front a now e =
     (last_if (completes_shutdown (open_polled a now).0) Act.Ended refl)
 
 pub new_data_stays_in_the_congestion_window : NewDataStaysInTheCongestionWindow
-new_data_stays_in_the_congestion_window a now index at bound sent =
+new_data_stays_in_the_congestion_window a at_once now index at bound sent =
     window_in (exchanges_data a.state) a now refl bound
-    (sent_in_front a now (any_at (acts_of_poll a now) index at sent))
+    (sent_in_front a now (any_at (acts_of_poll a now) index at_once at sent))

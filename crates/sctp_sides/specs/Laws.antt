@@ -26,7 +26,7 @@ use Rattle.sctp_inbound.specs.declared.receiver.AckTrigger.{AckTrigger}
 use Rattle.sctp_inbound.specs.declared.receiver.AckTrigger.TheVariants as triggers
 use Rattle.sctp_inbound.specs.Handshake.{header_of}
 use Rattle.sctp_inbound.specs.Receiver.{sack_of}
-use Rattle.sctp_outbound.specs.Sender.{next_chunk_of}
+use Rattle.sctp_outbound.specs.Sender.{asks_at_once, next_chunk_of}
 use Rattle.sctp_model.specs.Packets.{mem}
 use Rattle.sctp_serial.specs.Serial.{tsn}
 use Rattle.sctp_assoc.specs.declared.inbound.Flow.{Flow}
@@ -65,14 +65,14 @@ IsNotLate a now m = uses_forward_tsn a ≡ true → is_expired now (started now 
 abbrev pub WhatWaitsIsPolled : Type 0
 WhatWaitsIsPolled = (a : Shown) (now : ℕ) (m : Waiting) → IsNextWithNothingInFlight a m → IsNotLate a now m
     → length m.user_data ≤ 65519
-    → slice_get (all_of (data_polled a now).1) 0 ≡ Some (next_chunk_of m (next_tsn_of a.sender.queue))
+    → slice_get (all_of (data_polled a now).1) 0 ≡ Some (next_chunk_of (asks_at_once a.sender) m (next_tsn_of a.sender.queue))
 
 -- In Established, and in a shutdown until SHUTDOWN ACK is due, its acts give that DATA, under the TSN of the first
 -- offset that is not acknowledged.
 abbrev pub WhatWaitsIsGiven : Type 0
 WhatWaitsIsGiven = (a : Shown) (h : History) (now : ℕ) (m : Waiting) → exchanges_data a.state ≡ true → Binds a h
     → IsNextWithNothingInFlight a m → IsNotLate a now m
-    → slice_get (all_data_given (acts_of_poll a now) (parts a h)) 0 ≡ Some (next_chunk_of m (tsn h.own h.base))
+    → slice_get (all_data_given (acts_of_poll a now) (parts a h)) 0 ≡ Some (next_chunk_of (asks_at_once a.sender) m (tsn h.own h.base))
 
 -- A piece that one DATA chunk has room for is the first chunk of the first packet that goes out behind those that wait
 -- already, requests to reset streams among them; other DATA may be bundled with it (RFC 4960 section 6.10), of which
@@ -83,7 +83,7 @@ PollsBeginWithWhatWaits = (a : Shown) (now : ℕ) (m : Waiting) → exchanges_da
     → length m.user_data ≤ 65519
     → (bundled : List ChunkPayloadData)
     × (slice_get (polled a now).1 (length (control_polled a).1) ≡ Some
-    (spelling (data_packet (header_of a.handshake) (next_chunk_of m (next_tsn_of a.sender.queue) ∷ bundled))))
+    (spelling (data_packet (header_of a.handshake) (next_chunk_of (asks_at_once a.sender) m (next_tsn_of a.sender.queue) ∷ bundled))))
 
 -- A packet of this DATA has one chunk, or at most so many bytes.
 abbrev pub IsShortOrAlone : CommonHeader → ℕ → List ChunkPayloadData → Type 0
@@ -99,8 +99,8 @@ BundlesFitThePacket = (a : Shown) (now : ℕ)
 -- one piece in flight, as a probe is (RFC 4960 section 6.1, rules A and B). The window is a number of 32 bits, as
 -- `Association::cwnd` is. Of the peer's window and of DATA that goes again this says nothing.
 abbrev pub NewDataStaysInTheCongestionWindow : Type 0
-NewDataStaysInTheCongestionWindow = (a : Shown) (now index at : ℕ) → a.sender.congestion.cwnd < 2 ^ 32
-    → slice_get (acts_of_poll a now) index ≡ Some (Act.Sent at)
+NewDataStaysInTheCongestionWindow = (a : Shown) (at_once : Bool) (now index at : ℕ) → a.sender.congestion.cwnd < 2 ^ 32
+    → slice_get (acts_of_poll a now) index ≡ Some (Act.Sent at_once at)
     → (outstanding_of (polled a now).0.sender.queue.in_flight ≤ (polled a now).0.sender.congestion.cwnd)
     ⊎ (length (polled a now).0.sender.queue.in_flight ≡ 1)
 

@@ -13,7 +13,7 @@ use Rattle.sctp_wire.specs.Packets.{spelling}
 use Rattle.sctp_outbound_queue.specs.Outbound.{next_tsn_of}
 use Rattle.sctp_outbound_queue.specs.Waiting.{Waiting}
 use Rattle.sctp_inbound.specs.Handshake.{header_of}
-use Rattle.sctp_outbound.specs.Sender.{next_chunk_of}
+use Rattle.sctp_outbound.specs.Sender.{asks_at_once, next_chunk_of}
 use Rattle.sctp_directions.specs.Acts.{Act, History}
 use Rattle.sctp_assoc.specs.Calls.{exchanges_data}
 use Rattle.sctp_assoc.specs.Created.{create_refusal, created, join_refusal, joined}
@@ -57,7 +57,7 @@ PollsBeginWithNextPieces = (calls : List Call) (a b : Shown) (h k : History) (ac
     → IsNextWithNothingInFlight b m → IsNotLate b now m
     → (bundled : List ChunkPayloadData)
     × (slice_get (polled b now).1 (length (control_polled b).1) ≡ Some
-    (spelling (data_packet (header_of b.handshake) (next_chunk_of m (next_tsn_of b.sender.queue) ∷ bundled))))
+    (spelling (data_packet (header_of b.handshake) (next_chunk_of (asks_at_once b.sender) m (next_tsn_of b.sender.queue) ∷ bundled))))
 
 -- Both constructors, where nothing refuses them, leave an association that begins so.
 abbrev pub CreatedSidesBeginToSend : Type 0

@@ -554,7 +554,7 @@ GivesUpOrAgain act = ⊥
 
 -- acts that give out new DATA
 abbrev pub GivesNew : Act → Type 0
-GivesNew (Act.Sent now) = ⊤
+GivesNew (Act.Sent at_once now) = ⊤
 GivesNew act = ⊥
 
 -- an acknowledgement is due

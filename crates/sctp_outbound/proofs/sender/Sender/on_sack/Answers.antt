@@ -62,6 +62,7 @@ returns-clause-taken c =
       moved = nat_lt 0 n;
       newest = c.acknowledge_blocks-newest.result;
       fresh = c.fresh_pieces-fresh.result;
+      is_round_over = s.is_round_over;
       reach = c.reach.result;
     })
     (grown_by (record {
