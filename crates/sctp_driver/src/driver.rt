@@ -141,7 +141,9 @@ impl Driver {
         )
     }
 
-    // A server where there is a server's configuration, else a client.
+    // A server where there is a server's configuration, else a client. A driver is large, and each frame that hands it on
+    // copies it, so this function is put into its callers.
+    #[inline(always)]
     fn made(
         alloc: Global,
         server_config: Option<&ServerConfig>,
