@@ -27,6 +27,12 @@ const char *sctp_assoc_code_name(sctp_assoc_code code) {
     case SCTP_ASSOC_BAD_INIT: return "BAD_INIT";
     case SCTP_ASSOC_BAD_TIMEOUT: return "BAD_TIMEOUT";
     case SCTP_ASSOC_BAD_PROFILE: return "BAD_PROFILE";
+    case SCTP_ASSOC_BAD_PORT: return "BAD_PORT";
+    case SCTP_ASSOC_BAD_STREAMS: return "BAD_STREAMS";
+    case SCTP_ASSOC_BAD_WINDOW: return "BAD_WINDOW";
+    case SCTP_ASSOC_BAD_TAG: return "BAD_TAG";
+    case SCTP_ASSOC_BAD_PAYLOAD_TYPE: return "BAD_PAYLOAD_TYPE";
+    case SCTP_ASSOC_BAD_RELIABILITY: return "BAD_RELIABILITY";
     default: return "unknown code";
     }
 }

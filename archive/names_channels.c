@@ -11,6 +11,7 @@ const char *sctp_channels_code_name(sctp_assoc_code code) {
     case SCTP_CHANNELS_IDENTIFIER_PAST_STREAMS: return "IDENTIFIER_PAST_STREAMS";
     case SCTP_CHANNELS_LOST: return "LOST";
     case SCTP_CHANNELS_OTHER: return "OTHER";
+    case SCTP_CHANNELS_BAD_ROLE: return "BAD_ROLE";
     default: return sctp_assoc_code_name(code);
     }
 }

@@ -369,9 +369,9 @@ static const char *find(const char *sdp, const char *name, const char *otherwise
 
 static bool on_offer(const char *offer, char *answer, size_t room) {
     const char *mid = find(offer, "a=mid:", "0"), *setup = find(offer, "a=setup:", "actpass");
-    int mid_length = (int)strcspn(mid, "\r\n");
+    int mid_length = (int)strcspn(mid, "\r\n"), sctp_port = atoi(find(offer, "a=sctp-port:", "5000"));
     uint8_t random[20];
-    if (!strstr(offer, "m=application") || !strstr(offer, "a=fingerprint:sha-256 "))
+    if (!strstr(offer, "m=application") || !strstr(offer, "a=fingerprint:sha-256 ") || !(uint16_t)sctp_port)
         return false;
     if (page.dtls)
         take_down("another page came");
@@ -380,7 +380,7 @@ static bool on_offer(const char *offer, char *answer, size_t room) {
     page.heard = now();
     page.is_client = strncmp(setup, "passive", 7) == 0 || (prefers_client && strncmp(setup, "active", 6) != 0);
     page.max_message_size = (uint32_t)strtoul(find(offer, "a=max-message-size:", "65536"), NULL, 10);
-    page.sctp_port = (uint32_t)strtoul(find(offer, "a=sctp-port:", "5000"), NULL, 10);
+    page.sctp_port = (uint32_t)sctp_port;
     snprintf(page.fingerprint, sizeof page.fingerprint, "%s", find(offer, "a=fingerprint:sha-256 ", ""));
     if (getentropy(random, sizeof random) != 0)
         err(1, "a password");

@@ -236,6 +236,17 @@ static void failed_and_lost(void) {
     free_sides();
 }
 
+/* Roles and reliabilities without a name. */
+static void numbers_without_a_name(void) {
+    sctp_channels slot = SCTP_CHANNELS_EMPTY;
+    sctp_channels_options options = reliable;
+    uint16_t id;
+    CHECK(sctp_channels_begin(&slot, 2) == SCTP_CHANNELS_BAD_ROLE);
+    CHECK(sctp_channels_begin(&slot, UINT32_MAX) == SCTP_CHANNELS_BAD_ROLE && !slot.live && blocks == 0);
+    options.reliability = 3;
+    CHECK(sctp_channels_open(&slot, &ends[0], &options, NULL, 0, NULL, 0, &id) == SCTP_ASSOC_BAD_RELIABILITY);
+}
+
 /* INITs that nobody answers. */
 static void handshake_failed(void) {
     sctp_assoc_config config = default_config();
@@ -287,6 +298,7 @@ int main(void) {
     TRY(buffered());
     TRY(closed());
     TRY(failed_and_lost());
+    TRY(numbers_without_a_name());
     TRY(handshake_failed());
     TRY(refused_memory());
     puts("channels: ok");

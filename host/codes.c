@@ -65,6 +65,46 @@ static void refused_configuration(void) {
     CHECK(!slot.live && blocks == 0);
 }
 
+/* A configuration with one fault makes no side, nor does one of zeros. */
+static void refused_by(const sctp_assoc_config *config, sctp_assoc_code expected) {
+    sctp_assoc slot = SCTP_ASSOC_EMPTY;
+    sctp_assoc_identity named = identity(1);
+    sctp_assoc_token token = {.tag = 1, .initial_tsn = 1, .window = 1500};
+    CHECK(sctp_assoc_client(&slot, config, PAYLOAD_SIZE, &named, 0) == expected);
+    CHECK(sctp_assoc_server(&slot, config, PAYLOAD_SIZE, &named, 0) == expected);
+    CHECK(sctp_assoc_joined(&slot, config, PAYLOAD_SIZE, &token, &token) == expected);
+    CHECK(!slot.live && blocks == 0);
+}
+
+static void unusable_configurations(void) {
+    static const sctp_assoc_config zeros;
+    sctp_assoc_config config = default_config();
+    refused_by(&zeros, SCTP_ASSOC_BAD_PORT);
+    config.local_port = 0;
+    refused_by(&config, SCTP_ASSOC_BAD_PORT);
+    config = default_config(), config.remote_port = 0;
+    refused_by(&config, SCTP_ASSOC_BAD_PORT);
+    config = default_config(), config.max_num_outbound_streams = 0;
+    refused_by(&config, SCTP_ASSOC_BAD_STREAMS);
+    config = default_config(), config.max_num_inbound_streams = 0;
+    refused_by(&config, SCTP_ASSOC_BAD_STREAMS);
+    config = default_config(), config.max_receive_buffer_size = 1499;
+    refused_by(&config, SCTP_ASSOC_BAD_WINDOW);
+    config = default_config(), config.rto_min_ms = 0;
+    refused_by(&config, SCTP_ASSOC_BAD_TIMEOUT);
+}
+
+/* A tag of 0 makes neither a client nor a server. */
+static void tag_of_0(void) {
+    sctp_assoc slot = SCTP_ASSOC_EMPTY;
+    sctp_assoc_config config = default_config();
+    sctp_assoc_identity named = identity(1);
+    named.tag = 0;
+    CHECK(sctp_assoc_client(&slot, &config, PAYLOAD_SIZE, &named, 0) == SCTP_ASSOC_BAD_TAG);
+    CHECK(sctp_assoc_server(&slot, &config, PAYLOAD_SIZE, &named, 0) == SCTP_ASSOC_BAD_TAG);
+    CHECK(!slot.live && blocks == 0);
+}
+
 /* Associations that are not made leave the slot as it was. */
 static void refused_begin(void) {
     sctp_assoc slot = SCTP_ASSOC_EMPTY;
@@ -103,6 +143,24 @@ static void refused_streams(void) {
     CHECK(sctp_assoc_poll_event(&ends[0], &event) == SCTP_ASSOC_NOTHING);
     CHECK(sctp_assoc_poll_transmit(&ends[0], 0, bytes, sizeof bytes, &length) == SCTP_ASSOC_NOTHING);
     CHECK(sctp_assoc_poll_timeout(&ends[0], &moment) == SCTP_ASSOC_NOTHING);
+}
+
+/* Payload protocol identifiers and reliabilities without a name, in front of all else; the stream stays as it was. */
+static void numbers_without_a_name(void) {
+    static const uint32_t unnamed[] = {1, 49, 52, 54, 58, UINT32_MAX - 1};
+    for (size_t i = 0; i < sizeof unnamed / sizeof *unnamed; i++) {
+        CHECK(sctp_assoc_open_stream(&ends[0], 1, unnamed[i]) == SCTP_ASSOC_BAD_PAYLOAD_TYPE);
+        CHECK(sctp_assoc_write(&ends[0], 1, unnamed[i], bytes, 0) == SCTP_ASSOC_BAD_PAYLOAD_TYPE);
+        CHECK(sctp_assoc_set_payload_type(&ends[0], 1, unnamed[i]) == SCTP_ASSOC_BAD_PAYLOAD_TYPE);
+    }
+    CHECK(sctp_assoc_open_stream(&ends[0], 2, SCTP_ASSOC_PPID_OF_STREAM) == SCTP_ASSOC_BAD_PAYLOAD_TYPE);
+    CHECK(sctp_assoc_set_payload_type(&ends[0], 1, SCTP_ASSOC_PPID_OF_STREAM) == SCTP_ASSOC_BAD_PAYLOAD_TYPE);
+    CHECK(sctp_assoc_set_reliability(&ends[0], 1, true, 3, 1) == SCTP_ASSOC_BAD_RELIABILITY);
+    CHECK(sctp_assoc_set_reliability(&ends[0], 1, true, UINT32_MAX, 1) == SCTP_ASSOC_BAD_RELIABILITY);
+    CHECK(done(sctp_assoc_payload_type(&ends[0], 1, &number)) && number == SCTP_ASSOC_PPID_BINARY);
+    sctp_assoc empty = SCTP_ASSOC_EMPTY;
+    CHECK(sctp_assoc_open_stream(&empty, 1, 52) == SCTP_ASSOC_BAD_PAYLOAD_TYPE);
+    CHECK(sctp_assoc_write(&empty, 1, 52, bytes, 1) == SCTP_ASSOC_BAD_PAYLOAD_TYPE);
 }
 
 /* A datagram and a message that do not fit stay, until they do. */
@@ -258,10 +316,13 @@ int main(void) {
     sctp_assoc_config config = default_config();
     empty_slot();
     refused_configuration();
+    unusable_configurations();
+    tag_of_0();
     refused_begin();
     repeated_init();
     shake_hands(ends, &config, 0);
     refused_streams();
+    numbers_without_a_name();
     no_room();
     closed();
     out_of_memory();

@@ -88,7 +88,11 @@ static void many_gaps_are_told(void) {
 /* Without credit DATA is taken in where it fills a gap, and not behind all that came. */
 static void a_gap_is_filled_without_credit(void) {
     static const uint32_t past_a_gap[] = {1, 0}, behind[] = {2}, missing[] = {UINT32_MAX};
-    begin(MAX_PIECE, 100, UINT32_MAX, 2, WINDOW);
+    char all_but_two[1499] = "";
+    memset(all_but_two, 'x', 1498);
+    begin(MAX_PIECE, 100, UINT32_MAX - 1, 1500, WINDOW);
+    comes(data(7, UINT32_MAX - 1, all_but_two), 0);
+    CHECK(taken_in(NULL, 0) == 1);
     CHECK(taken_in(past_a_gap, 2) == 2);
     CHECK(taken_in(behind, 1) == 0);
     CHECK(taken_in(missing, 1) == 1);

@@ -301,7 +301,8 @@ static void choose(void) {
 }
 
 static sctp_assoc_config choose_config(int end) {
-    sctp_assoc_config config = default_config();
+    sctp_assoc_config config = set.has_default_times ? users_config() : default_config();
+    config.max_data_retransmits = SCTP_ASSOC_NO_LIMIT; /* no black-out of a seed ends an association */
     config.max_receive_buffer_size = set.buffer_size[end];
     config.max_init_retransmits = set.max_init_retransmits;
     if (!set.has_default_times && happens(500)) {
@@ -363,6 +364,18 @@ static void begin_seed(void) {
     growths = refused_from = refused_to = 0;
 }
 
+#define ROUND_TRIP (2 * HEALED_DELAY)
+#define MOST_ROUND_TRIPS 1000
+
+/* How many seeds went on for so many round trips past the timers that ran as the network healed. */
+static uint64_t seeds_by_round_trips[MOST_ROUND_TRIPS + 1];
+
+static void count_round_trips(uint64_t timers_end) {
+    uint64_t round_trips = now > timers_end ? (now - timers_end + ROUND_TRIP - 1) / ROUND_TRIP : 0;
+    seeds_by_round_trips[round_trips < MOST_ROUND_TRIPS ? round_trips : MOST_ROUND_TRIPS]++;
+    say("all is there %llu round trips past the timers", (unsigned long long)round_trips);
+}
+
 /* Runs the seed of the class, and leaves in `found` how it ended. */
 static void run_seed(void) {
     begin_seed();
@@ -376,8 +389,14 @@ static void run_seed(void) {
         applications[end].is_paused = applications[end].is_deaf = false;
         timer_slack[end] = 0;
     }
+    uint64_t timers_end = healed_at;
+    for (int end = 0; end < 2; end++)
+        if (due_at(end) != NEVER && due_at(end) > timers_end)
+            timers_end = due_at(end);
     if (found == WELL)
         judge_healing();
+    if (found == WELL)
+        count_round_trips(timers_end);
     if (found == WELL)
         judge_handshake();
     if (found == WELL)

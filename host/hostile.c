@@ -92,7 +92,7 @@ static size_t make_packet(const char *names, uint8_t *bytes) {
 
 /* The packet comes with the sum that belongs to it. Answers what became of it. */
 static uint32_t packet_comes(const char *names) {
-    uint8_t bytes[500];
+    uint8_t bytes[2000];
     size_t length = make_packet(names, bytes);
     seal(bytes, length);
     return hand_over(&end, 0, bytes, length);
@@ -101,7 +101,7 @@ static uint32_t packet_comes(const char *names) {
 /* A packet of one chunk comes, cut after each byte before that chunk's end: under its own sum, for which fewer bytes
  * than a header have no room, and under that of the whole, which is wrong then. */
 static void cut_packets_come(const char *names) {
-    uint8_t whole[500], front[500];
+    uint8_t whole[2000], front[2000];
     size_t length = make_packet(names, whole), chunk_end = 12 + read_number(whole + 14, 2);
     CHECK(chunk_end <= length);
     seal(whole, length);
@@ -262,7 +262,7 @@ static void lead(const struct way *way) {
     sctp_assoc_identity named = identity_of(2, 100);
     bool is_client = strcmp(way->kind, "client") == 0;
     if (strcmp(way->kind, "narrow") == 0)
-        config.max_receive_buffer_size = 4;
+        config.max_receive_buffer_size = 1500;
     was_told_lost = false;
     CHECK(done((is_client ? sctp_assoc_client : sctp_assoc_server)(&end, &config, 1200, &named, 0)));
     carry_out(way->steps);

@@ -7,6 +7,9 @@ struct part {
     const char *name, *hex;
 };
 
+#define TIMES_5(text) text text text text text
+#define TIMES_500(text) TIMES_5(TIMES_5(TIMES_5(text text text text)))
+
 /* A packet begins with its header: both ports 5000, the verification tag 0 or 2, and room for the sum. */
 static const struct part headers[] = {
     {"to-0", "138813880000000000000000"},
@@ -122,8 +125,8 @@ static const struct part chunks[] = {
     {"DATA_FARTHEST", "000b0011000101f2000300000000003561000000"},
     {"DATA_TOO_FAR", "000b0011000101f3000300000000003561000000"},
     {"DATA_EMPTY", "000b0010000001f40003000000000035"},
-    /* A first piece of five bytes. */
-    {"FIRST_OF_FIVE", "00020015000001f400030000000000356162636465000000"},
+    /* A first piece of 1501 bytes. */
+    {"FIRST_OF_1501", "000205ed000001f40003000000000035" TIMES_500("616161") "61" "000000"},
     /* Broken forms: a length below that of a header, or past the end; a value that is too short for its form. */
     {"LENGTH_3", "3f000003"},
     {"LENGTH_0", "3f000000"},

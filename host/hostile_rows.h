@@ -5,7 +5,7 @@
 #define HOSTILE_ROWS_H
 
 /* A name, whether it is a client or a server, which state it is in, and what leads there. All but `new` had an INIT, so
- * that they know the peer, and their cookie was issued. `narrow` is a server whose receive buffer has four bytes. What
+ * that they know the peer, and their cookie was issued. `narrow` is a server whose receive buffer has 1500 bytes. What
  * is written is in flight from TSN 100 on. The lost ones were established, but for that by an INIT. */
 struct way {
     const char *name, *kind, *state, *steps;
@@ -26,7 +26,7 @@ static const struct way ways[] = {
     {"lost-by-INIT", "client", "Closed", "to-0 INIT; to-0 INIT_OF_TAG_0"},
     {"lost-by-ABORT", "server", "Closed", "to-0 INIT; to-2 COOKIE_ECHO; to-2 ABORT"},
     {"lost-by-SHUTDOWN", "server", "Closed", "to-0 INIT; to-2 COOKIE_ECHO; to-2 SHUTDOWN; to-2 SHUTDOWN_COMPLETE"},
-    {"lost-by-full-buffer", "narrow", "Closed", "to-0 INIT; to-2 COOKIE_ECHO; to-2 FIRST_OF_FIVE"},
+    {"lost-by-full-buffer", "narrow", "Closed", "to-0 INIT; to-2 COOKIE_ECHO; to-2 FIRST_OF_1501"},
     {"lost-by-close", "server", "Closed", "to-0 INIT; to-2 COOKIE_ECHO; close"},
     {"narrow", "narrow", "Established", "to-0 INIT; to-2 COOKIE_ECHO"},
     {"narrow-Closed", "narrow", "Closed", "to-0 INIT"},
@@ -192,7 +192,7 @@ static const struct row last_tsns[] = {
      "opened 3, datagram, readable 3, opened 4, datagram, readable 4, DATA 3"},
     {"to-2 FORWARD_TSN; to-2 TOO_FAR_PAST_0; to-2 FARTHEST_PAST_0", "new",
      "sends ERROR, opened 4, datagram, readable 4, DATA 2"},
-    {"to-2 FIRST_OF_FIVE; to-2 RESET_AT_500; to-2 RESET_AT_501", "narrow-Closed",
+    {"to-2 FIRST_OF_1501; to-2 RESET_AT_500; to-2 RESET_AT_501", "narrow-Closed",
      "sends ABORT, opened 3, datagram, sends RECONFIG of 9, sends RECONFIG performed, sends RECONFIG in progress, "
      "timer, DATA 1"},
 };
@@ -362,9 +362,9 @@ static const struct row pieces[] = {
     {"to-2 DATA_TOO_FAR", "Established", "sends SACK, DATA 1"},
     {"to-2 DATA_EMPTY; read 3", "Established",
      "sends SACK, opened 3, datagram, readable 3, reads 0, point 500, DATA 1"},
-    {"to-2 FIRST_OF_FIVE HEARTBEAT", "narrow",
+    {"to-2 FIRST_OF_1501 HEARTBEAT", "narrow",
      "sends ABORT, opened 3, datagram, ended 3, lost exhausted, is Closed, DATA 1"},
-    {"to-2 FIRST_OF_FIVE HEARTBEAT", "narrow-Closed", "sends ABORT, opened 3, datagram, DATA 1"},
+    {"to-2 FIRST_OF_1501 HEARTBEAT", "narrow-Closed", "sends ABORT, opened 3, datagram, DATA 1"},
 };
 
 /* A packet of one chunk comes cut after each byte before that chunk's end, under the sum of the whole and under its

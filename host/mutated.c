@@ -176,18 +176,27 @@ static void look(int end, struct view *view) {
     CHECK(!view->is_failed && view->is_drained == is_lost[end] && (view->is_closed || !view->is_drained));
 }
 
-/* What a forged datagram may leave behind: its bytes, something for each chunk, and the places of streams. */
+/* The places up to that of a stream, whose identifier stands here. */
+static void allow_stream(int end, const uint8_t *id) {
+    uint32_t page = id[0], needed = id[1] + 1u;
+    if (needed <= place_counts[end][page])
+        return;
+    allowed_bytes += (needed - place_counts[end][page]) * PLACE_BYTES;
+    place_counts[end][page] = (uint16_t)needed;
+}
+
+/* What a forged datagram may leave behind: its bytes, something for each chunk, and the places of streams, which DATA
+ * and FORWARD TSN may make. */
 static void allow(int end, const struct datagram *forged) {
     size_t at[MAX_CHUNKS + 1], count = find_chunks(forged, at);
     allowed_bytes += forged->length + count * CHUNK_BYTES;
     for (size_t k = 0; k < count; k++) {
-        if (forged->bytes[at[k]] != 0 || at[k] + 12 > forged->length)
-            continue;
-        uint32_t page = forged->bytes[at[k] + 8], needed = forged->bytes[at[k] + 9] + 1u;
-        if (needed <= place_counts[end][page])
-            continue;
-        allowed_bytes += (needed - place_counts[end][page]) * PLACE_BYTES;
-        place_counts[end][page] = (uint16_t)needed;
+        const uint8_t *chunk = forged->bytes + at[k];
+        size_t length = forged->length - at[k];
+        if (chunk[0] == 0 && length >= 12)
+            allow_stream(end, chunk + 8);
+        for (size_t entry = 8; chunk[0] == 192 && entry + 4 <= length; entry += 4)
+            allow_stream(end, chunk + entry);
     }
 }
 

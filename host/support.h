@@ -88,9 +88,18 @@ static inline sctp_assoc_identity identity(uint32_t tag) {
     return named;
 }
 
-static inline sctp_assoc_config default_config(void) {
+static inline sctp_assoc_config users_config(void) {
     sctp_assoc_config config;
     CHECK(sctp_assoc_default_config(&config) == SCTP_ASSOC_DONE);
+    return config;
+}
+
+/* The default configuration with the timeouts of RFC 4960 section 15, by which the tests count, and no limit. */
+static inline sctp_assoc_config default_config(void) {
+    sctp_assoc_config config = users_config();
+    config.rto_initial_ms = 3000;
+    config.rto_min_ms = 1000;
+    config.max_data_retransmits = SCTP_ASSOC_NO_LIMIT;
     return config;
 }
 

@@ -165,6 +165,24 @@ static void expiries_pass_the_limit(void) {
     CHECK(done(sctp_assoc_free(&ends[0])) && blocks == 0);
 }
 
+/* By default DATA goes out again ten times, at first after half a second, and the expiry after that ends the
+ * association. */
+static void the_default_ends_it(void) {
+    sctp_assoc_config config = users_config();
+    uint64_t moment;
+    begin(&config);
+    send_message();
+    lose_all(0);
+    CHECK(deadline(0) == 500 * MS);
+    for (int retries = 0; retries < 10; retries++) {
+        expire(0);
+        CHECK(!is_told(0, SCTP_ASSOC_EVENT_LOST));
+    }
+    expire(0);
+    CHECK(is_told(0, SCTP_ASSOC_EVENT_LOST) && now == 303500 * MS && !done(sctp_assoc_poll_timeout(&ends[0], &moment)));
+    free_both(ends);
+}
+
 /* The peer's response (RFC 6525 section 4.4) says that the reset is in progress: the next expiry adds no retry. */
 static void an_exempt_expiry_adds_no_retry(void) {
     sctp_assoc_config config = default_config();
@@ -222,6 +240,7 @@ int main(void) {
     timeouts_double_up_to_a_greatest_one();
     a_stale_timer_starts_again();
     expiries_pass_the_limit();
+    the_default_ends_it();
     an_exempt_expiry_adds_no_retry();
     timeouts_of_0_are_refused();
     puts("timeouts: ok");

@@ -54,7 +54,7 @@ extern "C" {
 /* ---- The release ---- */
 
 #define SCTP_ASSOC_VERSION_MAJOR 0
-#define SCTP_ASSOC_VERSION_MINOR 1
+#define SCTP_ASSOC_VERSION_MINOR 2
 #define SCTP_ASSOC_VERSION_PATCH 0
 /* 10,000 times the first number, 100 times the second, and the third. What is declared here stays as long as the first
  * number does; as long as that is 0, it stays while the second does. */
@@ -123,6 +123,12 @@ typedef uint32_t sctp_assoc_code;
 #define SCTP_ASSOC_BAD_INIT 61              /* the bytes are no INIT chunk, or end within a parameter of it */
 #define SCTP_ASSOC_BAD_TIMEOUT 62           /* rto_initial_ms, rto_min_ms or rto_max_ms is 0 */
 #define SCTP_ASSOC_BAD_PROFILE 63           /* profile is neither SCTP_ASSOC_PROFILE_RFC nor _PORT */
+#define SCTP_ASSOC_BAD_PORT 64              /* local_port or remote_port is 0 */
+#define SCTP_ASSOC_BAD_STREAMS 65           /* max_num_outbound_streams or max_num_inbound_streams is 0 */
+#define SCTP_ASSOC_BAD_WINDOW 66            /* max_receive_buffer_size is below 1500 */
+#define SCTP_ASSOC_BAD_TAG 67               /* the verification tag is 0 */
+#define SCTP_ASSOC_BAD_PAYLOAD_TYPE 68      /* it has no name here, and would go out as 0 */
+#define SCTP_ASSOC_BAD_RELIABILITY 69       /* it has no name here */
 
 /* ---- Configuration ---- */
 
@@ -135,7 +141,7 @@ typedef uint32_t sctp_assoc_code;
 #define SCTP_ASSOC_PROFILE_PORT 1 /* those of the Rust crate sctp-proto 0.10.8, which this library is a port of */
 
 typedef struct sctp_assoc_config {
-    uint32_t max_receive_buffer_size;  /* bytes; the window that is offered. A peer refuses one below 1500 */
+    uint32_t max_receive_buffer_size;  /* bytes, 1500 or more; the window that is offered */
     uint32_t max_send_message_size;    /* bytes; a longer message is refused */
     uint32_t max_receive_message_size; /* bytes; a longer message closes the association */
     uint16_t max_num_outbound_streams; /* offered, 1 to 65,535 */
@@ -152,11 +158,13 @@ typedef struct sctp_assoc_config {
     size_t max_data_retransmits;       /* timeouts in a row in which DATA is sent again. At the next one the association
                                         * ends by SCTP_ASSOC_PROFILE_RFC, where a SACK with a window of 0 ends the row,
                                         * too. By SCTP_ASSOC_PROFILE_PORT DATA is no longer sent, and nothing tells of
-                                        * that, so bound the wait for an acknowledgement; SCTP_ASSOC_NO_LIMIT */
+                                        * that, so take SCTP_ASSOC_NO_LIMIT there, and bound the wait for an
+                                        * acknowledgement */
 } sctp_assoc_config;
 
 /* Writes the defaults: buffer 1,048,576, messages 65,536, streams 65,535, ports 5000, the profile of the RFCs, timeouts
- * 3000, 1000 and 60,000, 8 retransmissions of INIT, no limit for DATA. Answers SCTP_ASSOC_DONE. */
+ * 500, 400 and 60,000, 8 retransmissions of INIT, 10 of DATA. RFC 4960 section 15 has timeouts of 3000 and 1000. With
+ * SCTP_ASSOC_PROFILE_PORT take SCTP_ASSOC_NO_LIMIT for DATA. Answers SCTP_ASSOC_DONE. */
 sctp_assoc_code sctp_assoc_default_config(sctp_assoc_config *config);
 
 /* What names one side. Take all three from a random source that nobody can guess. */
@@ -204,8 +212,8 @@ sctp_assoc_code sctp_assoc_token_from_init(const uint8_t *init, size_t length, s
  * bytes and IPv6, less below DTLS; UDP carries no more than 65,479). A datagram with DATA has up to 28 bytes more, and
  * up to 3 besides if it is no multiple of 4. Some other datagrams get longer: see sctp_assoc_poll_transmit.
  *
- * Codes: DONE, NO_MEMORY, and refusals in this order: BAD_PROFILE, BAD_TIMEOUT, BAD_PAYLOAD_SIZE, and BAD_INITIAL_TSN
- * or BAD_TOKEN. At all but DONE the slot stays as it was.
+ * Codes: DONE, NO_MEMORY, and refusals in this order: BAD_PROFILE, BAD_PORT, BAD_STREAMS, BAD_WINDOW, BAD_TAG for the
+ * first two, BAD_TIMEOUT, BAD_PAYLOAD_SIZE, and BAD_INITIAL_TSN or BAD_TOKEN. At all but DONE the slot stays as it was.
  */
 
 /* A client, whose INIT waits for sctp_assoc_poll_transmit; its timer runs from `now` (RFC 4960 section 5.1). */
@@ -411,7 +419,8 @@ sctp_assoc_code sctp_assoc_path(sctp_assoc *slot, sctp_assoc_path_values *path);
  * A stream is named by its identifier, 0 to 65,535.
  */
 
-/* Payload protocol identifiers with a name (RFC 8831 section 8). Any other number is sent, and told, as 0. */
+/* Payload protocol identifiers with a name (RFC 8831 section 8), and 0. Calls refuse any other number by
+ * BAD_PAYLOAD_TYPE, as it would be sent as 0; one that a peer sends is told as 0. */
 #define SCTP_ASSOC_PPID_UNKNOWN 0
 #define SCTP_ASSOC_PPID_DCEP 50
 #define SCTP_ASSOC_PPID_STRING 51
@@ -422,8 +431,8 @@ sctp_assoc_code sctp_assoc_path(sctp_assoc *slot, sctp_assoc_path_values *path);
 #define SCTP_ASSOC_PPID_OF_STREAM UINT32_MAX
 
 /* Makes a stream on this side, whose messages have this payload protocol identifier unless a write names one. Nothing
- * is sent: the peer sees the stream by its first message, as SCTP_ASSOC_EVENT_OPENED says. Codes: DONE, EMPTY_SLOT,
- * FAILED, STREAM_EXISTS, RESET_PENDING, NO_STREAM_LEFT, NO_MEMORY (nothing changed). */
+ * is sent: the peer sees the stream by its first message, as SCTP_ASSOC_EVENT_OPENED says. Codes: DONE,
+ * BAD_PAYLOAD_TYPE, EMPTY_SLOT, FAILED, STREAM_EXISTS, RESET_PENDING, NO_STREAM_LEFT, NO_MEMORY (nothing changed). */
 sctp_assoc_code sctp_assoc_open_stream(sctp_assoc *slot, uint16_t stream, uint32_t payload_type);
 
 /* Takes out the identifier of the oldest stream that the peer opened and that wasn't accepted yet. It needs no
@@ -432,9 +441,9 @@ sctp_assoc_code sctp_assoc_open_stream(sctp_assoc *slot, uint16_t stream, uint32
  * the association has failed). */
 sctp_assoc_code sctp_assoc_accept_stream(sctp_assoc *slot, uint16_t *stream);
 
-/* Accepts one message, which goes out with sctp_assoc_poll_transmit as the windows allow. Codes: DONE, EMPTY_SLOT,
- * FAILED, NO_STREAM, STREAM_CLOSED, NOT_ESTABLISHED, RESET_PENDING, EMPTY_MESSAGE, MESSAGE_TOO_LONG, NO_MEMORY
- * (nothing changed). */
+/* Accepts one message, which goes out with sctp_assoc_poll_transmit as the windows allow. Codes: DONE,
+ * BAD_PAYLOAD_TYPE, EMPTY_SLOT, FAILED, NO_STREAM, STREAM_CLOSED, NOT_ESTABLISHED, RESET_PENDING, EMPTY_MESSAGE,
+ * MESSAGE_TOO_LONG, NO_MEMORY (nothing changed). */
 sctp_assoc_code sctp_assoc_write(sctp_assoc *slot, uint16_t stream, uint32_t payload_type, const uint8_t *message,
                                  size_t length);
 
@@ -473,7 +482,7 @@ sctp_assoc_code sctp_assoc_stop(sctp_assoc *slot, uint16_t stream);
  * of what is unread or under way. Codes: those of sctp_assoc_stop. */
 sctp_assoc_code sctp_assoc_close_stream(sctp_assoc *slot, uint16_t stream);
 
-/* How long a message is sent again (RFC 3758 section 4.1); any other number is SCTP_ASSOC_RELIABLE. */
+/* How long a message is sent again (RFC 3758 section 4.1). */
 #define SCTP_ASSOC_RELIABLE 0 /* until it is acknowledged */
 #define SCTP_ASSOC_REXMIT 1   /* `value` times; at 0 it goes out once */
 #define SCTP_ASSOC_TIMED 2    /* for `value` ms from the first sctp_assoc_poll_transmit after the write; at 0 never */
@@ -486,7 +495,7 @@ sctp_assoc_code sctp_assoc_set_max_send_message_size(sctp_assoc *slot, uint32_t 
 /* Sets how messages of a stream that are written from now on are sent: in order or not, and how long. A message past
  * that is given up whole by sctp_assoc_poll_transmit, and the peer reads all of it or nothing; no timer runs for it.
  * If the peer doesn't list FORWARD TSN, none is given up, and messages of SCTP_ASSOC_PPID_DCEP never are. Codes:
- * DONE, EMPTY_SLOT, FAILED, NO_STREAM. */
+ * DONE, BAD_RELIABILITY, EMPTY_SLOT, FAILED, NO_STREAM. */
 sctp_assoc_code sctp_assoc_set_reliability(sctp_assoc *slot, uint16_t stream, bool unordered, uint32_t kind,
                                            uint32_t value);
 
@@ -495,8 +504,8 @@ sctp_assoc_code sctp_assoc_set_reliability(sctp_assoc *slot, uint16_t stream, bo
  * as it was. Codes: DONE, EMPTY_SLOT, NO_ROOM, FAILED, NO_MEMORY (nothing changed). */
 sctp_assoc_code sctp_assoc_stream_ids(sctp_assoc *slot, uint16_t *ids, size_t room, size_t *count);
 
-/* Each of the calls below is about one stream. Codes: DONE, EMPTY_SLOT, FAILED, NO_STREAM. Those that write a value
- * change nothing. */
+/* Each of the calls below is about one stream. Codes: DONE, EMPTY_SLOT, FAILED, NO_STREAM; of
+ * sctp_assoc_set_payload_type also BAD_PAYLOAD_TYPE, before those. Those that write a value change nothing. */
 
 /* Writes what the stream counted since it was opened. A message that waits for a longer buffer counts as read. */
 sctp_assoc_code sctp_assoc_stream_stats(sctp_assoc *slot, uint16_t stream, sctp_assoc_counters *counters);

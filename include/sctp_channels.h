@@ -58,16 +58,17 @@ typedef struct sctp_channels {
 #define SCTP_CHANNELS_IDENTIFIER_PAST_STREAMS 45 /* this side may not send on so many streams */
 #define SCTP_CHANNELS_LOST 46                    /* the association was lost */
 #define SCTP_CHANNELS_OTHER 47                   /* no refusal: a message of another payload type was received */
+#define SCTP_CHANNELS_BAD_ROLE 70                /* the role is neither of the two below */
 
 /* ---- Begin and end ---- */
 
 /* The role of this side in the DTLS handshake: a client's own channels have even identifiers, a server's odd ones (RFC
- * 8832 section 6). Any other number is SCTP_CHANNELS_SERVER. */
+ * 8832 section 6). */
 #define SCTP_CHANNELS_CLIENT 0
 #define SCTP_CHANNELS_SERVER 1
 
-/* Puts a side without a channel into the slot; the channels that it held before are freed then. Codes: DONE, NO_MEMORY
- * (the slot stays as it was). */
+/* Puts a side without a channel into the slot; the channels that it held before are freed then. Codes: DONE, BAD_ROLE,
+ * NO_MEMORY; at all but DONE the slot stays as it was. */
 sctp_assoc_code sctp_channels_begin(sctp_channels *slot, uint32_t role);
 
 /* Frees the channels, and leaves the slot empty. The association and the peer are told nothing. Codes: DONE,
@@ -100,8 +101,8 @@ typedef struct sctp_channels_options {
  * until then sctp_channels_send answers NOT_OPEN. Identifiers stop at the streams on which this side may send: before
  * the handshake has agreed on their number, at as many as this side offers (`max_num_outbound_streams`). A channel
  * whose identifier lies past those that were agreed on SCTP_CHANNELS_EVENT_FAILED tells. Codes, refusals in this order
- * and with nothing changed: DONE, EMPTY_SLOT, LABEL_TOO_LONG, FAILED, LOST, IDENTIFIER_TAKEN, IDENTIFIER_PAST_STREAMS,
- * NO_IDENTIFIER_LEFT, NO_MEMORY. */
+ * and with nothing changed: DONE, BAD_RELIABILITY, EMPTY_SLOT, LABEL_TOO_LONG, FAILED, LOST, IDENTIFIER_TAKEN,
+ * IDENTIFIER_PAST_STREAMS, NO_IDENTIFIER_LEFT, NO_MEMORY. */
 sctp_assoc_code sctp_channels_open(sctp_channels *slot, sctp_assoc *assoc, const sctp_channels_options *options,
                                    const uint8_t *label, size_t label_length, const uint8_t *protocol,
                                    size_t protocol_length, uint16_t *id);

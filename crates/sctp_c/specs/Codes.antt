@@ -1,8 +1,8 @@
 -- What a call answers to C, as a number, and what the numbers that it wrote stand for then.
-use Rattle.std.specs.Prelude.{◌≡◌, ℕ, ◌==◌, if◌then◌else◌, Option, Some, None, Result, Ok, Err}
+use Rattle.std.specs.Prelude.{◌≡◌, ℕ, ◌==◌, ◌||◌, Bool, if◌then◌else◌, Option, Some, None, Result, Ok, Err}
 use Rattle.sctp_wire_types.specs.declared.error.Error.{Error}
 use Rattle.sctp_wire_types.specs.declared.ids.PayloadProtocolIdentifier.{PayloadProtocolIdentifier}
-use Rattle.sctp_wire_types.specs.Ids.{identifier_of}
+use Rattle.sctp_wire_types.specs.Ids.{identifier_of, number_of}
 use Rattle.sctp_parts.specs.declared.shared.EndpointEvent.{EndpointEvent}
 use Rattle.sctp_parts.specs.Shared.{drained_event}
 use Rattle.sctp_driver.specs.declared.messages.ReadAnswer.{ReadAnswer}
@@ -73,6 +73,15 @@ found_by code number = if code == 0 then Some number else None
 -- what the code says that the endpoint was to be told
 abbrev pub endpoint_event_by : ℕ → Option EndpointEvent
 endpoint_event_by code = if code == 0 then Some drained_event else None
+
+-- A payload protocol identifier goes out as it is: it has a name (RFC 8831 section 8), or is 0. Any other would go out as
+-- 0.
+abbrev pub names_payload_type : ℕ → Bool
+names_payload_type number = number_of (identifier_of number) == number
+
+-- a write may name it, or the payload protocol identifier of the stream
+abbrev pub may_be_written : ℕ → Bool
+may_be_written number = number == 4294967295 || names_payload_type number
 
 -- what a write names as its payload protocol identifier: the greatest number of 32 bits is that of the stream
 abbrev pub payload_type_by : ℕ → Option PayloadProtocolIdentifier

@@ -1,5 +1,5 @@
 -- What the structs that C hands over stand for.
-use Rattle.std.specs.Prelude.{ℕ, Bool, true, false, ◌==◌, if◌then◌else◌, nat_lt, [], Option, Some, None}
+use Rattle.std.specs.Prelude.{ℕ, Bool, true, false, not, ◌==◌, ◌||◌, if◌then◌else◌, nat_lt, [], Option, Some, None}
 use Rattle.sctp_wire_types.specs.declared.config.Profile.{Profile}
 use Rattle.sctp_wire_types.specs.declared.config.Profile.TheVariants as profiles
 use Rattle.sctp_wire_types.specs.declared.chunk.ChunkInit.{ChunkInit}
@@ -19,6 +19,19 @@ profile_by number = if number == 0 then profiles.Rfc else profiles.Port
 -- no other number names a profile
 abbrev pub names_profile : Config → Bool
 names_profile c = nat_lt c.profile 2
+
+-- Why no side can be made with a configuration, as a code: its profile has no name, a port is 0, no streams are offered,
+-- or a peer refuses the window (RFC 4960 section 3.3.2). 0 is no reason.
+abbrev pub config_refusal : Config → ℕ
+config_refusal c =
+    if not (names_profile c) then 63 else
+    if c.local_port == 0 || c.remote_port == 0 then 64 else
+    if c.max_num_outbound_streams == 0 || c.max_num_inbound_streams == 0 then 65 else
+    if nat_lt c.max_receive_buffer_size 1500 then 66 else 0
+
+-- why none can be made that begins a handshake or waits for one: the verification tag is 0, too
+abbrev pub side_refusal : Config → ℕ → ℕ
+side_refusal c tag = if config_refusal c == 0 then (if tag == 0 then 67 else 0) else config_refusal c
 
 abbrev pub settings_of : Config → Settings
 settings_of c = record {

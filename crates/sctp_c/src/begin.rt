@@ -1,5 +1,5 @@
 // How an association begins and ends.
-ghost use Rattle.std.specs.Prelude.{◌≡◌, ◌≢◌, ◌⊎◌, true, false, None, Some, IfOk, IsErrOf, IsOkAnd, IsSomeAnd};
+ghost use Rattle.std.specs.Prelude.{◌≡◌, ◌≢◌, ◌⊎◌, None, Some, IfOk, IsErrOf, IsOkAnd, IsSomeAnd};
 ghost use Rattle.sctp_wire_types.specs.declared.error.Error.TheVariants as errors;
 ghost use Rattle.sctp_streams.specs.declared.event.AssociationError.TheVariants as reasons;
 ghost use Rattle.sctp_assoc.specs.Calls.{Refuses, failed_refusal, first_refusal};
@@ -9,7 +9,7 @@ ghost use Rattle.sctp_assoc.specs.Shutdown.{shutdown_begun, shutdown_refusal};
 ghost use Rattle.sctp_driver.specs.Aborting.{Aborts, IsTooLong};
 ghost use Rattle.sctp_driver.specs.Driving.{RunsOutOfMemory, begun_with, by_rfcs, timeout_refusal, with_association};
 ghost use Rattle.sctp_slots.specs.Codes.{code_of};
-ghost use Rattle.sctp_c.specs.Configs.{names_profile, settings_of, token_chunk};
+ghost use Rattle.sctp_c.specs.Configs.{config_refusal, settings_of, side_refusal, token_chunk};
 ghost use Rattle.sctp_c.specs.Slots.{IsCode, IsCodeOrLacksMemory, IsPlaced, OnHeld, RefusesBy};
 ghost use Rattle.sctp_c.specs.Slots.{RefusesOrLacksMemoryBy};
 
@@ -18,10 +18,9 @@ use sctp_driver::{Driver, Error};
 use sctp_slots::{DONE, EMPTY_SLOT, NO_MEMORY, Slot, code_of, refusal_code};
 use std::alloc::Global;
 
-/// A configuration has a profile other than the two that there are.
-const BAD_PROFILE: u32 = 63;
-
-// Puts a driver that was just made into a slot, in place of one that it held.
+// Puts a driver that was just made into a slot, in place of one that it held. A driver is large, and each frame that
+// hands it on copies it, so this function is put into its callers.
+#[inline(always)]
 #[tactic(auto, using(crate::proofs::Refusals::never_done))]
 fn place(slot: &mut Slot, alloc: Global, made: Result<Driver, Error>) -> u32
     ensures code { IsPlaced made result }
@@ -53,8 +52,9 @@ pub extern "C" fn sctp_assoc_client(
     identity: &Identity,
     now: u64,
 ) -> u32
-    ensures unnamed { names_profile config.now ≡ false → result ≡ 63 }
-    ensures code { names_profile config.now ≡ true → IsCodeOrLacksMemory (first_refusal
+    ensures unusable { side_refusal config.now identity.now.tag ≢ 0
+        → result ≡ side_refusal config.now identity.now.tag }
+    ensures code { side_refusal config.now identity.now.tag ≡ 0 → IsCodeOrLacksMemory (first_refusal
         (timeout_refusal (settings_of config.now)) (create_refusal max_payload_size identity.now.initial_tsn)) result }
     ensures created { result ≡ 0 → IsSomeAnd slot.new.handle.driver (λ d. d ≡ begun_with
         (client (by_rfcs (settings_of config.now)) max_payload_size identity.now.tag identity.now.initial_tsn
@@ -62,8 +62,9 @@ pub extern "C" fn sctp_assoc_client(
         (settings_of config.now).max_init_retransmits) }
     ensures left { result ≢ 0 → slot.new.handle.driver ≡ slot.old.handle.driver }
 {
-    if !config.names_profile() {
-        return BAD_PROFILE;
+    let refusal = config.refusal_with(identity.tag);
+    if refusal != DONE {
+        return refusal;
     }
     let made = Driver::client(
         alloc,
@@ -88,8 +89,9 @@ pub extern "C" fn sctp_assoc_server(
     identity: &Identity,
     now: u64,
 ) -> u32
-    ensures unnamed { names_profile config.now ≡ false → result ≡ 63 }
-    ensures code { names_profile config.now ≡ true → IsCodeOrLacksMemory (first_refusal
+    ensures unusable { side_refusal config.now identity.now.tag ≢ 0
+        → result ≡ side_refusal config.now identity.now.tag }
+    ensures code { side_refusal config.now identity.now.tag ≡ 0 → IsCodeOrLacksMemory (first_refusal
         (timeout_refusal (settings_of config.now)) (create_refusal max_payload_size identity.now.initial_tsn)) result }
     ensures created { result ≡ 0 → IsSomeAnd slot.new.handle.driver (λ d. d ≡ begun_with
         (server (by_rfcs (settings_of config.now)) max_payload_size identity.now.tag identity.now.initial_tsn
@@ -97,8 +99,9 @@ pub extern "C" fn sctp_assoc_server(
         (settings_of config.now).max_init_retransmits) }
     ensures left { result ≢ 0 → slot.new.handle.driver ≡ slot.old.handle.driver }
 {
-    if !config.names_profile() {
-        return BAD_PROFILE;
+    let refusal = config.refusal_with(identity.tag);
+    if refusal != DONE {
+        return refusal;
     }
     let made = Driver::server(
         alloc,
@@ -149,8 +152,8 @@ pub extern "C" fn sctp_assoc_joined(
     local: &Token,
     remote: &Token,
 ) -> u32
-    ensures unnamed { names_profile config.now ≡ false → result ≡ 63 }
-    ensures code { names_profile config.now ≡ true → (result ≡ 2)
+    ensures unusable { config_refusal config.now ≢ 0 → result ≡ config_refusal config.now }
+    ensures code { config_refusal config.now ≡ 0 → (result ≡ 2)
         ⊎ IsCode (first_refusal (timeout_refusal (settings_of config.now))
         (join_refusal max_payload_size (token_chunk local.now) (token_chunk remote.now))) result }
     ensures created { result ≡ 0 → IsSomeAnd slot.new.handle.driver (λ d. d ≡ begun_with
@@ -159,8 +162,9 @@ pub extern "C" fn sctp_assoc_joined(
         (settings_of config.now).max_init_retransmits) }
     ensures left { result ≢ 0 → slot.new.handle.driver ≡ slot.old.handle.driver }
 {
-    if !config.names_profile() {
-        return BAD_PROFILE;
+    let refusal = config.refusal();
+    if refusal != DONE {
+        return refusal;
     }
     let made = by_tokens(alloc, config, max_payload_size, local, remote);
     place(slot, alloc, made)

@@ -1,6 +1,7 @@
 // What C hands over to make an association, as plain structs.
 ghost use Rattle.std.specs.Prelude.{◌≡◌, Err, IfOk, OnErr};
-ghost use Rattle.sctp_c.specs.Configs.{limit_of, names_profile, profile_by, settings_of, token_chunk};
+ghost use Rattle.sctp_c.specs.Configs.{config_refusal, limit_of, names_profile, profile_by, settings_of, side_refusal};
+ghost use Rattle.sctp_c.specs.Configs.{token_chunk};
 
 use sctp_driver::{ChunkInit, Error, Profile, TransportConfig, token};
 use sctp_slots::DONE;
@@ -28,6 +29,33 @@ pub struct Config {
 }
 
 const _: () = prove!(size_of::<Config>() == 64);
+
+/// A configuration has a profile other than the two that there are.
+const BAD_PROFILE: u32 = 63;
+
+/// A port is 0.
+const BAD_PORT: u32 = 64;
+
+/// No outbound or no inbound streams are offered.
+const BAD_STREAMS: u32 = 65;
+
+/// The receive buffer is a window that a peer refuses.
+const BAD_WINDOW: u32 = 66;
+
+/// The verification tag is 0.
+const BAD_TAG: u32 = 67;
+
+/// The least window that a peer takes, in bytes (RFC 4960 section 3.3.2).
+const LEAST_WINDOW: u32 = 1500;
+
+/// The retransmission timeout before the first measurement, in ms, by default.
+const RTO_INITIAL: u64 = 500;
+
+/// The least retransmission timeout, in ms, by default. It is above the 200 ms for which a peer may hold back a SACK.
+const RTO_MIN: u64 = 400;
+
+/// The timeouts in a row in which DATA is sent again, by default.
+const DATA_RETRANSMITS: usize = 10;
 
 /// What names one side: its verification tag, its first TSN and its State Cookie.
 #[repr(C)]
@@ -101,10 +129,39 @@ impl Config {
     }
 
     /// Whether its profile is one of the two that there are.
-    pub(crate) fn names_profile(&self) -> bool
+    fn names_profile(&self) -> bool
         ensures { result ≡ names_profile self.now }
     {
         self.profile < 2
+    }
+
+    /// Why no side can be made with it, as a code; 0 where nothing speaks against it.
+    pub(crate) fn refusal(&self) -> u32
+        ensures { result ≡ config_refusal self.now }
+    {
+        if !self.names_profile() {
+            BAD_PROFILE
+        } else if self.local_port == 0 || self.remote_port == 0 {
+            BAD_PORT
+        } else if self.max_num_outbound_streams == 0 || self.max_num_inbound_streams == 0 {
+            BAD_STREAMS
+        } else if self.max_receive_buffer_size < LEAST_WINDOW {
+            BAD_WINDOW
+        } else {
+            DONE
+        }
+    }
+
+    /// Why no side can be made with it that has this verification tag.
+    pub(crate) fn refusal_with(&self, tag: u32) -> u32
+        ensures { result ≡ side_refusal self.now tag }
+    {
+        let refusal = self.refusal();
+        if refusal == DONE && tag == 0 {
+            BAD_TAG
+        } else {
+            refusal
+        }
     }
 
     // C takes the rules of the RFCs by default, whatever the configuration names.
@@ -145,10 +202,19 @@ impl Token {
     }
 }
 
+// The configuration that C takes by default: over today's paths the seconds that RFC 4960 section 15 gives are long, and
+// its ten retransmissions end an association whose peer is silent for good.
+fn defaults() -> TransportConfig {
+    TransportConfig::default()
+        .with_rto_initial_ms(RTO_INITIAL)
+        .with_rto_min_ms(RTO_MIN)
+        .with_max_data_retransmits(Some(DATA_RETRANSMITS))
+}
+
 /// Writes the default configuration.
 #[unsafe(no_mangle)]
 pub extern "C" fn sctp_assoc_default_config(config: &mut Config) -> u32 {
-    *config = Config::of(&TransportConfig::default());
+    *config = Config::of(&defaults());
     DONE
 }
 

@@ -10,6 +10,7 @@ mod begin;
 mod config;
 mod datagrams;
 mod events;
+mod numbers;
 mod path;
 mod questions;
 mod release;

@@ -4,14 +4,14 @@ ghost use Rattle.sctp_c.specs.Releases.{release};
 
 const MAJOR: u32 = 0;
 
-const MINOR: u32 = 1;
+const MINOR: u32 = 2;
 
 const PATCH: u32 = 0;
 
 /// The number of this release.
 #[unsafe(no_mangle)]
 pub extern "C" fn sctp_assoc_version() -> u32
-    ensures { result ≡ release 0 1 0 }
+    ensures { result ≡ release 0 2 0 }
 {
     10_000 * MAJOR + 100 * MINOR + PATCH
 }

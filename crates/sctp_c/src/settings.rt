@@ -1,13 +1,14 @@
 // What is set: how long a message may be, and of a stream its payload type and its marks.
-ghost use Rattle.std.specs.Prelude.{◌≡◌, ◌≢◌, None};
+ghost use Rattle.std.specs.Prelude.{◌≡◌, ◌≢◌, true, false, None};
 ghost use Rattle.sctp_wire_types.specs.Ids.{identifier_of, number_of};
 ghost use Rattle.sctp_streams.specs.declared.setting.Setting.TheVariants as settings;
 ghost use Rattle.sctp_assoc.specs.Calls.{adjusted, stream_refusal, with_max_send_message_size};
 ghost use Rattle.sctp_driver.specs.Driving.{with_association};
 ghost use Rattle.sctp_driver.specs.Streams.{asked_of, buffered_on};
-ghost use Rattle.sctp_c.specs.Codes.{Writes, WritesNumber};
+ghost use Rattle.sctp_c.specs.Codes.{Writes, WritesNumber, names_payload_type};
 ghost use Rattle.sctp_c.specs.Slots.{OnAny, OnHeld, RefusesBy};
 
+use crate::numbers::{BAD_PAYLOAD_TYPE, names_payload_type};
 use sctp_driver::{Error, PayloadProtocolIdentifier};
 use sctp_slots::{DONE, EMPTY_SLOT, Slot, code_of, refusal_code};
 use std::alloc::Global;
@@ -67,12 +68,17 @@ pub extern "C" fn sctp_assoc_set_payload_type(
     stream: u16,
     payload_type: u32,
 ) -> u32
-    ensures code { RefusesBy (λ d. stream_refusal d.association stream) slot.old.handle.driver result }
+    ensures unnamed { names_payload_type payload_type ≡ false → result ≡ 68 }
+    ensures code { names_payload_type payload_type ≡ true
+        → RefusesBy (λ d. stream_refusal d.association stream) slot.old.handle.driver result }
     ensures done { result ≡ 0 → OnHeld slot.old.handle.driver slot.new.handle.driver
         (λ d e. e ≡ with_association d
         (adjusted d.association stream (settings.DefaultPayloadType (identifier_of payload_type)))) }
     ensures left { result ≢ 0 → slot.new.handle.driver ≡ slot.old.handle.driver }
 {
+    if !names_payload_type(payload_type) {
+        return BAD_PAYLOAD_TYPE;
+    }
     let Some(mut driver) = slot.take(alloc) else {
         return EMPTY_SLOT;
     };

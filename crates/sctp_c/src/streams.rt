@@ -1,5 +1,5 @@
 // The calls of streams.
-ghost use Rattle.std.specs.Prelude.{◌≡◌, ◌≢◌, None, IfSome, length};
+ghost use Rattle.std.specs.Prelude.{◌≡◌, ◌≢◌, true, false, None, IfSome, length};
 ghost use Rattle.sctp_wire_types.specs.Ids.{identifier_of};
 ghost use Rattle.sctp_streams.specs.declared.setting.Setting.TheVariants as settings;
 ghost use Rattle.sctp_streams.specs.Stream.{params_of};
@@ -9,13 +9,17 @@ ghost use Rattle.sctp_driver.specs.Driving.{RunsOutOfMemory, with_association};
 ghost use Rattle.sctp_driver.specs.Messages.{Reads, with_message};
 ghost use Rattle.sctp_driver.specs.Streams.{refusal_to_stop, stream_closed, with_stopped};
 ghost use Rattle.sctp_slots.specs.Codes.{code_of};
-ghost use Rattle.sctp_slots.specs.Numbers.{reliability_by};
-ghost use Rattle.sctp_c.specs.Codes.{answer_in, code_with, found_by};
+ghost use Rattle.sctp_slots.specs.Numbers.{names_reliability, reliability_by};
+ghost use Rattle.sctp_c.specs.Codes.{answer_in, code_with, found_by, may_be_written, names_payload_type};
 ghost use Rattle.sctp_c.specs.Codes.{payload_type_by, read_by, read_code};
 ghost use Rattle.sctp_c.specs.Slots.{OnAny, OnHeld, RefusesBy, RefusesOrLacksMemoryBy};
 
+use crate::numbers::{BAD_PAYLOAD_TYPE, may_be_written, names_payload_type};
 use sctp_driver::{Error, PayloadProtocolIdentifier, ReadAnswer};
-use sctp_slots::{DONE, EMPTY_SLOT, NO_ROOM, NOTHING, Slot, code_of, refusal_code, reliability_of};
+use sctp_slots::{
+    BAD_RELIABILITY, DONE, EMPTY_SLOT, NO_ROOM, NOTHING, Slot, code_of, names_reliability,
+    refusal_code, reliability_of,
+};
 use std::alloc::Global;
 
 /// Makes a stream on this side.
@@ -27,13 +31,17 @@ pub extern "C" fn sctp_assoc_open_stream(
     stream: u16,
     payload_type: u32,
 ) -> u32
-    ensures code { RefusesOrLacksMemoryBy (λ d. open_refusal d.association stream)
-        slot.old.handle.driver result }
+    ensures unnamed { names_payload_type payload_type ≡ false → result ≡ 68 }
+    ensures code { names_payload_type payload_type ≡ true → RefusesOrLacksMemoryBy
+        (λ d. open_refusal d.association stream) slot.old.handle.driver result }
     ensures done { result ≡ 0 → OnHeld slot.old.handle.driver slot.new.handle.driver
         (λ d e. e ≡ with_association d
         (opened d.association stream (identifier_of payload_type))) }
     ensures left { result ≢ 0 → slot.new.handle.driver ≡ slot.old.handle.driver }
 {
+    if !names_payload_type(payload_type) {
+        return BAD_PAYLOAD_TYPE;
+    }
     let Some(mut driver) = slot.take(alloc) else {
         return EMPTY_SLOT;
     };
@@ -95,13 +103,17 @@ pub extern "C" fn sctp_assoc_write(
     payload_type: u32,
     message: &[u8],
 ) -> u32
-    ensures code { RefusesOrLacksMemoryBy (λ d. refusal_to_write d.association stream (length message.now))
-        slot.old.handle.driver result }
+    ensures unnamed { may_be_written payload_type ≡ false → result ≡ 68 }
+    ensures code { may_be_written payload_type ≡ true → RefusesOrLacksMemoryBy
+        (λ d. refusal_to_write d.association stream (length message.now)) slot.old.handle.driver result }
     ensures done { result ≡ 0 → OnHeld slot.old.handle.driver slot.new.handle.driver
         (λ d e. e ≡ with_association d
         (written d.association stream (payload_type_by payload_type) message.now)) }
     ensures left { result ≢ 0 → slot.new.handle.driver ≡ slot.old.handle.driver }
 {
+    if !may_be_written(payload_type) {
+        return BAD_PAYLOAD_TYPE;
+    }
     let Some(mut driver) = slot.take(alloc) else {
         return EMPTY_SLOT;
     };
@@ -228,12 +240,17 @@ pub extern "C" fn sctp_assoc_set_reliability(
     kind: u32,
     value: u32,
 ) -> u32
-    ensures code { RefusesBy (λ d. stream_refusal d.association stream) slot.old.handle.driver result }
+    ensures unnamed { names_reliability kind ≡ false → result ≡ 69 }
+    ensures code { names_reliability kind ≡ true
+        → RefusesBy (λ d. stream_refusal d.association stream) slot.old.handle.driver result }
     ensures done { result ≡ 0 → OnHeld slot.old.handle.driver slot.new.handle.driver
         (λ d e. e ≡ with_association d (adjusted d.association stream
         (settings.Reliability (params_of unordered (reliability_by kind) value)))) }
     ensures left { result ≢ 0 → slot.new.handle.driver ≡ slot.old.handle.driver }
 {
+    if !names_reliability(kind) {
+        return BAD_RELIABILITY;
+    }
     let Some(mut driver) = slot.take(alloc) else {
         return EMPTY_SLOT;
     };

@@ -1,5 +1,5 @@
 -- What the structs of C say of a channel.
-use Rattle.std.specs.Prelude.{◌≡◌, ℕ, ◌==◌, Bool, true, false, not, if◌then◌else◌, List, length}
+use Rattle.std.specs.Prelude.{◌≡◌, ℕ, ◌==◌, Bool, true, false, nat_lt, not, if◌then◌else◌, List, length}
 use Rattle.std.specs.Prelude.{Option, Some, None}
 use Rattle.sctp_wire_types.specs.declared.ids.PayloadProtocolIdentifier.{PayloadProtocolIdentifier}
 use Rattle.dcep_messages.specs.declared.persistence.Persistence.{Persistence}
@@ -14,6 +14,10 @@ use Rattle.channel_table.specs.Channels.{ChannelView, state_of}
 use Rattle.channel_table.specs.Payloads.{binary_type, is_empty, text_type}
 use Rattle.sctp_channels_c.specs.declared.opening.Options.{Options}
 use Rattle.sctp_channels_c.specs.declared.questions.Info.{Info}
+
+-- a client's or a server's
+abbrev pub names_role : ℕ → Bool
+names_role number = nat_lt number 2
 
 abbrev pub role_by : ℕ → Role
 role_by number = if number == 0 then roles.Client else roles.Server

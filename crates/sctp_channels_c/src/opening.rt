@@ -1,16 +1,17 @@
 // Channels are opened and closed.
-ghost use Rattle.std.specs.Prelude.{◌≡◌, ℕ, Result};
+ghost use Rattle.std.specs.Prelude.{◌≡◌, ℕ, Result, true, false};
 ghost use Rattle.sctp_channels.specs.Opening.{Closes};
 ghost use Rattle.sctp_channels_c.specs.Answers.{Answers, WritesNumber};
 ghost use Rattle.sctp_channels_c.specs.Kinds.{kind_by, negotiated_by, persistence_by};
 ghost use Rattle.sctp_channels_c.specs.Polls.{Opens};
 ghost use Rattle.sctp_channels_c.specs.Slots.{OnBoth};
+ghost use Rattle.sctp_slots.specs.Numbers.{names_reliability};
 
 use crate::codes::{code_of, fault_code};
 use crate::slot::{ChannelsSlot, take_both};
 use sctp_channels::{ChannelError, ChannelKind, Channels, Persistence};
 use sctp_driver::Driver;
-use sctp_slots::{DONE, EMPTY_SLOT, Slot};
+use sctp_slots::{BAD_RELIABILITY, DONE, EMPTY_SLOT, Slot, names_reliability};
 use std::alloc::Global;
 
 /// What a channel is asked to be, but for its label and protocol. `include/sctp_channels.h` has the numbers.
@@ -95,10 +96,18 @@ pub extern "C" fn sctp_channels_open(
     protocol: &[u8],
     id: &mut u16,
 ) -> u32
-    ensures { OnBoth slot.old.handle.channels assoc.old.handle.driver result slot.new.handle.channels
-        assoc.new.handle.driver (λ c d f e. (e ≡ d) × ((answer : Result ℕ ChannelError)
+    ensures unnamed { names_reliability options.now.reliability ≡ false → result ≡ 69 }
+    ensures left { names_reliability options.now.reliability ≡ false
+        → (slot.new.handle.channels ≡ slot.old.handle.channels)
+        × (assoc.new.handle.driver ≡ assoc.old.handle.driver) × (id.new ≡ id.old) }
+    ensures opens { names_reliability options.now.reliability ≡ true → OnBoth slot.old.handle.channels
+        assoc.old.handle.driver result slot.new.handle.channels assoc.new.handle.driver
+        (λ c d f e. (e ≡ d) × ((answer : Result ℕ ChannelError)
         × WritesNumber answer result id.old id.new × Opens (kind_by options.now) label.now protocol.now c d answer f)) }
 {
+    if !names_reliability(options.reliability) {
+        return BAD_RELIABILITY;
+    }
     let Some((mut channels, driver)) = take_both(slot, assoc, alloc) else {
         return EMPTY_SLOT;
     };

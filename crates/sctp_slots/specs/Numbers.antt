@@ -1,10 +1,14 @@
 -- What numbers stand for that C hands over or is told.
-use Rattle.std.specs.Prelude.{ℕ, ◌==◌, if◌then◌else◌}
+use Rattle.std.specs.Prelude.{ℕ, ◌==◌, Bool, if◌then◌else◌, nat_lt}
 use Rattle.sctp_wire_types.specs.declared.error.Error.TheVariants as errors
 use Rattle.sctp_wire_types.specs.declared.reliability.ReliabilityType.{ReliabilityType}
 use Rattle.sctp_wire_types.specs.declared.reliability.ReliabilityType.TheVariants as kinds
 use Rattle.sctp_streams.specs.declared.event.AssociationError.{AssociationError}
 use Rattle.sctp_streams.specs.declared.event.AssociationError.TheVariants as reasons
+
+-- none, a number of retransmissions, or a time
+abbrev pub names_reliability : ℕ → Bool
+names_reliability kind = nat_lt kind 3
 
 -- how long a message is sent again
 abbrev pub reliability_by : ℕ → ReliabilityType

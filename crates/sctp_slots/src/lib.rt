@@ -9,5 +9,5 @@ mod slot;
 
 pub use codes::{DONE, EMPTY_SLOT, NO_MEMORY, NO_ROOM, NOTHING, code_of, refusal_code};
 pub use handle::Handle;
-pub use numbers::{reason_of, reliability_of};
+pub use numbers::{BAD_RELIABILITY, names_reliability, reason_of, reliability_of};
 pub use slot::Slot;

@@ -1,8 +1,11 @@
 // Numbers that C hands over or is told. `include/sctp_assoc.h` names them.
 ghost use Rattle.std.specs.Prelude.{◌≡◌};
-ghost use Rattle.sctp_slots.specs.Numbers.{reason_number, reliability_by};
+ghost use Rattle.sctp_slots.specs.Numbers.{names_reliability, reason_number, reliability_by};
 
 use sctp_driver::{AssociationError, Error, ReliabilityType};
+
+/// The code of a reliability without a name.
+pub const BAD_RELIABILITY: u32 = 69;
 
 const NO_INIT_ACK: u32 = 1;
 
@@ -25,6 +28,13 @@ pub fn reason_of(reason: AssociationError) -> u32
         AssociationError::ReceiveBufferExhausted => BUFFER_EXHAUSTED,
         _ => OTHER_REASON,
     }
+}
+
+/// Whether a reliability has a name.
+pub fn names_reliability(kind: u32) -> bool
+    ensures { result ≡ names_reliability kind }
+{
+    kind < 3
 }
 
 /// How long messages of a stream are sent again, by its number.

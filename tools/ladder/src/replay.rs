@@ -21,6 +21,8 @@ impl Replay {
     pub fn new(beginning: Beginning) -> Result<Replay, Error> {
         let began = Instant::now();
         let mut config = Config::default();
+        (config.rto_initial, config.rto_min) = (Duration::from_secs(3), Duration::from_secs(1)); // those of ./lab
+        config.max_data_retransmits = None;
         config.max_payload_size = beginning.max_payload_size;
         config.profile = beginning.profile;
         let [a, b] = beginning.first_tsns;

@@ -18,6 +18,8 @@ pub const SCTP_CHANNELS_IDENTIFIER_PAST_STREAMS: sctp_assoc_code = 45;
 pub const SCTP_CHANNELS_LOST: sctp_assoc_code = 46;
 /// A message of another payload type was received.
 pub const SCTP_CHANNELS_OTHER: sctp_assoc_code = 47;
+/// The role is neither of the two that there are.
+pub const SCTP_CHANNELS_BAD_ROLE: sctp_assoc_code = 70;
 
 /// The client of the DTLS handshake, whose own channels have even identifiers (RFC 8832 section 6).
 pub const SCTP_CHANNELS_CLIENT: u32 = 0;

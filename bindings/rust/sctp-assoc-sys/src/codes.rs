@@ -46,6 +46,18 @@ pub const SCTP_ASSOC_BAD_INIT: sctp_assoc_code = 61;
 pub const SCTP_ASSOC_BAD_TIMEOUT: sctp_assoc_code = 62;
 /// The profile is neither of the two that there are.
 pub const SCTP_ASSOC_BAD_PROFILE: sctp_assoc_code = 63;
+/// A port is 0.
+pub const SCTP_ASSOC_BAD_PORT: sctp_assoc_code = 64;
+/// A number of streams is 0.
+pub const SCTP_ASSOC_BAD_STREAMS: sctp_assoc_code = 65;
+/// The receive buffer is below 1500 bytes.
+pub const SCTP_ASSOC_BAD_WINDOW: sctp_assoc_code = 66;
+/// The verification tag is 0.
+pub const SCTP_ASSOC_BAD_TAG: sctp_assoc_code = 67;
+/// The payload protocol identifier has no name.
+pub const SCTP_ASSOC_BAD_PAYLOAD_TYPE: sctp_assoc_code = 68;
+/// The reliability has no name.
+pub const SCTP_ASSOC_BAD_RELIABILITY: sctp_assoc_code = 69;
 
 /// No limit, in `max_init_retransmits` and `max_data_retransmits`.
 pub const SCTP_ASSOC_NO_LIMIT: usize = usize::MAX;

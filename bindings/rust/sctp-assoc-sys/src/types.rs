@@ -23,7 +23,7 @@ impl sctp_assoc {
 #[repr(C)]
 #[derive(Clone, Copy, Debug, Default)]
 pub struct sctp_assoc_config {
-    /// The window that is offered, in bytes. A peer refuses one below 1500.
+    /// The window that is offered, in bytes, 1500 or more.
     pub max_receive_buffer_size: u32,
     /// Greatest message that may be written, in bytes.
     pub max_send_message_size: u32,
@@ -49,9 +49,9 @@ pub struct sctp_assoc_config {
     pub rto_max_ms: u64,
     /// How often INIT and COOKIE ECHO go out again; [`SCTP_ASSOC_NO_LIMIT`](crate::SCTP_ASSOC_NO_LIMIT).
     pub max_init_retransmits: usize,
-    /// Timeouts in a row after which DATA is no longer sent again; by
-    /// [`SCTP_ASSOC_PROFILE_RFC`](crate::SCTP_ASSOC_PROFILE_RFC) a SACK with a window of 0 ends the row, too.
-    /// [`SCTP_ASSOC_NO_LIMIT`](crate::SCTP_ASSOC_NO_LIMIT).
+    /// Timeouts in a row in which DATA is sent again. At the next one the association ends by
+    /// [`SCTP_ASSOC_PROFILE_RFC`](crate::SCTP_ASSOC_PROFILE_RFC), where a SACK with a window of 0 ends the row, too; by
+    /// the other one DATA is no longer sent. [`SCTP_ASSOC_NO_LIMIT`](crate::SCTP_ASSOC_NO_LIMIT).
     pub max_data_retransmits: usize,
 }
 

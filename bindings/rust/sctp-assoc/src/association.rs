@@ -53,7 +53,8 @@ pub struct Totals {
 impl Association {
     /// Makes a client, whose INIT waits for [`poll_transmit`](Association::poll_transmit).
     ///
-    /// Errors: `BadTimeout`, `BadPayloadSize`, `BadInitialTsn`, `NoMemory`.
+    /// Errors: `BadPort`, `BadStreams`, `BadWindow`, `BadTag`, `BadTimeout`, `BadPayloadSize`, `BadInitialTsn`,
+    /// `NoMemory`.
     pub fn client(config: &Config, identity: &Identity, now: Instant) -> Result<Association, Error> {
         let slot = Slot::client(&config.raw(), config.max_payload_size, &identity.raw())?;
         Ok(Association { slot, began: now, observer: None })
@@ -61,7 +62,8 @@ impl Association {
 
     /// Makes a server, which waits for an INIT.
     ///
-    /// Errors: `BadTimeout`, `BadPayloadSize`, `BadInitialTsn`, `NoMemory`.
+    /// Errors: `BadPort`, `BadStreams`, `BadWindow`, `BadTag`, `BadTimeout`, `BadPayloadSize`, `BadInitialTsn`,
+    /// `NoMemory`.
     pub fn server(config: &Config, identity: &Identity, now: Instant) -> Result<Association, Error> {
         let slot = Slot::server(&config.raw(), config.max_payload_size, &identity.raw())?;
         Ok(Association { slot, began: now, observer: None })
@@ -69,7 +71,7 @@ impl Association {
 
     /// Makes a side that is established at once, by both sides' tokens. [`Event::Connected`] waits.
     ///
-    /// Errors: `BadTimeout`, `BadPayloadSize`, `BadToken`, `NoMemory`.
+    /// Errors: `BadPort`, `BadStreams`, `BadWindow`, `BadTimeout`, `BadPayloadSize`, `BadToken`, `NoMemory`.
     pub fn joined(config: &Config, local: &Token, remote: &Token, now: Instant) -> Result<Association, Error> {
         let slot = Slot::joined(&config.raw(), config.max_payload_size, &local.raw(), &remote.raw())?;
         Ok(Association { slot, began: now, observer: None })

@@ -7,11 +7,11 @@ use std::time::Duration;
 #[derive(Clone, Debug, PartialEq, Eq)]
 #[non_exhaustive]
 pub struct Config {
-    /// Greatest payload of one DATA chunk, 1 to 65,519 bytes; 1172, which fits links of 1280 bytes below UDP and IPv6.
-    /// A datagram with DATA has up to 28 bytes more, and up to 3 besides if this is no multiple of 4.
+    /// Greatest payload of one DATA chunk, 1 to 65,519 bytes; 1164, which fits links of 1280 bytes below DTLS, UDP and
+    /// IPv6. A datagram with DATA has up to 28 bytes more, and up to 3 besides if this is no multiple of 4.
     /// [`poll_transmit`](crate::Association::poll_transmit) says how long others get.
     pub max_payload_size: u32,
-    /// The receive buffer and the window that is offered, in bytes; 1,048,576. A peer refuses one below 1500.
+    /// The receive buffer and the window that is offered, in bytes; 1,048,576. It is 1500 at least.
     pub max_receive_buffer_size: u32,
     /// Greatest message that may be written, in bytes; 65,536.
     pub max_send_message_size: u32,
@@ -27,10 +27,10 @@ pub struct Config {
     pub remote_port: u16,
     /// The rules that are kept where docs/CONFORMANCE.md of the checkout has two; [`Profile::Rfc`].
     pub profile: Profile,
-    /// Retransmission timeout before the first measurement (RFC 4960 section 6.3.1); 3 s. Whole milliseconds count, and
-    /// one at least is needed.
+    /// Retransmission timeout before the first measurement (RFC 4960 section 6.3.1); 500 ms. Whole milliseconds count,
+    /// and one at least is needed.
     pub rto_initial: Duration,
-    /// Least retransmission timeout; 1 s. The same holds of it.
+    /// Least retransmission timeout; 400 ms. The same holds of it. A peer may hold back a SACK for 200 ms.
     pub rto_min: Duration,
     /// Greatest retransmission timeout; 60 s. The same holds of it.
     pub rto_max: Duration,
@@ -40,7 +40,7 @@ pub struct Config {
     pub max_init_retransmits: Option<usize>,
     /// Timeouts in a row in which DATA is sent again. At the next one the association ends by [`Profile::Rfc`], where a
     /// SACK with a window of 0 ends the row, too. By [`Profile::Port`] DATA is no longer sent, and nothing tells of
-    /// that, so bound the wait for an acknowledgement. None, the default, is no limit.
+    /// that, so take None there, and bound the wait for an acknowledgement. 10; None is no limit.
     pub max_data_retransmits: Option<usize>,
 }
 
@@ -75,7 +75,7 @@ impl Default for Config {
     fn default() -> Config {
         let raw = slot::default_config();
         Config {
-            max_payload_size: 1172,
+            max_payload_size: 1164,
             max_receive_buffer_size: raw.max_receive_buffer_size,
             max_send_message_size: raw.max_send_message_size,
             max_receive_message_size: raw.max_receive_message_size,

@@ -49,6 +49,14 @@ pub enum Error {
     BadInit,
     /// A retransmission timeout of the configuration is below one millisecond.
     BadTimeout,
+    /// A port of the configuration is 0.
+    BadPort,
+    /// The configuration offers no inbound or no outbound streams.
+    BadStreams,
+    /// The receive buffer of the configuration is below 1500 bytes, a window that a peer refuses.
+    BadWindow,
+    /// The verification tag of an identity is 0.
+    BadTag,
     /// The library answered a code that these bindings do not know.
     Unknown(u32),
 }
@@ -76,6 +84,10 @@ impl Error {
             sys::SCTP_ASSOC_NO_RANDOM => Error::NoRandom,
             sys::SCTP_ASSOC_BAD_INIT => Error::BadInit,
             sys::SCTP_ASSOC_BAD_TIMEOUT => Error::BadTimeout,
+            sys::SCTP_ASSOC_BAD_PORT => Error::BadPort,
+            sys::SCTP_ASSOC_BAD_STREAMS => Error::BadStreams,
+            sys::SCTP_ASSOC_BAD_WINDOW => Error::BadWindow,
+            sys::SCTP_ASSOC_BAD_TAG => Error::BadTag,
             other => Error::Unknown(other),
         }
     }
@@ -103,6 +115,10 @@ impl fmt::Display for Error {
             Error::NoRandom => f.write_str("the system gives no random bytes"),
             Error::BadInit => f.write_str("the bytes are no INIT chunk"),
             Error::BadTimeout => f.write_str("a retransmission timeout is 0"),
+            Error::BadPort => f.write_str("a port is 0"),
+            Error::BadStreams => f.write_str("no streams are offered"),
+            Error::BadWindow => f.write_str("the receive buffer is below 1500 bytes"),
+            Error::BadTag => f.write_str("the verification tag is 0"),
             Error::Unknown(code) => write!(f, "the library answered the unknown code {code}"),
         }
     }

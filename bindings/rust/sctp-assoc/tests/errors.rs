@@ -85,6 +85,21 @@ fn without_a_timeout() -> [Config; 3] {
     configs
 }
 
+/// Configurations with one fault each.
+fn unusable() -> [(Config, Error); 4] {
+    let with = |spoil: fn(&mut Config)| {
+        let mut config = Config::default();
+        spoil(&mut config);
+        config
+    };
+    [
+        (with(|config| config.local_port = 0), Error::BadPort),
+        (with(|config| config.remote_port = 0), Error::BadPort),
+        (with(|config| config.max_num_inbound_streams = 0), Error::BadStreams),
+        (with(|config| config.max_receive_buffer_size = 1499), Error::BadWindow),
+    ]
+}
+
 fn refused_begin() {
     let now = Instant::now();
     let config = Config::default();
@@ -99,6 +114,13 @@ fn refused_begin() {
         assert_eq!(error(Association::server(&config, &identity(1), now)), Error::BadTimeout);
         assert_eq!(error(Association::joined(&config, &token, &token, now)), Error::BadTimeout);
     }
+    for (config, wanted) in unusable() {
+        assert_eq!(error(Association::client(&config, &identity(1), now)), wanted);
+        assert_eq!(error(Association::server(&config, &identity(1), now)), wanted);
+        assert_eq!(error(Association::joined(&config, &token, &token, now)), wanted);
+    }
+    let without_tag = sctp_assoc::Identity { tag: 0, ..identity(1) };
+    assert_eq!(error(Association::client(&config, &without_tag, now)), Error::BadTag);
     assert_eq!(error(Association::client(&too_small, &identity(1), now)), Error::BadPayloadSize);
     assert_eq!(error(Association::server(&config, &without_tsn, now)), Error::BadInitialTsn);
     assert_eq!(error(Association::joined(&config, &token, &narrow, now)), Error::BadToken);

@@ -20,12 +20,12 @@ fn a_message_is_counted_and_passes_the_marks() -> Result<(), Error> {
     stream.write(&[7; 100])?;
     assert_eq!(stream.buffered_amount()?, 100);
     assert_eq!(events(&mut link, 0)?, [Event::BufferedAmountHigh { stream: 7 }]);
-    assert_eq!(link.ends[0].rto(), Duration::from_secs(3));
+    assert_eq!(link.ends[0].rto(), Duration::from_millis(500));
 
     link.settle()?;
     assert!(link.ends[1].stream(7).read_vec()?.is_some());
     assert_eq!(events(&mut link, 0)?, [Event::BufferedAmountLow { stream: 7 }]);
-    assert_eq!(link.ends[0].rto(), Duration::from_secs(1));
+    assert_eq!(link.ends[0].rto(), Duration::from_millis(600));
     assert_eq!(link.ends[0].stream(7).stats()?, counters((1, 100), (0, 0)));
     assert_eq!(link.ends[1].stream(7).stats()?, counters((0, 0), (1, 100)));
     let (writer, reader) = (link.ends[0].stats(), link.ends[1].stats());
