@@ -20,10 +20,11 @@ use Rattle.sctp_boundaries.specs.Between.{Courses, IsGivenOut, StandBetween}
 use Rattle.sctp_boundaries.specs.Laws.{NamesIdentifiers, RunKeepsBoundaries, StandsFresh, StepKeepsBoundaries}
 use Rattle.sctp_boundaries.specs.Laws.{fresh_courses}
 use Rattle.sctp_steps.specs.Steps.{Runs}
-use Rattle.sctp_pair.specs.Across.{AreReadAlong, CameFresh, ReadSinceNew, ReadsOn}
+use Rattle.sctp_closed_between.specs.Between.{BeginsUnclosed}
+use Rattle.sctp_pair.specs.Across.{AreReadAlong, CameFresh, EndsOn, ReadSinceNew, ReadsOn}
 use Rattle.sctp_pair.specs.Callers.{AcceptFew}
 use Rattle.sctp_pair.proofs.FewInAll.{few_stay_few}
-use Rattle.pair_callers.specs.Resetting.{AcrossFromNew, IsAnew, PartsOnceMore, ReadsAnew, WrittenFromNew}
+use Rattle.pair_callers.specs.Resetting.{AcrossFromNew, EndedFromNew, IsAnew, PartsOnceMore, ReadsAnew, WrittenFromNew}
 use Rattle.pair_callers.proofs.FewAccepted.{made_alike}
 
 -- what was read last counts beside what was read before
@@ -98,6 +99,11 @@ module _ {size own_a own_b : ℕ} {p : Ends} (fresh : CameFresh (made_alike size
 
     pub written_from_new : WrittenFromNew size ss rs
     written_from_new named few polls = (read_since named few).written polls
+
+    pub ended_from_new : BeginsUnclosed p → EndsOn ss rs p q → EndedFromNew size ss rs
+    ended_from_new none ended named few polls =
+        ended (made_alike size own_a own_b) [] [] fresh (subst (λ (z : Ends). BeginsUnclosed z) begins none)
+        (few_stay_few ss rs p q led (made_alike size own_a own_b) [] [] fresh.came few) named polls
 
     pub across_from_new : (p.packets_a ≡ []) × (p.packets_b ≡ []) → RunKeepsBoundaries ss rs p q
         → AcrossFromNew size own_a own_b ss rs

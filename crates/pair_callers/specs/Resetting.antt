@@ -17,6 +17,7 @@ use Rattle.sctp_steps.specs.Steps.{Runs}
 use Rattle.sctp_boundaries.specs.Between.{AreFew, Courses, IsGivenOut, StandBetween}
 use Rattle.sctp_boundaries.specs.Laws.{GoesTo, GrowsAsSeen, IsDividedBy, KeepAlong, NamesIdentifiers, StandsFresh}
 use Rattle.sctp_boundaries.specs.Laws.{fresh_courses, polls_side}
+use Rattle.sctp_closed_between.specs.Between.{AreOfClosed}
 use Rattle.sctp_pair.specs.Across.{AreReadAlong, PollsAreFew, WereWritten}
 use Rattle.sctp_pair.specs.Callers.{AcceptFew}
 
@@ -86,3 +87,9 @@ pub record AcrossFromNew (size own_a own_b : ℕ) (ss : List Step) (rs : List Re
 abbrev pub WrittenFromNew : ℕ → List Step → List Reply → Type 0
 WrittenFromNew size ss rs = AllByRecursion NamesIdentifiers ss → AcceptFew size size ss rs → PollsAreFew ss → (id : ℕ)
     → WereWritten id ss rs
+
+-- By the same premises each end of a stream that a reply tells of is of a stream that a step closed before, at either
+-- side.
+abbrev pub EndedFromNew : ℕ → List Step → List Reply → Type 0
+EndedFromNew size ss rs = AllByRecursion NamesIdentifiers ss → AcceptFew size size ss rs → PollsAreFew ss
+    → AreOfClosed [] ss rs

@@ -1,6 +1,6 @@
 // Resetting: what a caller is told of a stream, whatever resets it went through.
 ghost use Rattle.std.specs.Prelude.{IfOk};
-ghost use Rattle.pair_callers.specs.Resetting.{AcrossFromNew, PartsOnceMore, ReadsAnew, WrittenFromNew};
+ghost use Rattle.pair_callers.specs.Resetting.{AcrossFromNew, EndedFromNew, PartsOnceMore, ReadsAnew, WrittenFromNew};
 
 use sctp_assoc::{
     AssociationId, ChunkInit, Error, Instant, ServerConfig, StreamId, TransportConfig,
@@ -28,7 +28,8 @@ pub fn step_across_resets(pair: &mut Pair, step: &Step) -> Reply
 /// Joins two associations by their tokens and runs the steps: the boundaries of each stream's resets are kept along
 /// them, if each stop and each close of a stream names an identifier of 16 bits (`across`). If each side accepts fewer
 /// than 16,384 pieces in all, and is asked fewer than 2^31 times for packets to send, each message that was read was
-/// written by the other side, whole, and none was read twice, whichever resets its stream went through (`written`).
+/// written by the other side, whole, and none was read twice, whichever resets its stream went through (`written`); and
+/// no reply tells of an end of a stream that no step closed before, at either side (`ended`).
 pub fn run_across_resets(
     alloc: Global,
     config: &TransportConfig,
@@ -42,6 +43,7 @@ pub fn run_across_resets(
     ensures across { IfOk result (λ replies. AcrossFromNew max_payload_size token_a.now.initial_tsn
         token_b.now.initial_tsn steps.now replies.items) }
     ensures written { IfOk result (λ replies. WrittenFromNew max_payload_size steps.now replies.items) }
+    ensures ended { IfOk result (λ replies. EndedFromNew max_payload_size steps.now replies.items) }
 {
     let mut pair = Pair::snap(
         alloc,
@@ -73,6 +75,7 @@ pub fn run_client_server_across_resets(
     ensures across { IfOk result (λ replies.
         AcrossFromNew max_payload_size tsns.0 tsns.1 steps.now replies.items) }
     ensures written { IfOk result (λ replies. WrittenFromNew max_payload_size steps.now replies.items) }
+    ensures ended { IfOk result (λ replies. EndedFromNew max_payload_size steps.now replies.items) }
 {
     let mut pair = Pair::client_server(
         alloc,

@@ -3,6 +3,7 @@ pub mod AcceptedInOrder
 pub mod AcrossResets
 pub mod AnsweredValues
 pub mod BetweenChunks
+pub mod BetweenClosings
 pub mod BetweenCourses
 pub mod BetweenDirections
 pub mod Callers
@@ -13,6 +14,7 @@ pub mod OutgoingData
 pub mod PastReads
 pub mod PastSpans
 pub mod ComingData
+pub mod EndsAcross
 pub mod FewInAll
 pub mod FewSent
 mod ForwardsMade

@@ -17,6 +17,7 @@ use Rattle.sctp_steps.specs.Seen.{other_side}
 use Rattle.sctp_steps.specs.Steps.{Steps}
 use Rattle.sctp_boundaries.specs.Between.{AreFew, Courses, IsGivenOut}
 use Rattle.sctp_boundaries.specs.Laws.{LeadsBoth, NamesIdentifiers, StandsFresh, fresh_courses, polls_side}
+use Rattle.sctp_closed_between.specs.Between.{AreOfClosed, BeginsUnclosed}
 use Rattle.sctp_pair.specs.Callers.{AreAt, CameBy, Made, StaysFew, messages_read, messages_written, tally_of}
 use Rattle.sctp_pair.specs.World.{World}
 use Rattle.sctp_pair.specs.Fits.{Fits}
@@ -90,3 +91,15 @@ ReadsOn more answers p q =
     (m : Made) (ss : List Step) (rs : List Reply) → (c : CameFresh m ss rs p)
     → StaysFew m (tally_of m ss rs) more answers p → AllByRecursion NamesIdentifiers more
     → ReadSinceNew m c.came.begin (ss ++ more) (rs ++ answers) q
+
+-- What ends was closed
+
+-- Whatever steps led to p since the pair was new and nothing of it was closed, these follow them as its next ones and
+-- lead to q, where few pieces stay unacknowledged in them and few messages unread. Each end of a stream that any reply
+-- since then tells of is of a stream that a step closed before, at either side, where few of all steps ask for packets
+-- to send.
+abbrev pub EndsOn : List Step → List Reply → Ends → Ends → Type 0
+EndsOn more answers p q =
+    (m : Made) (ss : List Step) (rs : List Reply) → (c : CameFresh m ss rs p) → BeginsUnclosed c.came.begin
+    → StaysFew m (tally_of m ss rs) more answers p → AllByRecursion NamesIdentifiers more → PollsAreFew (ss ++ more)
+    → AreOfClosed [] (ss ++ more) (rs ++ answers)

@@ -4,13 +4,14 @@ ghost use Rattle.std.specs.Option.{option_copied};
 ghost use Rattle.sctp_assoc.specs.Created.{client, create_refusal, join_refusal, joined, server};
 ghost use Rattle.sctp_pair.specs.Callers.{CameBy, ComesOn, HoldsOn, NothingIsReadBeforeADelivery, ReadsAreFronts};
 ghost use Rattle.sctp_pair.specs.Callers.{ReadsWereWritten};
-ghost use Rattle.sctp_pair.specs.Across.{CameFresh, ReadsOn};
+ghost use Rattle.sctp_pair.specs.Across.{CameFresh, EndsOn, ReadsOn};
 ghost use Rattle.std.specs.Borrow.{Lends, sem};
 ghost use Rattle.sctp_assoc.specs.contracts.association.Association as association;
 ghost use Rattle.sctp_pair.specs.contracts.pair.Pair.{the_row};
 ghost use Rattle.sctp_steps.specs.Ends.{JoinRefuses, packets_of, end_of, with_end};
 ghost use Rattle.sctp_steps.specs.Steps.{ComesTo, Runs, SendsAt, Steps};
 ghost use Rattle.sctp_boundaries.specs.Laws.{RunKeepsBoundaries, StandsFresh, StepKeepsBoundaries};
+ghost use Rattle.sctp_closed_between.specs.Between.{BeginsUnclosed, EndOnlyClosed};
 ghost use Rattle.sctp_pair.specs.World.{World, empty_world};
 ghost use Rattle.sctp_pair.specs.Counted.{FitsCounted, LeadsCounted, RunsCounted, Tally, nothing_tallied};
 ghost use Rattle.sctp_pair.specs.Fits.{Fits, LeadsSafely, RunsSafely};
@@ -23,6 +24,7 @@ use sctp_assoc::{
 };
 use sctp_boundaries::boundaries_are_kept;
 use sctp_calls::calls;
+use sctp_closed_between::only_closed_streams_end_between;
 use std::alloc::Global;
 use std::marker::Model;
 use std::net::SocketAddr;
@@ -80,7 +82,7 @@ impl Pair {
     /// Refused where A would be refused by `Association::new_with_out_of_band_init`, or else B. Nothing is left then.
     ///
     /// It stands in the world in which nothing happened yet, and between courses in which nothing was sent on any
-    /// stream (`boundaries`).
+    /// stream (`boundaries`); and no stream of it was closed (`unclosed`).
     pub fn snap(
         alloc: Global,
         config_a: &TransportConfig,
@@ -112,6 +114,7 @@ impl Pair {
           initial_b = token_b.now.initial_tsn;
         }) [] [] p) }
         ensures boundaries { IfOk result (λ p. StandsFresh token_a.now.initial_tsn token_b.now.initial_tsn p) }
+        ensures unclosed { IfOk result (λ p. BeginsUnclosed p) }
         ensures fresh { IfOk result (λ p. CameFresh (record {
           size_a = max_payload_size_a;
           size_b = max_payload_size_b;
@@ -120,6 +123,7 @@ impl Pair {
         }) [] [] p) }
     {
         boundaries_are_kept();
+        only_closed_streams_end_between();
         let a = Association::new_with_out_of_band_init(
             alloc,
             config_a,
@@ -157,7 +161,7 @@ impl Pair {
     /// Refused where A would be refused by `Association::new`, or else B. Nothing is left then.
     ///
     /// It stands in the world in which nothing happened yet, and between courses in which nothing was sent on any
-    /// stream (`boundaries`).
+    /// stream (`boundaries`); and no stream of it was closed (`unclosed`).
     pub fn client_server(
         alloc: Global,
         config_a: &TransportConfig,
@@ -193,6 +197,7 @@ impl Pair {
           initial_b = tsn_b;
         }) [] [] p) }
         ensures boundaries { IfOk result (λ p. StandsFresh tsn_a tsn_b p) }
+        ensures unclosed { IfOk result (λ p. BeginsUnclosed p) }
         ensures fresh { IfOk result (λ p. CameFresh (record {
           size_a = max_payload_size_a;
           size_b = max_payload_size_b;
@@ -201,6 +206,7 @@ impl Pair {
         }) [] [] p) }
     {
         boundaries_are_kept();
+        only_closed_streams_end_between();
         let a = Association::new(
             alloc,
             None,
@@ -283,6 +289,10 @@ impl Pair {
     /// is read in earlier ones, what was sent after it in later ones (docs/MODEL.md, courses). It holds as long as
     /// fewer than 2^31 offsets and requests were sent in either direction.
     ///
+    /// Of such a pair no reply tells that a stream ended (Finished, ResetComplete or ResetFailed) which no `Stop` and
+    /// no `CloseStream`, at either side, had named before: by the same premise (`closed`), or by those of `across`
+    /// (`ended`).
+    ///
     /// Of such a pair each message that is read on any stream is one that the other side's accepted writes gave, whole,
     /// and none comes twice, whether a `Stop` or a `CloseStream` reset the stream in between or not (`across`). It
     /// holds as long as both premises do: few pieces unacknowledged and few messages unread, few offsets and requests
@@ -309,17 +319,20 @@ impl Pair {
             (λ replies. HoldsOn NothingIsReadBeforeADelivery steps.now replies.items self.old) }
         ensures boundaries { IfOk result
             (λ replies. RunKeepsBoundaries steps.now replies.items self.old self.new) }
+        ensures closed { IfOk result (λ replies. EndOnlyClosed steps.now replies.items self.old self.new) }
         ensures across { IfOk result (λ replies. ReadsOn steps.now replies.items self.old self.new) }
+        ensures ended { IfOk result (λ replies. EndsOn steps.now replies.items self.old self.new) }
     {
         boundaries_are_kept();
+        only_closed_streams_end_between();
         self.carry_out_all(steps)
     }
 
     /// Carries out one step and answers what came of it; a refusal is a reply, too.
     ///
     /// The promise of delivery is that of `run`, for this one step: the clauses `came`, `front`, `written`,
-    /// `undelivered`, `boundaries` and `across`. What was acknowledged is looked at before each step, so that a caller
-    /// that goes step by step may write on as acknowledgements come.
+    /// `undelivered`, `boundaries`, `closed`, `across` and `ended`. What was acknowledged is looked at before each
+    /// step, so that a caller that goes step by step may write on as acknowledgements come.
     ///
     /// From each world that the pair fits, the step leads to a next one, in which the pair stands. Where that is
     /// within the limits, it is safe (`headline`). Where few pieces are unacknowledged and few messages unread, this
@@ -335,9 +348,12 @@ impl Pair {
         ensures written { HoldsOn ReadsWereWritten (step.now ∷ []) (result ∷ []) self.old }
         ensures undelivered { HoldsOn NothingIsReadBeforeADelivery (step.now ∷ []) (result ∷ []) self.old }
         ensures boundaries { StepKeepsBoundaries step.now self.old result self.new }
+        ensures closed { EndOnlyClosed (step.now ∷ []) (result ∷ []) self.old self.new }
         ensures across { ReadsOn (step.now ∷ []) (result ∷ []) self.old self.new }
+        ensures ended { EndsOn (step.now ∷ []) (result ∷ []) self.old self.new }
     {
         boundaries_are_kept();
+        only_closed_streams_end_between();
         self.carry_out(step)
     }
 

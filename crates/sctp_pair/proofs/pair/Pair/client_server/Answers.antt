@@ -3,6 +3,7 @@ use Rattle.std.proofs.lemmas.Result.{err_from_is_err_and}
 use Rattle.sctp_assoc.specs.Created.{create_refusal}
 use Rattle.sctp_assoc.specs.Shown.{Shown}
 use Rattle.sctp_pair.proofs.AnsweredValues.{second_refuses}
+use Rattle.sctp_pair.proofs.BetweenClosings.{begins_unclosed_hello}
 use Rattle.sctp_pair.proofs.BetweenCourses.{begins_hello}
 use Rattle.sctp_pair.proofs.Counted.{fits_with_none}
 use Rattle.sctp_pair.proofs.NewPairs.{IsClient, IsServer, fits_hello}
@@ -57,6 +58,16 @@ returns-clause-boundaries c =
     c.args.config_b.now c.args.max_payload_size_a c.args.max_payload_size_b c.args.tag_a c.args.tag_b c.args.tsn_a
     c.args.tsn_b c.args.cookie_a c.args.cookie_b c.args.remote_of_a c.args.remote_of_b c.args.now a.created b.created
     a.begins.first b.begins.first _ (rw (c.new-3.ensures.items, c.new-4.ensures.items) refl)
+
+-- and nothing of it was closed
+pub returns-clause-unclosed : goal.returns-clause-unclosed
+returns-clause-unclosed c =
+    let a = c.in_ok-a.ensures in
+    let b = c.in_ok-b.ensures in
+    begins_unclosed_hello c.only_closed_streams_end_between.ensures.created c.args.server_config_b.now
+    c.args.config_a.now c.args.config_b.now c.args.max_payload_size_a c.args.max_payload_size_b c.args.tag_a
+    c.args.tag_b c.args.tsn_a c.args.tsn_b c.args.cookie_a c.args.cookie_b c.args.remote_of_a c.args.remote_of_b
+    c.args.now a.created b.created _ (rw (c.new-3.ensures.items, c.new-4.ensures.items) refl)
 
 pub returns-clause-fresh : goal.returns-clause-fresh
 returns-clause-fresh c = record {

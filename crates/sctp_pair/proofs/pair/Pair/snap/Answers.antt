@@ -4,6 +4,7 @@ use Rattle.sctp_assoc.specs.Created.{join_refusal}
 use Rattle.sctp_assoc.specs.Shown.{Shown}
 use Rattle.sctp_pair.proofs.AnsweredValues.{second_refuses}
 use Rattle.sctp_pair.proofs.Counted.{fits_with_none}
+use Rattle.sctp_pair.proofs.BetweenClosings.{begins_unclosed}
 use Rattle.sctp_pair.proofs.BetweenCourses.{begins_fresh}
 use Rattle.sctp_pair.proofs.NewPairs.{IsJoined, fits_start}
 use Rattle.sctp_pair.proofs.pair.Pair.snap.Goals as goal
@@ -52,6 +53,15 @@ returns-clause-boundaries c =
     c.args.max_payload_size_a c.args.max_payload_size_b c.args.remote_of_a c.args.remote_of_b c.args.token_a.now
     c.args.token_b.now a.joined b.joined a.begins.first b.begins.first _
     (rw (c.new.ensures.items, c.new-2.ensures.items) refl)
+
+-- and nothing of it was closed
+pub returns-clause-unclosed : goal.returns-clause-unclosed
+returns-clause-unclosed c =
+    let a = c.in_ok-a.ensures in
+    let b = c.in_ok-b.ensures in
+    begins_unclosed c.only_closed_streams_end_between.ensures.joined c.args.config_a.now c.args.config_b.now
+    c.args.max_payload_size_a c.args.max_payload_size_b c.args.remote_of_a c.args.remote_of_b c.args.token_a.now
+    c.args.token_b.now a.joined b.joined _ (rw (c.new.ensures.items, c.new-2.ensures.items) refl)
 
 pub returns-clause-fresh : goal.returns-clause-fresh
 returns-clause-fresh c = record {

@@ -1,0 +1,17 @@
+pub mod Asked
+pub mod Closings
+pub mod InCalls
+pub mod InChunks
+pub mod InData
+pub mod InDelivery
+pub mod InPackets
+pub mod InReads
+pub mod InResets
+pub mod Live
+pub mod Named
+pub mod OverCalls
+pub mod Proved
+pub mod Rules
+pub mod Spelled
+pub mod Steps
+pub mod Told

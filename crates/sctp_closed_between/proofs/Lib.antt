@@ -1,0 +1,5 @@
+pub mod Given
+pub mod NewPairs
+pub mod RunsTell
+pub mod SideCalls
+pub mod StepsOnly
