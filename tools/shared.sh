@@ -21,6 +21,7 @@ needs() {
         case "$tool" in
             rt) stop "no rt: install the Rattle kit that README.md names, and put its rt on the path" ;;
             ar | nm | objcopy) stop "no $tool: install binutils (Debian: apt-get install binutils)" ;;
+            aarch64-linux-gnu-*) stop "no $tool: install one (Debian: apt-get install gcc-aarch64-linux-gnu)" ;;
             cargo) stop "no cargo: install Rust 1.74 or later (https://rustup.rs), and put its cargo on the path" ;;
             "${CC:-cc}") stop "no C compiler $tool: install one (Debian: apt-get install gcc), or name it by CC" ;;
             *) stop "no $tool: install it (Debian: apt-get install $tool)" ;;
@@ -64,3 +65,9 @@ Cflags: -I\${includedir}
 Libs: -L\${libdir} -l$1
 END
 }
+
+# The C tests in host/ that run over an archive by themselves, each of which ends with 0 if it passed.
+# shellcheck disable=SC2034 # host/run and host/aarch64 read it
+c_tests="edges messages long_message codes names questions identities tokens handshake sacks requests hostile datagrams
+    lengths gap_blocks in_flight timeouts resets streams windows window stopped limits giving_up shutdown watching
+    channels dcep closing early refused_memory mutated heal"
