@@ -429,6 +429,7 @@ int main(int argc, char **argv) {
     m.messages = strtoull(argv[2], NULL, 10);
     seed_losses();
     done(sctp_assoc_default_config(&config));
+    config.rto_initial_ms = 3000, config.rto_min_ms = 1000; /* usrsctp's */
     message = calloc(1, m.size > PAYLOAD_SIZE ? m.size : PAYLOAD_SIZE);
     if (!message)
         fail("no memory");
