@@ -147,7 +147,7 @@ act_marked (Act.Wrote id named bytes) p m = written_right (stream_at p.streams i
 act_marked (Act.Adjusted id setting) p m = m
 act_marked (Act.SpansEnded ids live) p m = m
 act_marked (Act.Sent at_once now) p m = sent_right p.queue.pending p.queue now m
-act_marked (Act.SentAgain by index) p m =
+act_marked (Act.SentAgain at_once by index) p m =
     again_right by (slice_get p.queue.in_flight index) p.queue index refl m
 act_marked Act.Marked p m = all_right p.queue.in_flight m
 act_marked (Act.Acknowledged n blocks missing) p m =

@@ -15,7 +15,7 @@ use Rattle.sctp_outbound_queue.specs.Outbound.{Outbound, pieces_waiting, sent_ne
 use Rattle.sctp_streams.specs.Streams.{StreamMap}
 use Rattle.sctp_outbound.specs.declared.sender.Sender.{Sender}
 use Rattle.sctp_outbound.specs.Sender.{alone_length_of, both_windows, can_send_next, resend_window}
-use Rattle.sctp_outbound.specs.Sender.{asks_at_once, chunk_of, first_chunk}
+use Rattle.sctp_outbound.specs.Sender.{asks_again, asks_at_once, chunk_of, first_chunk}
 use Rattle.sctp_outbound.specs.Sender.{after_marked, after_missing, fast_room, marked_by, missing_by}
 use Rattle.sctp_outbound.specs.Sender.{first_counted, fits_windows, resends_alone, resent_chunks}
 use Rattle.sctp_outbound.specs.Sender.{resent_pieces, sent_one, sent_within, with_in_flight}
@@ -57,12 +57,12 @@ picked_right causes.Fast x picked marked =
     (and_parts (is_outstanding x) (not x.resent)
     (and_parts (is_outstanding x && not x.resent) (nat_le 3 x.misses) picked).0).0
 
-again_one : (by : Retransmission) (x : InFlight) (ps xs : List InFlight) (p : Parts)
+again_one : (at_once : Bool) (by : Retransmission) (x : InFlight) (ps xs : List InFlight) (p : Parts)
     → p.queue.in_flight ≡ xs ++ x ∷ ps → Tied p
     → is_outstanding x ≡ true
-    → Gives (Act.SentAgain by (length xs) ∷ []) p (with_pieces p (xs ++ counted_again by x ∷ ps))
-    (chunk_of x (tsn_at p.queue.first_tsn (length xs)) ∷ [])
-again_one by x ps xs p e tied outstanding =
+    → Gives (Act.SentAgain at_once by (length xs) ∷ []) p (with_pieces p (xs ++ counted_again by x ∷ ps))
+    (chunk_of at_once x (tsn_at p.queue.first_tsn (length xs)) ∷ [])
+again_one at_once by x ps xs p e tied outstanding =
     let held : slice_get p.queue.in_flight (length xs) ≡ Some x = rw e (get_behind xs ps x) in
     let put : slice_set p.queue.in_flight (length xs) (counted_again by x) ≡ xs ++ counted_again by x ∷ ps =
     rw e (set_behind xs ps x (counted_again by x)) in
@@ -76,19 +76,19 @@ gives_same : {xs ys : List Act} {p q r : Parts} {c d : List ChunkPayloadData} �
     → Gives xs p q c
 gives_same e f g m = rw (e, f, g) m
 
-pub acts_skip : (by : Retransmission) (p : InFlight) (ps : List InFlight) (index room : ℕ) → picks by p ≡ false
-    → acts_of_resending by index room (p ∷ ps) ≡ acts_of_resending by (index + 1) room ps
-acts_skip by p ps index room unmarked = rw unmarked
+pub acts_skip : (at_once : Bool) (by : Retransmission) (p : InFlight) (ps : List InFlight) (index room : ℕ) → picks by p ≡ false
+    → acts_of_resending at_once by index room (p ∷ ps) ≡ acts_of_resending at_once by (index + 1) room ps
+acts_skip at_once by p ps index room unmarked = rw unmarked
 
-pub acts_full : (by : Retransmission) (p : InFlight) (ps : List InFlight) (index room : ℕ) → picks by p ≡ true
-    → nat_lt room (room_taken by p) ≡ true → acts_of_resending by index room (p ∷ ps) ≡ []
-acts_full by p ps index room marked full = rw (marked, full)
+pub acts_full : (at_once : Bool) (by : Retransmission) (p : InFlight) (ps : List InFlight) (index room : ℕ) → picks by p ≡ true
+    → nat_lt room (room_taken by p) ≡ true → acts_of_resending at_once by index room (p ∷ ps) ≡ []
+acts_full at_once by p ps index room marked full = rw (marked, full)
 
-pub acts_sent : (by : Retransmission) (p : InFlight) (ps : List InFlight) (index room : ℕ) → picks by p ≡ true
+pub acts_sent : (at_once : Bool) (by : Retransmission) (p : InFlight) (ps : List InFlight) (index room : ℕ) → picks by p ≡ true
     → nat_lt room (room_taken by p) ≡ false
-    → acts_of_resending by index room (p ∷ ps) ≡ Act.SentAgain by index
-    ∷ acts_of_resending by (index + 1) (room - room_taken by p) ps
-acts_sent by p ps index room marked fits = rw (marked, fits)
+    → acts_of_resending at_once by index room (p ∷ ps) ≡ Act.SentAgain at_once by index
+    ∷ acts_of_resending at_once by (index + 1) (room - room_taken by p) ps
+acts_sent at_once by p ps index room marked fits = rw (marked, fits)
 
 -- the pieces behind one more
 shifted : (c : InFlight) (xs rest : List InFlight) (acts : ℕ → List Act)
@@ -100,41 +100,41 @@ shifted c xs rest acts chunks p m =
     (ap (λ (z : List InFlight). with_pieces p z) (sym (append_assoc xs (c ∷ []) rest)))
     (ap chunks (sym (one_longer xs c))) m
 
-pub resending : (by : Retransmission) (ps xs : List InFlight) (room : ℕ) (p : Parts)
+pub resending : (at_once : Bool) (by : Retransmission) (ps xs : List InFlight) (room : ℕ) (p : Parts)
     → p.queue.in_flight ≡ xs ++ ps → Tied p
     → AreMarkedRight ps
-    → Gives (acts_of_resending by (length xs) room ps) p (with_pieces p (xs ++ resent_pieces by room ps))
-    (resent_chunks by p.queue.first_tsn (length xs) room ps)
-resending by [] xs room p e tied right = record { can = tt; there = rw (← e) refl; said = refl }
-resending by (x ∷ ps) xs room p e tied right = ⊎_elim
+    → Gives (acts_of_resending at_once by (length xs) room ps) p (with_pieces p (xs ++ resent_pieces by room ps))
+    (resent_chunks at_once by p.queue.first_tsn (length xs) room ps)
+resending at_once by [] xs room p e tied right = record { can = tt; there = rw (← e) refl; said = refl }
+resending at_once by (x ∷ ps) xs room p e tied right = ⊎_elim
     (λ (marked : picks by x ≡ true). ⊎_elim
     (λ (full : nat_lt room (room_taken by x) ≡ true).
-    gives_same (acts_full by x ps (length xs) room marked full)
+    gives_same (acts_full at_once by x ps (length xs) room marked full)
     (ap (λ (z : List InFlight). with_pieces p (xs ++ z)) (pieces_full by x ps room marked full))
-    (chunks_full by x ps p.queue.first_tsn (length xs) room marked full)
+    (chunks_full at_once by x ps p.queue.first_tsn (length xs) room marked full)
     (record { can = tt; there = rw (← e) refl; said = refl }))
     (λ (fits : nat_lt room (room_taken by x) ≡ false).
     let c : InFlight = counted_again by x in
     let left : ℕ = room - room_taken by x in
     let q : Parts = with_pieces p (xs ++ c ∷ ps) in
-    let rest = resending by ps (xs ++ c ∷ []) left q (sym (append_assoc xs (c ∷ []) ps)) tied right.1 in
+    let rest = resending at_once by ps (xs ++ c ∷ []) left q (sym (append_assoc xs (c ∷ []) ps)) tied right.1 in
     let moved =
-    shifted c xs (resent_pieces by left ps) (λ (n : ℕ). acts_of_resending by n left ps)
-    (λ (n : ℕ). resent_chunks by p.queue.first_tsn n left ps) q rest in
-    gives_same (acts_sent by x ps (length xs) room marked fits)
+    shifted c xs (resent_pieces by left ps) (λ (n : ℕ). acts_of_resending at_once by n left ps)
+    (λ (n : ℕ). resent_chunks at_once by p.queue.first_tsn n left ps) q rest in
+    gives_same (acts_sent at_once by x ps (length xs) room marked fits)
     (ap (λ (z : List InFlight). with_pieces p (xs ++ z)) (pieces_sent by x ps room marked fits))
-    (chunks_sent by x ps p.queue.first_tsn (length xs) room marked fits)
-    (gives_on (Act.SentAgain by (length xs) ∷ []) (acts_of_resending by (length xs + 1) left ps) p q _ _ _
-    (again_one by x ps xs p e tied (picked_right by x marked right.0)) moved))
+    (chunks_sent at_once by x ps p.queue.first_tsn (length xs) room marked fits)
+    (gives_on (Act.SentAgain at_once by (length xs) ∷ []) (acts_of_resending at_once by (length xs + 1) left ps) p q _ _ _
+    (again_one at_once by x ps xs p e tied (picked_right by x marked right.0)) moved))
     (cases_Bool (nat_lt room (room_taken by x))))
     (λ (unmarked : picks by x ≡ false).
-    let rest = resending by ps (xs ++ x ∷ []) room p (e ∙ sym (append_assoc xs (x ∷ []) ps)) tied right.1 in
+    let rest = resending at_once by ps (xs ++ x ∷ []) room p (e ∙ sym (append_assoc xs (x ∷ []) ps)) tied right.1 in
     let moved =
-    shifted x xs (resent_pieces by room ps) (λ (n : ℕ). acts_of_resending by n room ps)
-    (λ (n : ℕ). resent_chunks by p.queue.first_tsn n room ps) p rest in
-    gives_same (acts_skip by x ps (length xs) room unmarked)
+    shifted x xs (resent_pieces by room ps) (λ (n : ℕ). acts_of_resending at_once by n room ps)
+    (λ (n : ℕ). resent_chunks at_once by p.queue.first_tsn n room ps) p rest in
+    gives_same (acts_skip at_once by x ps (length xs) room unmarked)
     (ap (λ (z : List InFlight). with_pieces p (xs ++ z)) (pieces_skip by x ps room unmarked))
-    (chunks_skip by x ps p.queue.first_tsn (length xs) room unmarked) moved)
+    (chunks_skip at_once by x ps p.queue.first_tsn (length xs) room unmarked) moved)
     (cases_Bool (picks by x))
 
 -- a piece that goes alone is marked
@@ -143,27 +143,27 @@ alone_marked : (c : Bool) (window : ℕ) (x : InFlight) → x.retransmit ≡ c
 alone_marked true window x e alone = refl
 alone_marked false window x e alone = absurd (false≢true (rw e at alone))
 
-first_again_gives : (ps : List InFlight) (window : ℕ) (p : Parts) → p.queue.in_flight ≡ ps → Tied p
+first_again_gives : (at_once : Bool) (ps : List InFlight) (window : ℕ) (p : Parts) → p.queue.in_flight ≡ ps → Tied p
     → AreMarkedRight ps → is_some (alone_length_of window (slice_get ps 0)) ≡ true
-    → Gives (first_again ps) p (with_pieces p (first_counted ps)) (first_chunk p.queue.first_tsn ps)
-first_again_gives [] window p e tied right alone = record { can = tt; there = rw (← e) refl; said = refl }
-first_again_gives (x ∷ ps) window p e tied right alone =
-    again_one causes.Timer x ps [] p e tied (right.0 (alone_marked x.retransmit window x refl alone))
+    → Gives (first_again at_once ps) p (with_pieces p (first_counted ps)) (first_chunk at_once p.queue.first_tsn ps)
+first_again_gives at_once [] window p e tied right alone = record { can = tt; there = rw (← e) refl; said = refl }
+first_again_gives at_once (x ∷ ps) window p e tied right alone =
+    again_one at_once causes.Timer x ps [] p e tied (right.0 (alone_marked x.retransmit window x refl alone))
 
 marks_give_if : (alone : Bool) (s : Sender) (m : StreamMap) (h : History) → s.queue.first_tsn ≡ tsn h.own h.base
     → AreMarkedRight s.queue.in_flight → resends_alone s ≡ alone
-    → Gives (if alone then first_again s.queue.in_flight else
-    acts_of_resending causes.Timer 0 (both_windows s) s.queue.in_flight)
+    → Gives (if alone then first_again (asks_again s) s.queue.in_flight else
+    acts_of_resending (asks_again s) causes.Timer 0 (both_windows s) s.queue.in_flight)
     (sending s m h)
     (sending (with_in_flight s
     (if alone then first_counted s.queue.in_flight else
     resent_pieces causes.Timer (both_windows s) s.queue.in_flight)) m h)
-    (if alone then first_chunk s.queue.first_tsn s.queue.in_flight else
-    resent_chunks causes.Timer s.queue.first_tsn 0 (both_windows s) s.queue.in_flight)
+    (if alone then first_chunk (asks_again s) s.queue.first_tsn s.queue.in_flight else
+    resent_chunks (asks_again s) causes.Timer s.queue.first_tsn 0 (both_windows s) s.queue.in_flight)
 marks_give_if true s m h tied right alone =
-    first_again_gives s.queue.in_flight (resend_window s) (sending s m h) refl tied right alone
+    first_again_gives (asks_again s) s.queue.in_flight (resend_window s) (sending s m h) refl tied right alone
 marks_give_if false s m h tied right alone =
-    resending causes.Timer s.queue.in_flight [] (both_windows s) (sending s m h) refl tied right
+    resending (asks_again s) causes.Timer s.queue.in_flight [] (both_windows s) (sending s m h) refl tied right
 
 pub marks_give : (s : Sender) (m : StreamMap) (h : History) → s.queue.first_tsn ≡ tsn h.own h.base
     → AreMarkedRight s.queue.in_flight
@@ -172,12 +172,12 @@ marks_give s m h tied right = marks_give_if (resends_alone s) s m h tied right r
 
 missing_give_if : (due : Bool) (s : Sender) (m : StreamMap) (h : History) → s.queue.first_tsn ≡ tsn h.own h.base
     → AreMarkedRight s.queue.in_flight
-    → Gives (if due then acts_of_resending causes.Fast 0 (fast_room s) s.queue.in_flight else []) (sending s m h)
+    → Gives (if due then acts_of_resending (asks_again s) causes.Fast 0 (fast_room s) s.queue.in_flight else []) (sending s m h)
     (sending (with_in_flight s (if due then
     resent_pieces causes.Fast (fast_room s) s.queue.in_flight else s.queue.in_flight)) m h)
-    (if due then resent_chunks causes.Fast s.queue.first_tsn 0 (fast_room s) s.queue.in_flight else [])
+    (if due then resent_chunks (asks_again s) causes.Fast s.queue.first_tsn 0 (fast_room s) s.queue.in_flight else [])
 missing_give_if true s m h tied right =
-    resending causes.Fast s.queue.in_flight [] (fast_room s) (sending s m h) refl tied right
+    resending (asks_again s) causes.Fast s.queue.in_flight [] (fast_room s) (sending s m h) refl tied right
 missing_give_if false s m h tied right = gives_none (sending s m h)
 
 pub missing_give : (s : Sender) (m : StreamMap) (h : History) → s.queue.first_tsn ≡ tsn h.own h.base

@@ -39,7 +39,7 @@ use Rattle.sctp_outbound.specs.Abandonment.{abandoned_if, first_dropped, has_lat
 use Rattle.sctp_outbound.specs.Abandonment.{with_started}
 use Rattle.sctp_outbound.specs.Forward.{gives_forward}
 use Rattle.sctp_outbound.specs.Sender.{both_windows, can_send_next, fast_room, resends_alone, sack_outcome, sent_one}
-use Rattle.sctp_outbound.specs.Sender.{asks_at_once, tsns_up_to}
+use Rattle.sctp_outbound.specs.Sender.{asks_again, asks_at_once, tsns_up_to}
 use Rattle.sctp_assoc.specs.declared.inbound.Flow.{Flow}
 use Rattle.sctp_assoc.specs.declared.inbound.Flow.TheVariants as flows
 use Rattle.sctp_directions.specs.Acts.{Act, History, all_data_given}
@@ -262,26 +262,26 @@ abbrev pub acts_of_packet : Shown → Option Packet → ℕ → List Act
 acts_of_packet a packet now = if a.lost then [] else acts_of_packet_of a packet now
 
 -- the pieces that a reason picks and that fit together into so many bytes go out again
-abbrev pub acts_of_resending : Retransmission → ℕ → ℕ → List InFlight → List Act
-acts_of_resending by index room [] = []
-acts_of_resending by index room (p ∷ ps) =
-    if not (picks by p) then acts_of_resending by (index + 1) room ps else
+abbrev pub acts_of_resending : Bool → Retransmission → ℕ → ℕ → List InFlight → List Act
+acts_of_resending at_once by index room [] = []
+acts_of_resending at_once by index room (p ∷ ps) =
+    if not (picks by p) then acts_of_resending at_once by (index + 1) room ps else
     if nat_lt room (room_taken by p) then [] else
-    Act.SentAgain by index ∷ acts_of_resending by (index + 1) (room - room_taken by p) ps
+    Act.SentAgain at_once by index ∷ acts_of_resending at_once by (index + 1) (room - room_taken by p) ps
 
-abbrev pub first_again : List InFlight → List Act
-first_again [] = []
-first_again (p ∷ ps) = Act.SentAgain causes.Timer 0 ∷ []
+abbrev pub first_again : Bool → List InFlight → List Act
+first_again at_once [] = []
+first_again at_once (p ∷ ps) = Act.SentAgain at_once causes.Timer 0 ∷ []
 
 abbrev pub acts_of_marks : Sender → List Act
 acts_of_marks s =
-    if resends_alone s then first_again s.queue.in_flight else
-    acts_of_resending causes.Timer 0 (both_windows s) s.queue.in_flight
+    if resends_alone s then first_again (asks_again s) s.queue.in_flight else
+    acts_of_resending (asks_again s) causes.Timer 0 (both_windows s) s.queue.in_flight
 
 -- where it is due, what is missing goes out again in one packet
 abbrev pub acts_of_missing : Sender → List Act
 acts_of_missing s =
-    if s.is_fast_due then acts_of_resending causes.Fast 0 (fast_room s) s.queue.in_flight else []
+    if s.is_fast_due then acts_of_resending (asks_again s) causes.Fast 0 (fast_room s) s.queue.in_flight else []
 
 -- the next pieces that wait go out while the windows have room
 abbrev pub acts_of_sending : ℕ → Sender → ℕ → List Act

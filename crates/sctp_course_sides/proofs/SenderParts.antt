@@ -256,7 +256,7 @@ act_leaves (Act.Wrote stream named bytes) p heard can = absurd heard
 act_leaves (Act.Adjusted stream setting) p heard can = absurd heard
 act_leaves (Act.SpansEnded ids m) p heard can = record { own = refl; flown = λ id c f. f }
 act_leaves (Act.Sent at_once now) p heard can = absurd heard
-act_leaves (Act.SentAgain by index) p heard can = absurd heard
+act_leaves (Act.SentAgain at_once by index) p heard can = absurd heard
 act_leaves Act.Marked p heard can = record {
   own = refl;
   flown = λ id c f. marked_flown id c p.queue.in_flight p.history.base f;

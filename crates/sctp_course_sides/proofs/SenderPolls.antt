@@ -57,7 +57,7 @@ old_is (Act.Started now) g = tt
 old_is (Act.Abandoned index) g = tt
 old_is Act.TailAbandoned g = tt
 old_is (Act.Dropped k) g = tt
-old_is (Act.SentAgain by index) g = tt
+old_is (Act.SentAgain at_once by index) g = tt
 old_is act g = absurd g
 
 new_is : (act : Act) → GivesNew act → IsOfPoll act

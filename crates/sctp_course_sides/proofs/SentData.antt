@@ -137,7 +137,7 @@ flagged_same message x = same_if (is_of message x) x _ refl
 -- What an act may be that a poll does, or a timeout.
 abbrev pub IsOfPoll : Act → Type 0
 IsOfPoll (Act.Sent at_once now) = ⊤
-IsOfPoll (Act.SentAgain by index) = ⊤
+IsOfPoll (Act.SentAgain at_once by index) = ⊤
 IsOfPoll Act.Marked = ⊤
 IsOfPoll (Act.Abandoned index) = ⊤
 IsOfPoll Act.TailAbandoned = ⊤
@@ -326,31 +326,31 @@ module _ (initial id : ℕ) (p : Parts) (c : Course) (h : LeadsData initial id p
 
   -- DATA again
 
-  sent_again : (by : Retransmission) (index : ℕ) (o : Option InFlight) → slice_get p.queue.in_flight index ≡ o
-      → Leads (Act.SentAgain by index)
-  sent_again by index None e =
+  sent_again : (at_once : Bool) (by : Retransmission) (index : ℕ) (o : Option InFlight) → slice_get p.queue.in_flight index ≡ o
+      → Leads (Act.SentAgain at_once by index)
+  sent_again at_once by index None e =
       let t = tsn p.history.own (p.history.base + index) in
       let r : Parts = record p { queue = changed_from (counted_again by) None p.queue index } in
-      stays initial id (Act.SentAgain by index) p r c tt
+      stays initial id (Act.SentAgain at_once by index) p r c tt
       (ap (λ (o : Option InFlight). record p { queue = changed_from (counted_again by) o p.queue index }) e) refl h refl
       h.stand
-      (subst (λ (o : Option InFlight). AllByRecursion (IsOfCourse initial id c) (chunk_said o t)) (sym e) tt)
-  sent_again by index (Some x) e =
+      (subst (λ (o : Option InFlight). AllByRecursion (IsOfCourse initial id c) (chunk_said at_once o t)) (sym e) tt)
+  sent_again at_once by index (Some x) e =
       let t = tsn p.history.own (p.history.base + index) in
       let r : Parts = record p { queue = changed_from (counted_again by) (Some x) p.queue index } in
       let l = slice_get_within p.queue.in_flight index x e in
       let a = h.assigned in
-      let one : IsOfCourse initial id c (chunk_of x t) = record {
+      let one : IsOfCourse initial id c (chunk_of at_once x t) = record {
         offset = p.history.base + index;
         assigned = omega arith;
         is = ap (λ (own : ℕ). tsn own (p.history.base + index)) h.own;
         mine = λ ours. stand_get id c.mine p.queue.in_flight p.history.base index x e h.stand ours;
       } in
-      stays initial id (Act.SentAgain by index) p r c tt
+      stays initial id (Act.SentAgain at_once by index) p r c tt
       (ap (λ (o : Option InFlight). record p { queue = changed_from (counted_again by) o p.queue index }) e) refl h
       (set_length p.queue.in_flight index (counted_again by x))
       (stand_set id c.mine p.queue.in_flight p.history.base index x (counted_again by x) e (counted_same by x) h.stand)
-      (subst (λ (o : Option InFlight). AllByRecursion (IsOfCourse initial id c) (chunk_said o t)) (sym e) (one, tt))
+      (subst (λ (o : Option InFlight). AllByRecursion (IsOfCourse initial id c) (chunk_said at_once o t)) (sym e) (one, tt))
 
   -- Messages that are given up
 
@@ -412,7 +412,7 @@ module _ (initial id : ℕ) (p : Parts) (c : Course) (h : LeadsData initial id p
   -- each act of a poll
   pub act_sends : (act : Act) → IsOfPoll act → Leads act
   act_sends (Act.Sent at_once now) ours = sent_one at_once now p.queue.pending refl
-  act_sends (Act.SentAgain by index) ours = sent_again by index (slice_get p.queue.in_flight index) refl
+  act_sends (Act.SentAgain at_once by index) ours = sent_again at_once by index (slice_get p.queue.in_flight index) refl
   act_sends Act.Marked ours =
       stays initial id Act.Marked p (done Act.Marked p) c tt refl refl h (length-map p.queue.in_flight marked_again)
       (stand_map id c.mine marked_again marked_same p.queue.in_flight p.history.base h.stand) tt

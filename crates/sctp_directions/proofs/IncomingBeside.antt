@@ -166,7 +166,7 @@ own_acts_leave_what_comes (Act.Adjusted id setting) p w own fits =
     fits_streams (receiving p) (changed_stream (λ t. with_setting t setting) p.streams id) w
     (changed_same (λ t. with_setting t setting) (setting_holds setting) p.streams id) fits
 own_acts_leave_what_comes (Act.Sent at_once now) p w own fits = fits
-own_acts_leave_what_comes (Act.SentAgain by index) p w own fits = fits
+own_acts_leave_what_comes (Act.SentAgain at_once by index) p w own fits = fits
 own_acts_leave_what_comes Act.Marked p w own fits = fits
 own_acts_leave_what_comes (Act.Acknowledged n blocks missing) p w own fits =
     released_fits (is_acknowledged_by n blocks) 0 p.queue.in_flight p.streams (receiving p) w fits

@@ -242,7 +242,7 @@ only_settings_loosen (Act.Adjusted id setting) p s others kept =
     kept_changed (λ t. with_setting t setting) (stream_at p.streams id) p.streams id s refl
     (setting_leaves setting id s others) kept
 only_settings_loosen (Act.Sent at_once now) p s others kept = kept
-only_settings_loosen (Act.SentAgain by index) p s others kept = kept
+only_settings_loosen (Act.SentAgain at_once by index) p s others kept = kept
 only_settings_loosen (Act.SpansEnded ids m) p s others kept = kept_otherwise m s others
 only_settings_loosen Act.Marked p s others kept = kept
 only_settings_loosen (Act.Acknowledged n blocks missing) p s others kept =

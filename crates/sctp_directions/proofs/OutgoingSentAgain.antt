@@ -18,21 +18,21 @@ use Rattle.sctp_fit.proofs.SentAgain as again
 use Rattle.sctp_directions.specs.Acts.{Act, Parts, can_go_again, chunk_said, done, sending}
 use Rattle.sctp_directions.specs.Laws.{ItsMarksAreNoEvents, ItsPiecesAreGiven}
 
-module _ (p : Parts) (by : Retransmission) (index : ℕ) (w : Direction) (inv : Invariant w)
+module _ (p : Parts) (at_once : Bool) (by : Retransmission) (index : ℕ) (w : Direction) (inv : Invariant w)
     (f : FitsOutgoing (sending p) w) where
   -- what goes out again is the piece, which is there and outstanding
   pieces_given : (o : Option InFlight) → can_go_again o ≡ true → slice_get p.queue.in_flight index ≡ o
-      → FitsOutgoing (sending (done (Act.SentAgain by index) p)) (happens w (Event.Resend (w.sender.reach + index)))
+      → FitsOutgoing (sending (done (Act.SentAgain at_once by index) p)) (happens w (Event.Resend (w.sender.reach + index)))
       × AllByRecursion (IsGiven p.history.own (happens w (Event.Resend (w.sender.reach + index))))
-      (chunk_said o (tsn p.history.own (p.history.base + index)))
+      (chunk_said at_once o (tsn p.history.own (p.history.base + index)))
   pieces_given None can e = absurd (false≢true can)
   pieces_given (Some x) can e =
-      let given = again.pieces_are_given p.history.own (sending p) by index x w e can inv f in (given.0, (given.1, tt))
+      let given = again.pieces_are_given p.history.own (sending p) at_once by index x w e can inv f in (given.0, (given.1, tt))
 
 -- An association sends a piece again: the direction gives out the DATA of its offset again.
 pub its_pieces_are_given : ItsPiecesAreGiven
-its_pieces_are_given p by index w can inv f =
-    pieces_given p by index w inv f (slice_get p.queue.in_flight index) can refl
+its_pieces_are_given p at_once by index w can inv f =
+    pieces_given p at_once by index w inv f (slice_get p.queue.in_flight index) can refl
 
 -- a piece is the same one, marked or not and however often it was reported missing
 pub same_piece : (x : InFlight) (retransmit : Bool) (misses : ℕ) (resent : Bool)

@@ -188,7 +188,7 @@ only_ends_close_reads (Act.Adjusted id setting) p s can others kept =
     kept_changed (λ t. with_setting t setting) (stream_at p.streams id) p.streams id s refl
     (λ t. setting_leaves setting t) kept
 only_ends_close_reads (Act.Sent at_once now) p s can others kept = kept
-only_ends_close_reads (Act.SentAgain by index) p s can others kept = kept
+only_ends_close_reads (Act.SentAgain at_once by index) p s can others kept = kept
 only_ends_close_reads (Act.SpansEnded ids m) p s can others kept = kept_beside ids p.streams m s can others kept
 only_ends_close_reads Act.Marked p s can others kept = kept
 only_ends_close_reads (Act.Acknowledged n blocks missing) p s can others kept =
@@ -226,7 +226,7 @@ own_acts_end_no_span (Act.Opened id first kind) s own ends = ends
 own_acts_end_no_span (Act.Wrote id named bytes) s own ends = ends
 own_acts_end_no_span (Act.Adjusted id setting) s own ends = ends
 own_acts_end_no_span (Act.Sent at_once now) s own ends = ends
-own_acts_end_no_span (Act.SentAgain by index) s own ends = ends
+own_acts_end_no_span (Act.SentAgain at_once by index) s own ends = ends
 own_acts_end_no_span (Act.SpansEnded ids m) s own ends = own
 own_acts_end_no_span Act.Marked s own ends = ends
 own_acts_end_no_span (Act.Acknowledged n blocks missing) s own ends = ends
@@ -248,7 +248,7 @@ what_comes_ends_no_span (Act.Opened id first kind) s comes ends = ends
 what_comes_ends_no_span (Act.Wrote id named bytes) s comes ends = ends
 what_comes_ends_no_span (Act.Adjusted id setting) s comes ends = ends
 what_comes_ends_no_span (Act.Sent at_once now) s comes ends = ends
-what_comes_ends_no_span (Act.SentAgain by index) s comes ends = ends
+what_comes_ends_no_span (Act.SentAgain at_once by index) s comes ends = ends
 what_comes_ends_no_span (Act.SpansEnded ids m) s comes ends = comes
 what_comes_ends_no_span Act.Marked s comes ends = ends
 what_comes_ends_no_span (Act.Acknowledged n blocks missing) s comes ends = ends

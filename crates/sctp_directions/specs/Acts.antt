@@ -92,8 +92,9 @@ pub data Act : Type 0 where
   SpansEnded : List ℕ → StreamMap → Act
   -- the next piece that waits got the next offset and went out, at this moment; it may have asked for its SACK at once
   Sent : Bool → ℕ → Act
-  -- the piece in flight that is so many offsets past the first one went out again, for a reason
-  SentAgain : Retransmission → ℕ → Act
+  -- the piece in flight that is so many offsets past the first one went out again, for a reason; it may have asked for
+  -- its SACK at once
+  SentAgain : Bool → Retransmission → ℕ → Act
   -- all that is outstanding is to go out again
   Marked : Act
   -- a SACK acknowledged so many of the first pieces in flight, and of those behind them the ones that its gap ack
@@ -222,7 +223,7 @@ done (Wrote id named bytes) p = with_written (stream_at p.streams id) p id named
 done (Adjusted id setting) p = record p { streams = changed_stream (λ s. with_setting s setting) p.streams id }
 done (SpansEnded ids m) p = record p { streams = m }
 done (Sent at_once now) p = record p { queue = sent_next p.queue now }
-done (SentAgain by index) p = record p { queue = changed_at (counted_again by) p.queue index }
+done (SentAgain at_once by index) p = record p { queue = changed_at (counted_again by) p.queue index }
 done Marked p = record p { queue = all_marked p.queue }
 done (Acknowledged n blocks missing) p = with_reports missing (with_acknowledged n blocks p)
 done (Abandoned index) p = with_abandoned (slice_get p.queue.in_flight index) p
@@ -283,7 +284,7 @@ pub record IsAhead (h : History) (t : ℕ) : Type 0 where
 abbrev pub Can : Act → Parts → Type 0
 Can (SpansEnded ids m) p = (t : ℕ) → mem t ids ≡ false → stream_at m t ≡ stream_at p.streams t
 Can (Sent at_once now) p = is_some (slice_get p.queue.pending 0) ≡ true
-Can (SentAgain by index) p = can_go_again (slice_get p.queue.in_flight index) ≡ true
+Can (SentAgain at_once by index) p = can_go_again (slice_get p.queue.in_flight index) ≡ true
 Can (Acknowledged n blocks missing) p = n ≤ length p.queue.in_flight
 Can (Abandoned index) p = can_abandon (slice_get p.queue.in_flight index) ≡ true
 Can TailAbandoned p = can_abandon_tail (slice_get p.queue.pending 0) p.queue.in_flight ≡ true
@@ -299,16 +300,16 @@ CanAll [] p = Unit {0}
 CanAll (x ∷ xs) p = Can x p × CanAll xs (done x p)
 
 -- this piece, if there is one, as DATA
-abbrev pub chunk_said : Option InFlight → ℕ → List ChunkPayloadData
-chunk_said None t = []
-chunk_said (Some p) t = chunk_of p t ∷ []
+abbrev pub chunk_said : Bool → Option InFlight → ℕ → List ChunkPayloadData
+chunk_said at_once None t = []
+chunk_said at_once (Some p) t = chunk_of at_once p t ∷ []
 
 -- the DATA that an act gives out
 abbrev pub data_given : Act → Parts → List ChunkPayloadData
 data_given (Sent at_once now) p =
     next_chunks at_once p.queue.pending (tsn p.history.own (p.history.base + length p.queue.in_flight))
-data_given (SentAgain by index) p =
-    chunk_said (slice_get p.queue.in_flight index) (tsn p.history.own (p.history.base + index))
+data_given (SentAgain at_once by index) p =
+    chunk_said at_once (slice_get p.queue.in_flight index) (tsn p.history.own (p.history.base + index))
 data_given act p = []
 
 -- the DATA that acts give out, in order
@@ -326,7 +327,7 @@ abbrev pub IsOfItsOwn : Act → Type 0
 IsOfItsOwn (Wrote id named bytes) = Unit {0}
 IsOfItsOwn (Adjusted id setting) = Unit {0}
 IsOfItsOwn (Sent at_once now) = Unit {0}
-IsOfItsOwn (SentAgain by index) = Unit {0}
+IsOfItsOwn (SentAgain at_once by index) = Unit {0}
 IsOfItsOwn Marked = Unit {0}
 IsOfItsOwn (Acknowledged n blocks missing) = Unit {0}
 IsOfItsOwn (Abandoned index) = Unit {0}

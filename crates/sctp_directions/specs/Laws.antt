@@ -2,7 +2,7 @@
 -- are abandoned or dropped, DATA, FORWARD TSN and reports are as events of the model, and what acts and events leave as
 -- it was.
 use Rattle.std.specs.Prelude.{◌≡◌, ◌⊎◌, ℕ, ◌+◌, ◌*◌, ◌<◌, ◌≤◌, ◌%◌, ◌^◌, true, false, List, [], ◌∷◌, ◌++◌}
-use Rattle.std.specs.Prelude.{if◌then◌else◌, length, slice_get, suc, ◌==◌, Option, Some}
+use Rattle.std.specs.Prelude.{Bool, if◌then◌else◌, length, slice_get, suc, ◌==◌, Option, Some}
 use Rattle.std.specs.List.{AllByRecursion}
 use Rattle.sctp_serial.specs.Serial.{tsn}
 use Rattle.sctp_wire_types.specs.declared.chunk.ChunkForwardTsn.{ChunkForwardTsn}
@@ -56,11 +56,11 @@ SettingsAreNoEvents = (p : Parts) (id : ℕ) (setting : Setting) (w : Direction)
 
 -- A piece that goes out again is that of its offset, and is DATA of the direction.
 abbrev pub ItsPiecesAreGiven : Type 0
-ItsPiecesAreGiven = (p : Parts) (by : Retransmission) (index : ℕ) (w : Direction) → Can (Act.SentAgain by index) p
-    → Invariant w → FitsOutgoing (sending p) w
-    → FitsOutgoing (sending (done (Act.SentAgain by index) p)) (happens w (Event.Resend (w.sender.reach + index)))
+ItsPiecesAreGiven = (p : Parts) (at_once : Bool) (by : Retransmission) (index : ℕ) (w : Direction)
+    → Can (Act.SentAgain at_once by index) p → Invariant w → FitsOutgoing (sending p) w
+    → FitsOutgoing (sending (done (Act.SentAgain at_once by index) p)) (happens w (Event.Resend (w.sender.reach + index)))
     × AllByRecursion (IsGiven p.history.own (happens w (Event.Resend (w.sender.reach + index))))
-    (data_given (Act.SentAgain by index) p)
+    (data_given (Act.SentAgain at_once by index) p)
 
 -- Of a mark for sending again the direction knows nothing.
 abbrev pub ItsMarksAreNoEvents : Type 0

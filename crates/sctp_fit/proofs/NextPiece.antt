@@ -13,7 +13,7 @@ use Rattle.sctp_outbound_queue.specs.declared.message.InFlight.{InFlight}
 use Rattle.sctp_outbound_queue.specs.Waiting.{Waiting}
 use Rattle.sctp_outbound_queue.specs.Message.{sent_once, without_piece}
 use Rattle.sctp_outbound_queue.specs.Outbound.{left_behind, sent_from}
-use Rattle.sctp_outbound.specs.Sender.{chunk_of, next_chunk_of}
+use Rattle.sctp_outbound.specs.Sender.{next_chunk_of}
 use Rattle.sctp_streams.specs.Stream.{StreamView}
 use Rattle.sctp_streams.specs.Streams.{stream_at}
 use Rattle.sctp_serial.specs.Serial.{tsn}
@@ -41,24 +41,6 @@ none_past w inv o l = false_from_ne_true _ (λ (a : w.sender.acknowledged o ≡ 
     (λ (m : mem o w.receiver.taken ≡ true). let t = (inv.taken o m).0 in omega arith)
     (λ (b : o < w.receiver.passed). let t = inv.passed in omega arith)
     (inv.acknowledged o a))
-
--- it is the same DATA, whether it asks for its SACK at once or not
-said_asking : (over : ℕ → Bool) (initial : ℕ) (at_once : Bool) (c : ChunkPayloadData) (d : Data)
-    → IsSaid over initial c d → IsSaid over initial (record c { immediate_sack = at_once }) d
-said_asking over initial at_once c d said = record {
-  stream = said.stream;
-  tsn = said.tsn;
-  carries = λ v.
-      (let x = said.carries v in record {
-        tsn = x.tsn;
-        ssn = x.ssn;
-        ordered = x.ordered;
-        first = x.first;
-        last = x.last;
-        payload_type = x.payload_type;
-        bytes = x.bytes;
-      });
-}
 
 -- Pieces
 
@@ -159,10 +141,8 @@ module _ (n : Names) (w : Direction) (inv : Invariant w) (x : Waiting) (y : Plac
   said own at_once within =
       subst (λ z. IsSaid w.over own (next_chunk_of at_once x (tsn own (length w.sender.plan.places)))
       (data_of (with_place w.sender.plan y) (length w.sender.plan.places) z)) (sym now_on)
-      (said_asking w.over own at_once (chunk_of (sent_once 0 x) (tsn own (length w.sender.plan.places)))
-      (data_of (with_place w.sender.plan y) (length w.sender.plan.places) y)
       (said_at w.over own n within (with_place w.sender.plan y) (length w.sender.plan.places) y (sent_once 0 x) message
-      h.stream (carries 0)))
+      h.stream (carries 0) at_once)
 
   -- what waits once it went out
   waiting_left : (unsent : ℕ → ℕ → Bool) (numbers : ℕ → ℕ) (xs : List Waiting)

@@ -30,8 +30,8 @@ module _ (over : ℕ → Bool) (initial : ℕ) (n : Names) (within : (s : ℕ) �
     (p : Plan) (o : ℕ) (y : Place) (x : InFlight) where
   -- a piece that carries what its place says is said to be DATA of the place's offset
   pub said_at : IsMessage n p y.message y.ssn x.message → x.message.stream_identifier ≡ y.stream → IsPieceOf p y x
-      → IsSaid over initial (chunk_of x (tsn initial o)) (data_of p o y)
-  said_at m e k = record {
+      → (at_once : Bool) → IsSaid over initial (chunk_of at_once x (tsn initial o)) (data_of p o y)
+  said_at m e k at_once = record {
     stream = e;
     tsn = refl;
     carries = λ v. record {
@@ -108,13 +108,13 @@ happens_resend : (w : Direction) (o : ℕ) → o < length w.sender.plan.places
 unfolding happens
 happens_resend w o l m = cond-true _ (resent w o) w (rw (lt-ltb _ _ l, m) refl)
 
-module _ (own : ℕ) (a : Sending) (by : Retransmission) (index : ℕ) (x : InFlight) (w : Direction)
+module _ (own : ℕ) (a : Sending) (at_once : Bool) (by : Retransmission) (index : ℕ) (x : InFlight) (w : Direction)
     (e : slice_get a.queue.in_flight index ≡ Some x) (out : is_outstanding x ≡ true) (inv : Invariant w)
     (f : FitsOutgoing a w) where
   -- An outstanding piece that goes out again is that of its offset, and is DATA of the direction.
   piece_given : FitsOutgoing (record a { queue = changed_at (counted_again by) a.queue index })
       (happens w (Event.Resend (w.sender.reach + index)))
-      × IsGiven own (happens w (Event.Resend (w.sender.reach + index))) (chunk_of x (tsn own (a.base + index)))
+      × IsGiven own (happens w (Event.Resend (w.sender.reach + index))) (chunk_of at_once x (tsn own (a.base + index)))
   piece_given = (
     subst (FitsOutgoing (record a { queue = changed_at (counted_again by) a.queue index })) (sym event)
         (subst (λ found. FitsOutgoing (record a { queue = changed_from (counted_again by) found a.queue index })
@@ -132,14 +132,14 @@ module _ (own : ℕ) (a : Sending) (by : Retransmission) (index : ℕ) (x : InFl
           live = f.live;
           own_streams = f.own_streams;
         })),
-    subst (λ v. IsGiven own v (chunk_of x (tsn own (a.base + index)))) (sym event) (
+    subst (λ v. IsGiven own v (chunk_of at_once x (tsn own (a.base + index)))) (sym event) (
       length w.datas,
       data_at w.sender.plan (w.sender.reach + index),
       got_last w.datas _,
-      subst (λ b. IsSaid w.over own (chunk_of x (tsn own (b + index))) (data_at w.sender.plan (w.sender.reach + index)))
+      subst (λ b. IsSaid w.over own (chunk_of at_once x (tsn own (b + index))) (data_at w.sender.plan (w.sender.reach + index)))
           (sym f.base)
           (said_at w.over own f.named (named_within a w f) w.sender.plan (w.sender.reach + index) _ x here.message
-          here.stream (here.piece sent)),
+          here.stream (here.piece sent) at_once),
     ),
   )
     where

@@ -54,12 +54,14 @@ SentPiecesAreEvents = (own : ℕ) (a : Sending) (at_once : Bool) (now : ℕ) (w 
 
 -- An outstanding piece that goes out again, for whatever reason, is that of its offset, and is DATA of the direction.
 abbrev pub PiecesAreGiven : Type 0
-PiecesAreGiven = (own : ℕ) (a : Sending) (by : Retransmission) (index : ℕ) (x : InFlight) (w : Direction)
+PiecesAreGiven = (own : ℕ) (a : Sending) (at_once : Bool) (by : Retransmission) (index : ℕ) (x : InFlight)
+    (w : Direction)
     → slice_get a.queue.in_flight index ≡ Some x → is_outstanding x ≡ true
     → Invariant w → FitsOutgoing a w
     → FitsOutgoing (record a { queue = changed_at (counted_again by) a.queue index })
     (happens w (Event.Resend (w.sender.reach + index)))
-    × IsGiven own (happens w (Event.Resend (w.sender.reach + index))) (chunk_of x (tsn own (a.base + index)))
+    × IsGiven own (happens w (Event.Resend (w.sender.reach + index)))
+    (chunk_of at_once x (tsn own (a.base + index)))
 
 -- the attributes of the same message, but for its deadline
 pub record IsSameMessage (a b : Attributes) : Type 0 where

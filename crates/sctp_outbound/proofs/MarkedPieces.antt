@@ -17,12 +17,13 @@ none_of p ps none =
     count_none p.retransmit (marked_of ps) (marked_of (p ∷ ps))
     (sum_by-cons (λ (q : InFlight). cond q.retransmit 1 0) p ps) none
 
-pub none_resent : (first index room : ℕ) (ps : List InFlight) → marked_of ps ≡ 0
-    → resent_chunks causes.Timer first index room ps ≡ []
-none_resent first index room [] none = refl
-none_resent first index room (p ∷ ps) none =
+pub none_resent : (at_once : Bool) (first index room : ℕ) (ps : List InFlight) → marked_of ps ≡ 0
+    → resent_chunks at_once causes.Timer first index room ps ≡ []
+none_resent at_once first index room [] none = refl
+none_resent at_once first index room (p ∷ ps) none =
     let both = none_of p ps none in
-    chunks_skip causes.Timer p ps first index room both.0 ∙ none_resent first (index + 1) room ps both.1
+    chunks_skip at_once causes.Timer p ps first index room both.0
+    ∙ none_resent at_once first (index + 1) room ps both.1
 
 pub all_stay : (room : ℕ) (ps : List InFlight) → marked_of ps ≡ 0 → resent_pieces causes.Timer room ps ≡ ps
 all_stay room [] none = refl

@@ -21,8 +21,8 @@ use Rattle.sctp_outbound.specs.declared.sender.Attempt.{Attempt}
 use Rattle.sctp_outbound.specs.declared.sender.Attempt.TheVariants as attempts
 use Rattle.sctp_outbound.specs.declared.sender.Sender.{Sender}
 use Rattle.sctp_outbound.specs.Abandonment.{is_spent, looks_for, next_given_up, reached_at, spent_index}
-use Rattle.sctp_outbound.specs.Sender.{after_marked, alone_length_of, both_windows, chunk_of, marked_by, resend_window}
-use Rattle.sctp_outbound.specs.Sender.{resends_alone, resent_chunks, resent_pieces, tried_again, with_in_flight}
+use Rattle.sctp_outbound.specs.Sender.{after_marked, alone_length_of, asks_again, both_windows, chunk_of, marked_by}
+use Rattle.sctp_outbound.specs.Sender.{resend_window, resends_alone, resent_chunks, resent_pieces, tried_again, with_in_flight}
 use Rattle.sctp_outbound.proofs.GivenUp.{GivesUpOn, pass_step}
 use Rattle.sctp_outbound.proofs.MarkedPieces.{all_stay, none_of, none_resent}
 use Rattle.sctp_outbound.proofs.SenderSteps.{ResendsOn, chunks_sent, chunks_skip, drop_get, pieces_skip}
@@ -59,19 +59,19 @@ pieces_on k room (p ∷ ps) =
     ∙ ap (λ n. take n (p ∷ ps) ++ resent_pieces k room (drop n (p ∷ ps))) (sym (miss k p ps a)))
     (cases_Bool (picks k p))
 
-chunks_on : (k : Retransmission) (first i j room : ℕ) (ps : List InFlight) → j ≡ i + in_front k ps
-    → resent_chunks k first i room ps ≡ resent_chunks k first j room (drop (in_front k ps) ps)
-chunks_on k first i j room [] e = refl
-chunks_on k first i j room (p ∷ ps) e =
+chunks_on : (at_once : Bool) (k : Retransmission) (first i j room : ℕ) (ps : List InFlight) → j ≡ i + in_front k ps
+    → resent_chunks at_once k first i room ps ≡ resent_chunks at_once k first j room (drop (in_front k ps) ps)
+chunks_on at_once k first i j room [] e = refl
+chunks_on at_once k first i j room (p ∷ ps) e =
     ⊎_elim
     (λ (a : picks k p ≡ true).
     let same : i ≡ j = omega (arith, e, hit k p ps a) in
-    ap (λ z. resent_chunks k first z room (p ∷ ps)) same
-    ∙ ap (λ n. resent_chunks k first j room (drop n (p ∷ ps))) (sym (hit k p ps a)))
+    ap (λ z. resent_chunks at_once k first z room (p ∷ ps)) same
+    ∙ ap (λ n. resent_chunks at_once k first j room (drop n (p ∷ ps))) (sym (hit k p ps a)))
     (λ (a : picks k p ≡ false).
     let past : j ≡ i + 1 + in_front k ps = omega (arith, e, miss k p ps a) in
-    chunks_skip k p ps first i room a ∙ chunks_on k first (i + 1) j room ps past
-    ∙ ap (λ n. resent_chunks k first j room (drop n (p ∷ ps))) (sym (miss k p ps a)))
+    chunks_skip at_once k p ps first i room a ∙ chunks_on at_once k first (i + 1) j room ps past
+    ∙ ap (λ n. resent_chunks at_once k first j room (drop n (p ∷ ps))) (sym (miss k p ps a)))
     (cases_Bool (picks k p))
 
 index_on : (k : Retransmission) (i j room : ℕ) (ps : List InFlight) → j ≡ i + in_front k ps
@@ -130,11 +130,11 @@ module _ (k : Retransmission) (i j room : ℕ) (xs : List InFlight) (e : j ≡ i
       ∙ append_assoc (take i xs) (take n (drop i xs)) (resent_pieces k room (drop n (drop i xs)))
       ∙ ap (λ z. take i xs ++ z) (sym (pieces_on k room (drop i xs)))
 
-  pub chunks_between : (first : ℕ)
-      → resent_chunks k first j room (drop j xs) ≡ resent_chunks k first i room (drop i xs)
-  chunks_between first =
-      ap (resent_chunks k first j room) (drop_to i (in_front k (drop i xs)) j xs e)
-      ∙ sym (chunks_on k first i j room (drop i xs) e)
+  pub chunks_between : (at_once : Bool) (first : ℕ)
+      → resent_chunks at_once k first j room (drop j xs) ≡ resent_chunks at_once k first i room (drop i xs)
+  chunks_between at_once first =
+      ap (resent_chunks at_once k first j room) (drop_to i (in_front k (drop i xs)) j xs e)
+      ∙ sym (chunks_on at_once k first i j room (drop i xs) e)
 
   pub index_between : spent_index k j room (drop j xs) ≡ spent_index k i room (drop i xs)
   index_between =
@@ -178,7 +178,7 @@ resends_from k s i end room out count e =
       given = [];
       many = refl;
       few = omega arith;
-      chunks = chunks_between k 0 i room s.queue.in_flight at s.queue.first_tsn;
+      chunks = chunks_between k 0 i room s.queue.in_flight at (asks_again s) s.queue.first_tsn;
       written = refl;
     }
 
@@ -192,7 +192,7 @@ moves_on {k = k} {s = s} {i = i} {left = left} j inv within e = record {
   given = inv.given;
   many = inv.many;
   few = omega (arith, inv.few, e);
-  chunks = ap (λ z. inv.given ++ z) (chunks_between k i j left s.queue.in_flight e s.queue.first_tsn) ∙ inv.chunks;
+  chunks = ap (λ z. inv.given ++ z) (chunks_between k i j left s.queue.in_flight e (asks_again s) s.queue.first_tsn) ∙ inv.chunks;
   written = inv.written;
 }
 
@@ -237,22 +237,22 @@ unmarked_stay s none =
 pub none_marked : (s : Sender) → marked_of s.queue.in_flight ≡ 0 → marked_by s ≡ []
 none_marked s none =
     let alone : resends_alone s ≡ false = not_alone (resend_window s) s.queue.in_flight none in
-    rw alone (none_resent s.queue.first_tsn 0 (both_windows s) s.queue.in_flight none)
+    rw alone (none_resent (asks_again s) s.queue.first_tsn 0 (both_windows s) s.queue.in_flight none)
 
 -- what is given up
 
 -- a walk over what a pass would send again comes to the piece to which it is to come. It looked once for each piece that
 -- it passed, and once more
-pub record Walks (k : Retransmission) (xs : List InFlight) (first room i left before looks : ℕ) : Type 0 where
+pub record Walks (at_once : Bool) (k : Retransmission) (xs : List InFlight) (first room i left before looks : ℕ) : Type 0 where
   pub index : spent_index k i left (drop i xs) ≡ spent_index k 0 room xs
-  pub looked : looks + length (resent_chunks k first i left (drop i xs))
-      ≤ before + (length (resent_chunks k first 0 room xs) + 1)
+  pub looked : looks + length (resent_chunks at_once k first i left (drop i xs))
+      ≤ before + (length (resent_chunks at_once k first 0 room xs) + 1)
   pub picked : i < length xs → is_picked k (slice_get xs i) ≡ true
 
-pub walks_from : (k : Retransmission) (xs : List InFlight) (first room i before looks : ℕ)
-    → i ≡ 0 + in_front k (drop 0 xs) → looks ≤ before + 1 → Walks k xs first room i room before looks
-walks_from k xs first room i before looks e once =
-    let same = ap length (chunks_between k 0 i room xs e first) in
+pub walks_from : (at_once : Bool) (k : Retransmission) (xs : List InFlight) (first room i before looks : ℕ)
+    → i ≡ 0 + in_front k (drop 0 xs) → looks ≤ before + 1 → Walks at_once k xs first room i room before looks
+walks_from at_once k xs first room i before looks e once =
+    let same = ap length (chunks_between k 0 i room xs e at_once first) in
     record {
       index = index_between k 0 i room xs e;
       looked = omega (arith, same, once);
@@ -271,18 +271,18 @@ reached_on k left left2 p a e =
     (cases_Bool (nat_lt left (room_taken k p))))
     (cases_Bool (is_spent p))
 
-pub walks_on : {k : Retransmission} {xs : List InFlight} {first room i left before looks : ℕ} (p : InFlight)
-    (j left2 more : ℕ) → Walks k xs first room i left before looks → slice_get xs i ≡ Some p → i < length xs
+pub walks_on : {at_once : Bool} {k : Retransmission} {xs : List InFlight} {first room i left before looks : ℕ} (p : InFlight)
+    (j left2 more : ℕ) → Walks at_once k xs first room i left before looks → slice_get xs i ≡ Some p → i < length xs
     → reached_at k left p ≡ reached.On left2 → j ≡ i + 1 + in_front k (drop (i + 1) xs) → more ≤ looks + 1
-    → Walks k xs first room j left2 before more
-walks_on {k = k} {xs = xs} {first = first} {i = i} {left = left} p j left2 more inv here less reach e once =
+    → Walks at_once k xs first room j left2 before more
+walks_on {at_once = at_once} {k = k} {xs = xs} {first = first} {i = i} {left = left} p j left2 more inv here less reach e once =
     let a : picks k p ≡ true = ap (is_picked k) (sym here) ∙ inv.picked less in
     let on = reached_on k left left2 p a reach in
     let sent =
-    ap (resent_chunks k first i left) (drop_get xs i p here) ∙ chunks_sent k p (drop (i + 1) xs) first i left a on.0
-    ∙ ap (λ z. chunk_of p (tsn_at first i) ∷ resent_chunks k first (i + 1) z (drop (i + 1) xs)) on.1 in
+    ap (resent_chunks at_once k first i left) (drop_get xs i p here) ∙ chunks_sent at_once k p (drop (i + 1) xs) first i left a on.0
+    ∙ ap (λ z. chunk_of at_once p (tsn_at first i) ∷ resent_chunks at_once k first (i + 1) z (drop (i + 1) xs)) on.1 in
     let one = ap length sent in
-    let same = ap length (chunks_between k (i + 1) j left2 xs e first) in
+    let same = ap length (chunks_between k (i + 1) j left2 xs e at_once first) in
     record {
       index =
           index_between k (i + 1) j left2 xs e

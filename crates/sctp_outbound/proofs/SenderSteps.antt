@@ -22,7 +22,7 @@ use Rattle.sctp_outbound.specs.declared.sender.Attempt.TheVariants as attempts
 use Rattle.sctp_outbound.specs.declared.sender.Sender.{Sender}
 use Rattle.sctp_outbound.specs.Sender.{after_first, after_resending, acknowledged, with_in_flight, resent_pieces}
 use Rattle.sctp_outbound.specs.Sender.{after_marked, chunks_tried, marked_by, missing_by, resent_chunks, tried_again}
-use Rattle.sctp_outbound.specs.Sender.{chunk_of, fits_windows, can_send_next, gives_data}
+use Rattle.sctp_outbound.specs.Sender.{asks_again, chunk_of, fits_windows, can_send_next, gives_data}
 use Rattle.sctp_outbound.specs.Sender.{goes_again, resends, sends_new, sent_one, sent_within}
 
 pub acknowledge_more : (n i now : ℕ) (all : Sender × Estimate × StreamMap) → i < n
@@ -160,19 +160,19 @@ pub pieces_sent : (k : Retransmission) (p : InFlight) (ps : List InFlight) (room
     → resent_pieces k room (p ∷ ps) ≡ counted_again k p ∷ resent_pieces k (room - room_taken k p) ps
 pieces_sent k p ps room marked fits = rw (marked, fits)
 
-pub chunks_skip : (k : Retransmission) (p : InFlight) (ps : List InFlight) (first index room : ℕ) → picks k p ≡ false
-    → resent_chunks k first index room (p ∷ ps) ≡ resent_chunks k first (index + 1) room ps
-chunks_skip k p ps first index room unmarked = rw unmarked
+pub chunks_skip : (at_once : Bool) (k : Retransmission) (p : InFlight) (ps : List InFlight) (first index room : ℕ) → picks k p ≡ false
+    → resent_chunks at_once k first index room (p ∷ ps) ≡ resent_chunks at_once k first (index + 1) room ps
+chunks_skip at_once k p ps first index room unmarked = rw unmarked
 
-pub chunks_full : (k : Retransmission) (p : InFlight) (ps : List InFlight) (first index room : ℕ) → picks k p ≡ true
-    → nat_lt room (room_taken k p) ≡ true → resent_chunks k first index room (p ∷ ps) ≡ []
-chunks_full k p ps first index room marked full = rw (marked, full)
+pub chunks_full : (at_once : Bool) (k : Retransmission) (p : InFlight) (ps : List InFlight) (first index room : ℕ) → picks k p ≡ true
+    → nat_lt room (room_taken k p) ≡ true → resent_chunks at_once k first index room (p ∷ ps) ≡ []
+chunks_full at_once k p ps first index room marked full = rw (marked, full)
 
-pub chunks_sent : (k : Retransmission) (p : InFlight) (ps : List InFlight) (first index room : ℕ) → picks k p ≡ true
+pub chunks_sent : (at_once : Bool) (k : Retransmission) (p : InFlight) (ps : List InFlight) (first index room : ℕ) → picks k p ≡ true
     → nat_lt room (room_taken k p) ≡ false
-    → resent_chunks k first index room (p ∷ ps) ≡ chunk_of p (tsn_at first index)
-    ∷ resent_chunks k first (index + 1) (room - room_taken k p) ps
-chunks_sent k p ps first index room marked fits = rw (marked, fits)
+    → resent_chunks at_once k first index room (p ∷ ps) ≡ chunk_of at_once p (tsn_at first index)
+    ∷ resent_chunks at_once k first (index + 1) (room - room_taken k p) ps
+chunks_sent at_once k p ps first index room marked fits = rw (marked, fits)
 
 one_more : {A : Type 0} → (a b w r : List A) (q : A) → b ≡ a ++ q ∷ [] → w ≡ q ∷ r → b ++ r ≡ a ++ w
 one_more a b w r q e f = rw (e, f, append_assoc)
@@ -190,7 +190,7 @@ tried_sent : (k : Retransmission) (p : InFlight) (s : Sender) (index left : ℕ)
     → nat_lt left (room_taken k p) ≡ false
     → (tried_again k (Some p) s index left
     ≡ (with_in_flight s (set s.queue.in_flight index (counted_again k p)), attempts.Sent (left - room_taken k p)))
-    × (chunks_tried k (Some p) s index left ≡ chunk_of p (tsn_at s.queue.first_tsn index) ∷ [])
+    × (chunks_tried k (Some p) s index left ≡ chunk_of (asks_again s) p (tsn_at s.queue.first_tsn index) ∷ [])
 tried_sent k p s index left marked fits = (rw (marked, fits) refl, rw (marked, fits) refl)
 
 -- once the piece at an index is dealt with, the rest is resent as it was to be before
@@ -201,8 +201,8 @@ pub record Stepped (k : Retransmission) (s s2 : Sender) (index left left2 : ℕ)
   pub rest : s2 ≡ with_in_flight s s2.queue.in_flight
   pub pieces : take (index + 1) s2.queue.in_flight ++ resent_pieces k left2 (drop (index + 1) s2.queue.in_flight)
       ≡ take index s.queue.in_flight ++ resent_pieces k left (drop index s.queue.in_flight)
-  pub chunks : out2 ++ resent_chunks k s2.queue.first_tsn (index + 1) left2 (drop (index + 1) s2.queue.in_flight)
-      ≡ out ++ resent_chunks k s.queue.first_tsn index left (drop index s.queue.in_flight)
+  pub chunks : out2 ++ resent_chunks (asks_again s2) k s2.queue.first_tsn (index + 1) left2 (drop (index + 1) s2.queue.in_flight)
+      ≡ out ++ resent_chunks (asks_again s) k s.queue.first_tsn index left (drop index s.queue.in_flight)
 
 skipped : (k : Retransmission) (p : InFlight) (s : Sender) (index left : ℕ) (out : List ChunkPayloadData)
     → slice_get s.queue.in_flight index ≡ Some p → picks k p ≡ false → Stepped k s s index left left out out
@@ -219,20 +219,20 @@ skipped k p s index left out here unmarked =
           (take_get xs index p here)
           (ap (resent_pieces k left) (drop_get xs index p here) ∙ pieces_skip k p ds left unmarked);
       chunks =
-          ap (λ z. out ++ z) (sym (ap (resent_chunks k s.queue.first_tsn index left) (drop_get xs index p here) ∙
-          chunks_skip k p ds s.queue.first_tsn index left unmarked));
+          ap (λ z. out ++ z) (sym (ap (resent_chunks (asks_again s) k s.queue.first_tsn index left) (drop_get xs index p here) ∙
+          chunks_skip (asks_again s) k p ds s.queue.first_tsn index left unmarked));
     }
 
 sent_again_at : (k : Retransmission) (p : InFlight) (s : Sender) (index left : ℕ) (out : List ChunkPayloadData)
     → slice_get s.queue.in_flight index ≡ Some p → picks k p ≡ true → nat_lt left (room_taken k p) ≡ false
     → Stepped k s (with_in_flight s (set s.queue.in_flight index (counted_again k p))) index left
-    (left - room_taken k p) out (out ++ chunk_of p (tsn_at s.queue.first_tsn index) ∷ [])
+    (left - room_taken k p) out (out ++ chunk_of (asks_again s) p (tsn_at s.queue.first_tsn index) ∷ [])
 sent_again_at k p s index left out here marked fits =
     let xs = s.queue.in_flight in
     let first = s.queue.first_tsn in
     let q = counted_again k p in
     let left2 = left - room_taken k p in
-    let chunk = chunk_of p (tsn_at first index) in
+    let chunk = chunk_of (asks_again s) p (tsn_at first index) in
     let ys = set s.queue.in_flight index q in
     let below = slice_get_within s.queue.in_flight index p here in
     let same : drop (index + 1) ys ≡ drop (index + 1) xs = drop-set-lt (index + 1) xs index q (omega arith) in
@@ -249,11 +249,11 @@ sent_again_at k p s index left out here marked fits =
           ap (λ z. q ∷ resent_pieces k left2 z) (sym same)
           );
       chunks =
-          one_more out (out ++ chunk ∷ []) (resent_chunks k first index left (drop index xs))
-          (resent_chunks k first (index + 1) left2 (drop (index + 1) ys)) chunk refl (
-          ap (resent_chunks k first index left) (drop_get xs index p here) ∙
-          chunks_sent k p (drop (index + 1) xs) first index left marked fits ∙
-          ap (λ z. chunk ∷ resent_chunks k first (index + 1) left2 z) (sym same)
+          one_more out (out ++ chunk ∷ []) (resent_chunks (asks_again s) k first index left (drop index xs))
+          (resent_chunks (asks_again s) k first (index + 1) left2 (drop (index + 1) ys)) chunk refl (
+          ap (resent_chunks (asks_again s) k first index left) (drop_get xs index p here) ∙
+          chunks_sent (asks_again s) k p (drop (index + 1) xs) first index left marked fits ∙
+          ap (λ z. chunk ∷ resent_chunks (asks_again s) k first (index + 1) left2 z) (sym same)
           );
     }
 
@@ -268,7 +268,7 @@ pub record Stopped (k : Retransmission) (s s2 : Sender) (index left : ℕ)
   pub sender : s2 ≡ s
   pub sent : out2 ≡ out
   pub pieces : resent_pieces k left (drop index s.queue.in_flight) ≡ drop index s.queue.in_flight
-  pub chunks : resent_chunks k s.queue.first_tsn index left (drop index s.queue.in_flight) ≡ []
+  pub chunks : resent_chunks (asks_again s) k s.queue.first_tsn index left (drop index s.queue.in_flight) ≡ []
 
 past_end : (k : Retransmission) (s : Sender) (index left : ℕ) (out : List ChunkPayloadData)
     → length s.queue.in_flight ≤ index
@@ -295,8 +295,8 @@ does_not_fit k p s index left out here marked full =
           ap (resent_pieces k left) (drop_get xs index p here) ∙ pieces_full k p ds left marked full ∙
           sym (drop_get xs index p here);
       chunks =
-          ap (resent_chunks k s.queue.first_tsn index left) (drop_get xs index p here) ∙
-          chunks_full k p ds s.queue.first_tsn index left marked full;
+          ap (resent_chunks (asks_again s) k s.queue.first_tsn index left) (drop_get xs index p here) ∙
+          chunks_full (asks_again s) k p ds s.queue.first_tsn index left marked full;
     }
 
 -- what became of a piece at an index, with the chunks given before it and with it
@@ -323,7 +323,7 @@ became k (Some p) s index left out here =
     λ (fits : nat_lt left (room_taken k p) ≡ false).
     let e = tried_sent k p s index left marked fits in
     rw (e.0, e.1)
-    (sent_again_at k p s index left out here marked fits, more_by_one out (chunk_of p (tsn_at s.queue.first_tsn index)))
+    (sent_again_at k p s index left out here marked fits, more_by_one out (chunk_of (asks_again s) p (tsn_at s.queue.first_tsn index)))
     ) (cases_Bool (nat_lt left (room_taken k p)))
     ) (
     λ (unmarked : picks k p ≡ false).
@@ -342,21 +342,21 @@ pub record ResendsOn (k : Retransmission) (s0 s : Sender) (i end room left sent 
     pub given : List ChunkPayloadData
     pub many : sent ≡ length given
     pub few : length given ≤ i
-    pub chunks : given ++ resent_chunks k s.queue.first_tsn i left (drop i s.queue.in_flight)
-        ≡ resent_chunks k s0.queue.first_tsn 0 room s0.queue.in_flight
+    pub chunks : given ++ resent_chunks (asks_again s) k s.queue.first_tsn i left (drop i s.queue.in_flight)
+        ≡ resent_chunks (asks_again s0) k s0.queue.first_tsn 0 room s0.queue.in_flight
     pub written : out ≡ with_all out0 given
 
 -- a piece that is to be sent again is the first of what is resent from its index on
 goes_first : (k : Retransmission) (o : Option InFlight) (s : Sender) (index left : ℕ)
     → slice_get s.queue.in_flight index ≡ o
     → goes_again k o left ≡ true
-    → 0 < length (resent_chunks k s.queue.first_tsn index left (drop index s.queue.in_flight))
+    → 0 < length (resent_chunks (asks_again s) k s.queue.first_tsn index left (drop index s.queue.in_flight))
 goes_first k None s index left here again = absurd (false_from_true again)
 goes_first k (Some p) s index left here again =
     let parts = and_parts (picks k p) (not (nat_lt left (room_taken k p))) again in
     let first =
-    ap (resent_chunks k s.queue.first_tsn index left) (drop_get s.queue.in_flight index p here) ∙
-    chunks_sent k p (drop (index + 1) s.queue.in_flight) s.queue.first_tsn index left parts.0 (not-true _ parts.1) in
+    ap (resent_chunks (asks_again s) k s.queue.first_tsn index left) (drop_get s.queue.in_flight index p here) ∙
+    chunks_sent (asks_again s) k p (drop (index + 1) s.queue.in_flight) s.queue.first_tsn index left parts.0 (not-true _ parts.1) in
     rw first (omega arith)
 
 module _ {k : Retransmission} {s0 s : Sender} {i end room left sent : ℕ} {out0 out : DataWritten}
@@ -424,16 +424,16 @@ module _ {k : Retransmission} {s0 s : Sender} {i end room left sent : ℕ} {out0
       stop.sender ∙ inv.rest ∙ ap (with_in_flight s0) all
 
   all_given : {s2 : Sender} {more : List ChunkPayloadData} → Stopped k s s2 i left inv.given more
-      → inv.given ≡ resent_chunks k s0.queue.first_tsn 0 room s0.queue.in_flight
+      → inv.given ≡ resent_chunks (asks_again s0) k s0.queue.first_tsn 0 room s0.queue.in_flight
   all_given stop = sym (append-nil inv.given) ∙ ap (λ z. inv.given ++ z) (sym stop.chunks) ∙ inv.chunks
 
   pub ends_out : {s2 : Sender} {more : List ChunkPayloadData} (out2 : DataWritten)
       → Stopped k s s2 i left inv.given more → out2 ≡ with_all out0 more
-      → out2 ≡ with_all out0 (resent_chunks k s0.queue.first_tsn 0 room s0.queue.in_flight)
+      → out2 ≡ with_all out0 (resent_chunks (asks_again s0) k s0.queue.first_tsn 0 room s0.queue.in_flight)
   ends_out out2 stop written = written ∙ ap (with_all out0) (stop.sent ∙ all_given stop)
 
   pub ends_count : {s2 : Sender} {more : List ChunkPayloadData} → Stopped k s s2 i left inv.given more
-      → sent ≡ length (resent_chunks k s0.queue.first_tsn 0 room s0.queue.in_flight)
+      → sent ≡ length (resent_chunks (asks_again s0) k s0.queue.first_tsn 0 room s0.queue.in_flight)
   ends_count stop = inv.many ∙ ap length (all_given stop)
 
   pub resent_sender : {s2 : Sender} → tried_again k (slice_get s.queue.in_flight i) s i left ≡ (s2, attempts.Full)
@@ -443,18 +443,18 @@ module _ {k : Retransmission} {s0 s : Sender} {i end room left sent : ℕ} {out0
   pub resent_out : {s2 : Sender} (out2 : DataWritten)
       → tried_again k (slice_get s.queue.in_flight i) s i left ≡ (s2, attempts.Full)
       → out2 ≡ with_all out (chunks_tried k (slice_get s.queue.in_flight i) s i left)
-      → out2 ≡ with_all out0 (resent_chunks k s0.queue.first_tsn 0 room s0.queue.in_flight)
+      → out2 ≡ with_all out0 (resent_chunks (asks_again s0) k s0.queue.first_tsn 0 room s0.queue.in_flight)
   resent_out out2 e written = ends_out out2 (stopped e) (now_written out2 written)
 
   pub resent_count : {s2 : Sender} → tried_again k (slice_get s.queue.in_flight i) s i left ≡ (s2, attempts.Full)
-      → sent ≡ length (resent_chunks k s0.queue.first_tsn 0 room s0.queue.in_flight)
+      → sent ≡ length (resent_chunks (asks_again s0) k s0.queue.first_tsn 0 room s0.queue.in_flight)
   resent_count e = ends_count (stopped e)
 
   pub resends_some : goes_again k (slice_get s.queue.in_flight i) left ≡ true
-      → nat_lt 0 (length (resent_chunks k s0.queue.first_tsn 0 room s0.queue.in_flight)) ≡ true
+      → nat_lt 0 (length (resent_chunks (asks_again s0) k s0.queue.first_tsn 0 room s0.queue.in_flight)) ≡ true
   resends_some again =
-      let rest = resent_chunks k s.queue.first_tsn i left (drop i s.queue.in_flight) in
-      let all = resent_chunks k s0.queue.first_tsn 0 room s0.queue.in_flight in
+      let rest = resent_chunks (asks_again s) k s.queue.first_tsn i left (drop i s.queue.in_flight) in
+      let all = resent_chunks (asks_again s0) k s0.queue.first_tsn 0 room s0.queue.in_flight in
       let some = goes_first k (slice_get s.queue.in_flight i) s i left refl again in
       let lengths : length inv.given + length rest ≡ length all =
       sym (length-append inv.given rest) ∙ ap length inv.chunks in

@@ -16,7 +16,7 @@ use Rattle.sctp_outbound.specs.declared.abandonment.Reason.TheVariants as reason
 use Rattle.sctp_outbound.specs.declared.abandonment.Reached.{Reached}
 use Rattle.sctp_outbound.specs.declared.abandonment.Reached.TheVariants as reached
 use Rattle.sctp_outbound.specs.declared.sender.Sender.{Sender}
-use Rattle.sctp_outbound.specs.Sender.{both_windows, fast_room, resent_chunks}
+use Rattle.sctp_outbound.specs.Sender.{asks_again, both_windows, fast_room, resent_chunks}
 
 -- the bytes of a message that was given up are released at its stream
 abbrev pub released_at : Option Released → StreamMap → StreamMap
@@ -88,7 +88,8 @@ first_spent k s = if is_pass_due k s then spent_index k 0 (pass_room k s) s.queu
 
 -- so often a pass looks at most: once for each piece that it would send again, and once more
 abbrev pub pass_looks : Retransmission → Sender → ℕ
-pass_looks k s = length (resent_chunks k s.queue.first_tsn 0 (pass_room k s) s.queue.in_flight) + 1
+pass_looks k s =
+    length (resent_chunks (asks_again s) k s.queue.first_tsn 0 (pass_room k s) s.queue.in_flight) + 1
 
 -- so often one look at what is given up next does
 abbrev pub looks_for : Reason → Sender → ℕ

@@ -199,8 +199,8 @@ data_of a begins ends at_once bytes tsn = record {
 }
 
 -- a piece in flight
-abbrev pub chunk_of : InFlight → ℕ → ChunkPayloadData
-chunk_of p tsn = data_of p.message p.beginning_fragment p.ending_fragment false p.user_data tsn
+abbrev pub chunk_of : Bool → InFlight → ℕ → ChunkPayloadData
+chunk_of at_once p tsn = data_of p.message p.beginning_fragment p.ending_fragment at_once p.user_data tsn
 
 -- the next piece of a message that waits
 abbrev pub next_chunk_of : Bool → Waiting → ℕ → ChunkPayloadData
@@ -211,18 +211,22 @@ next_chunk_of at_once m tsn = data_of m.message (not m.begun) (length m.rest == 
 abbrev pub asks_at_once : Sender → Bool
 asks_at_once s = is_rfc s.profile && nat_lt s.congestion.cwnd (3 * s.mtu)
 
+-- and what goes again does so always: much may wait for that SACK, and nothing may follow that would bring it sooner
+abbrev pub asks_again : Sender → Bool
+asks_again s = is_rfc s.profile
+
 abbrev pub with_in_flight : Sender → List InFlight → Sender
 with_in_flight s pieces = record s { queue = (let q = s.queue in record q { in_flight = pieces }) }
 
 -- the DATA that is sent again for a reason: the pieces that it picks, in the order of their TSNs, as long as they fit
 -- together into so many bytes (RFC 4960 sections 6.3.3, rule E3, and 7.2.4)
-abbrev pub resent_chunks : Retransmission → ℕ → ℕ → ℕ → List InFlight → List ChunkPayloadData
-resent_chunks k first index room [] = []
-resent_chunks k first index room (p ∷ ps) =
-    if not (picks k p) then resent_chunks k first (index + 1) room ps else
+abbrev pub resent_chunks : Bool → Retransmission → ℕ → ℕ → ℕ → List InFlight → List ChunkPayloadData
+resent_chunks at_once k first index room [] = []
+resent_chunks at_once k first index room (p ∷ ps) =
+    if not (picks k p) then resent_chunks at_once k first (index + 1) room ps else
     if nat_lt room (room_taken k p) then [] else
-    chunk_of p (tsn_at first index) ∷
-    resent_chunks k first (index + 1) (room - room_taken k p) ps
+    chunk_of at_once p (tsn_at first index) ∷
+    resent_chunks at_once k first (index + 1) (room - room_taken k p) ps
 
 -- the pieces in flight after that: those that were sent again count one sending more
 abbrev pub resent_pieces : Retransmission → ℕ → List InFlight → List InFlight
@@ -251,7 +255,9 @@ tried_again k (Some p) s index room =
 abbrev pub chunks_tried : Retransmission → Option InFlight → Sender → ℕ → ℕ → List ChunkPayloadData
 chunks_tried k None s index room = []
 chunks_tried k (Some p) s index room =
-    if picks k p && not (nat_lt room (room_taken k p)) then chunk_of p (tsn_at s.queue.first_tsn index) ∷ [] else []
+    if picks k p && not (nat_lt room (room_taken k p)) then
+    chunk_of (asks_again s) p (tsn_at s.queue.first_tsn index) ∷ []
+    else []
 
 -- this piece is picked and fits into so many bytes
 abbrev pub goes_again : Retransmission → Option InFlight → ℕ → Bool
@@ -276,9 +282,9 @@ alone_length s = alone_length_of (resend_window s) (slice_get s.queue.in_flight 
 abbrev pub resends_alone : Sender → Bool
 resends_alone s = is_some (alone_length s)
 
-abbrev pub first_chunk : ℕ → List InFlight → List ChunkPayloadData
-first_chunk first [] = []
-first_chunk first (p ∷ ps) = chunk_of p (tsn_at first 0) ∷ []
+abbrev pub first_chunk : Bool → ℕ → List InFlight → List ChunkPayloadData
+first_chunk at_once first [] = []
+first_chunk at_once first (p ∷ ps) = chunk_of at_once p (tsn_at first 0) ∷ []
 
 abbrev pub first_counted : List InFlight → List InFlight
 first_counted [] = []
@@ -309,8 +315,8 @@ both_windows s = if is_rfc s.profile then room_by_rfcs s else min s.congestion.c
 -- alone where the peer's window is too small for it (RFC 4960 section 6.1, rule A)
 abbrev pub marked_by : Sender → List ChunkPayloadData
 marked_by s =
-    if resends_alone s then first_chunk s.queue.first_tsn s.queue.in_flight else
-    resent_chunks causes.Timer s.queue.first_tsn 0 (both_windows s) s.queue.in_flight
+    if resends_alone s then first_chunk (asks_again s) s.queue.first_tsn s.queue.in_flight else
+    resent_chunks (asks_again s) causes.Timer s.queue.first_tsn 0 (both_windows s) s.queue.in_flight
 
 abbrev pub after_marked : Sender → Sender
 after_marked s =
@@ -331,7 +337,8 @@ fast_room s = max (s.mtu - 12) (room_of (find (picks causes.Fast) s.queue.in_fli
 -- (RFC 4960 section 7.2.4)
 abbrev pub missing_by : Sender → List ChunkPayloadData
 missing_by s =
-    if s.is_fast_due then resent_chunks causes.Fast s.queue.first_tsn 0 (fast_room s) s.queue.in_flight else []
+    if s.is_fast_due then resent_chunks (asks_again s) causes.Fast s.queue.first_tsn 0 (fast_room s) s.queue.in_flight
+    else []
 
 abbrev pub missing_counted : Sender → List InFlight
 missing_counted s =

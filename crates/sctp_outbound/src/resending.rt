@@ -5,8 +5,8 @@ ghost use Rattle.std.specs.List.{position_or_len};
 ghost use Rattle.sctp_outbound_queue.specs.Message.{picks};
 ghost use Rattle.sctp_outbound_queue.specs.Outbound.{marked_of};
 ghost use Rattle.sctp_wire.specs.DataPackets.{with_all};
-ghost use Rattle.sctp_outbound.specs.Sender.{after_marked, after_missing, alone_length, chunks_tried, fast_room};
-ghost use Rattle.sctp_outbound.specs.Sender.{both_windows, first_room, resend_window, room_by_rfcs};
+ghost use Rattle.sctp_outbound.specs.Sender.{after_marked, after_missing, alone_length, asks_again, chunks_tried};
+ghost use Rattle.sctp_outbound.specs.Sender.{both_windows, fast_room, first_room, resend_window, room_by_rfcs};
 ghost use Rattle.sctp_outbound.specs.Sender.{goes_again, marked_by, missing_by, resent_chunks, resent_pieces};
 ghost use Rattle.sctp_outbound.specs.Sender.{tried_again, with_in_flight};
 
@@ -172,16 +172,16 @@ impl Sender {
         looks: &mut Looks,
     ) -> Result<u64, AllocError>
         requires { first ≡ position_or_len (picks by) self.old.queue.in_flight }
-        ensures count { IfOk result
-            (λ count. count ≡ length (resent_chunks by self.old.queue.first_tsn 0 room self.old.queue.in_flight)) }
+        ensures count { IfOk result (λ count. count ≡
+            length (resent_chunks (asks_again self.old) by self.old.queue.first_tsn 0 room self.old.queue.in_flight)) }
         ensures sender { OnOk result
             (self.new ≡ with_in_flight self.old (resent_pieces by room self.old.queue.in_flight)) }
         ensures chunks { OnOk result (out.new ≡
-            with_all out.old (resent_chunks by self.old.queue.first_tsn 0 room self.old.queue.in_flight)) }
-        ensures grows { OnErr result
-            (nat_lt 0 (length (resent_chunks by self.old.queue.first_tsn 0 room self.old.queue.in_flight)) ≡ true) }
-        ensures looks { looks.new ≤ looks.old
-            + length (resent_chunks by self.old.queue.first_tsn 0 room self.old.queue.in_flight) }
+            with_all out.old (resent_chunks (asks_again self.old) by self.old.queue.first_tsn 0 room self.old.queue.in_flight)) }
+        ensures grows { OnErr result (nat_lt 0 (length
+            (resent_chunks (asks_again self.old) by self.old.queue.first_tsn 0 room self.old.queue.in_flight)) ≡ true) }
+        ensures looks { looks.new ≤ looks.old + length
+            (resent_chunks (asks_again self.old) by self.old.queue.first_tsn 0 room self.old.queue.in_flight) }
     {
         let count = self.queue.inflight_len();
         let mut left = room;
@@ -222,7 +222,8 @@ impl Sender {
         if taken > room {
             return Ok(Attempt::Full);
         }
-        out.add_borrowed(&sent_chunk(piece, self.queue.tsn_at(index)))?;
+        let at_once = self.is_by_rfcs();
+        out.add_borrowed(&sent_chunk(piece, self.queue.tsn_at(index), at_once))?;
         self.queue.resend(index, by);
         Ok(Attempt::Sent { room: room - taken })
     }

@@ -500,14 +500,14 @@ pub(crate) fn release(streams: &mut Streams, fallen: &mut Fallen, piece: &InFlig
 }
 
 // A piece in flight, as DATA.
-pub(crate) fn sent_chunk(piece: &InFlight, tsn: u32) -> DataRef<'_>
-    ensures { result ≡ chunk_of piece.now tsn }
+pub(crate) fn sent_chunk(piece: &InFlight, tsn: u32, at_once: bool) -> DataRef<'_>
+    ensures { result ≡ chunk_of at_once piece.now tsn }
 {
     data_chunk(
         &piece.message,
         piece.beginning_fragment,
         piece.ending_fragment,
-        false,
+        at_once,
         &piece.user_data,
         tsn,
     )

@@ -45,7 +45,7 @@ use Rattle.sctp_pair.proofs.PollCall.{all_sent_is, complete_is_due}
 one_leaves_all_sent : (act : Act) (p : Parts) → IsOfPoll act → Can act p → IsAllSent p → IsAllSent (done act p)
 one_leaves_all_sent (Act.Sent at_once now) p is can d =
     absurd (no_message (λ (m : Option Waiting). is_some m) refl p 0 d can)
-one_leaves_all_sent (Act.SentAgain by index) p is can d = old_leaves_all_sent (Act.SentAgain by index) p tt can d
+one_leaves_all_sent (Act.SentAgain at_once by index) p is can d = old_leaves_all_sent (Act.SentAgain at_once by index) p tt can d
 one_leaves_all_sent (Act.Abandoned index) p is can d = old_leaves_all_sent (Act.Abandoned index) p tt can d
 one_leaves_all_sent Act.TailAbandoned p is can d = old_leaves_all_sent Act.TailAbandoned p tt can d
 one_leaves_all_sent (Act.Dropped k) p is can d = old_leaves_all_sent (Act.Dropped k) p tt can d

@@ -210,15 +210,15 @@ module _ (x : Surroundings) (p : Parts) (h : Holds x p) where
         room_is = drops_take_no_room x.out gone.0 gone.1;
         still = λ d. absurd (no_message can_drop refl p k d can);
       }
-  one_old (Act.SentAgain by index) g can =
-      let resent = its_pieces_are_given p by index x.out can h.sound_out.invariant h.between.outgoing in
+  one_old (Act.SentAgain at_once by index) g can =
+      let resent = its_pieces_are_given p at_once by index x.out can h.sound_out.invariant h.between.outgoing in
       let o = x.out.sender.reach + index in
       let e : Event = Event.Resend o in record {
         after =
-            act_at_sender (Act.SentAgain by index) (happens x.out e) (data_given (Act.SentAgain by index) p) can tt tt
+            act_at_sender (Act.SentAgain at_once by index) (happens x.out e) (data_given (Act.SentAgain at_once by index) p) can tt tt
             (λ s n. n)
             (after_event x e tt (λ n. n) tt h.sound_out h.other) resent.0
-            (pieces_given_again p.history.own (sending p) index x.out (happens x.out e) h.sound_out.invariant
+            (pieces_given_again p.history.own (sending p) at_once index x.out (happens x.out e) h.sound_out.invariant
             h.between.outgoing (plan_grew (e ∷ []) x.out (happens x.out e) refl) can resent.1);
         room_is = resends_take_no_room x.out o;
         still = λ d. absurd (no_piece can_go_again refl p index d can);
@@ -314,7 +314,7 @@ old_leaves_all_sent (Act.Abandoned index) p g can d = absurd (no_piece can_aband
 old_leaves_all_sent Act.TailAbandoned p g can d =
     absurd (no_message (λ (m : Option Waiting). can_abandon_tail m p.queue.in_flight) refl p 0 d can)
 old_leaves_all_sent (Act.Dropped k) p g can d = absurd (no_message can_drop refl p k d can)
-old_leaves_all_sent (Act.SentAgain by index) p g can d = absurd (no_piece can_go_again refl p index d can)
+old_leaves_all_sent (Act.SentAgain at_once by index) p g can d = absurd (no_piece can_go_again refl p index d can)
 old_leaves_all_sent act p g can d = absurd g
 
 pub all_old_leaves_all_sent : (xs : List Act) (p : Parts) → AllByRecursion GivesUpOrAgain xs → CanAll xs p

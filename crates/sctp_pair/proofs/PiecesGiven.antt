@@ -28,9 +28,9 @@ IsGivenPiece own w c = IsGiven own w c × IsAcceptedPiece own w.sender.plan c
 
 module _ (own : ℕ) (a : Sending) (w : Direction) (inv : Invariant w) (f : FitsOutgoing a w) where
   -- a piece in flight that is not abandoned
-  flying_is_accepted : (k : ℕ) (x : InFlight) → slice_get a.queue.in_flight k ≡ Some x → x.abandoned ≡ false
-      → IsAcceptedPiece own w.sender.plan (chunk_of x (tsn own (a.base + k)))
-  flying_is_accepted k x there stays =
+  flying_is_accepted : (at_once : Bool) (k : ℕ) (x : InFlight) → slice_get a.queue.in_flight k ≡ Some x → x.abandoned ≡ false
+      → IsAcceptedPiece own w.sender.plan (chunk_of at_once x (tsn own (a.base + k)))
+  flying_is_accepted at_once k x there stays =
       let p : Plan = w.sender.plan in
       let o : ℕ = w.sender.reach + k in
       let here : IsInFlight f.named p w.sender.acknowledged w.sender.gone o x =
@@ -58,31 +58,12 @@ module _ (own : ℕ) (a : Sending) (w : Direction) (inv : Invariant w) (f : Fits
       }
 
   -- so is one that goes out again
-  again_is_accepted : (k : ℕ) (found : Option InFlight) → slice_get a.queue.in_flight k ≡ found
+  again_is_accepted : (at_once : Bool) (k : ℕ) (found : Option InFlight) → slice_get a.queue.in_flight k ≡ found
       → can_go_again found ≡ true
-      → AllByRecursion (IsAcceptedPiece own w.sender.plan) (chunk_said found (tsn own (a.base + k)))
-  again_is_accepted k None there can = tt
-  again_is_accepted k (Some x) there can =
-      (flying_is_accepted k x there (not-true _ (and_parts (not x.acked) (not x.abandoned) can).1), tt)
-
--- it is the same piece, whether it asks for its SACK at once or not
-asked_is_accepted : (own : ℕ) (p : Plan) (at_once : Bool) (c : ChunkPayloadData) → IsAcceptedPiece own p c
-    → IsAcceptedPiece own p (record c { immediate_sack = at_once })
-asked_is_accepted own p at_once c piece =
-    let x = piece.of_plan in record {
-      of_plan = record {
-        offset = x.offset;
-        known = x.known;
-        is = x.is;
-        sent = x.sent;
-        stream = x.stream;
-        first = x.first;
-        last = x.last;
-        bytes = x.bytes;
-      };
-      accepted = piece.accepted;
-      payload_type = piece.payload_type;
-    }
+      → AllByRecursion (IsAcceptedPiece own w.sender.plan) (chunk_said at_once found (tsn own (a.base + k)))
+  again_is_accepted at_once k None there can = tt
+  again_is_accepted at_once k (Some x) there can =
+      (flying_is_accepted at_once k x there (not-true _ (and_parts (not x.acked) (not x.abandoned) can).1), tt)
 
 -- and the next one that waits, once it went out
 next_is_accepted : (own : ℕ) (a : Sending) (at_once : Bool) (now : ℕ) (v : Direction) → Invariant v → FitsOutgoing (sent a now) v
@@ -92,14 +73,10 @@ next_is_accepted : (own : ℕ) (a : Sending) (at_once : Bool) (now : ℕ) (v : D
 next_is_accepted own a at_once now v inv f [] e = tt
 next_is_accepted own a at_once now v inv f (m ∷ ms) e =
     let piece =
-    flying_is_accepted own (sent a now) v inv f (length a.queue.in_flight) (sent_once now m)
+    flying_is_accepted own (sent a now) v inv f at_once (length a.queue.in_flight) (sent_once now m)
     (ap (λ (ps : List Waiting). slice_get (sent_from ps a.queue now).in_flight (length a.queue.in_flight)) e
     ∙ got_last a.queue.in_flight (sent_once now m))
-    refl in (
-      asked_is_accepted own v.sender.plan at_once
-          (chunk_of (sent_once now m) (tsn own (a.base + length a.queue.in_flight))) piece,
-      tt,
-    )
+    refl in (piece, tt)
 
 -- DATA that goes out for the first time
 pub next_pieces_given : (own : ℕ) (a : Sending) (at_once : Bool) (now : ℕ) (v : Direction) → Invariant v → FitsOutgoing (sent a now) v
@@ -111,13 +88,13 @@ next_pieces_given own a at_once now v inv f given =
     (next_is_accepted own a at_once now v inv f a.queue.pending refl)
 
 -- and again
-pub pieces_given_again : (own : ℕ) (a : Sending) (k : ℕ) (w v : Direction) → Invariant w → FitsOutgoing a w
+pub pieces_given_again : (own : ℕ) (a : Sending) (at_once : Bool) (k : ℕ) (w v : Direction) → Invariant w → FitsOutgoing a w
     → IsGrown w.sender.plan v.sender.plan → can_go_again (slice_get a.queue.in_flight k) ≡ true
-    → AllByRecursion (IsGiven own v) (chunk_said (slice_get a.queue.in_flight k) (tsn own (a.base + k)))
-    → AllByRecursion (IsGivenPiece own v) (chunk_said (slice_get a.queue.in_flight k) (tsn own (a.base + k)))
-pieces_given_again own a k w v inv f grew can given =
-    let chunks : List ChunkPayloadData = chunk_said (slice_get a.queue.in_flight k) (tsn own (a.base + k)) in
+    → AllByRecursion (IsGiven own v) (chunk_said at_once (slice_get a.queue.in_flight k) (tsn own (a.base + k)))
+    → AllByRecursion (IsGivenPiece own v) (chunk_said at_once (slice_get a.queue.in_flight k) (tsn own (a.base + k)))
+pieces_given_again own a at_once k w v inv f grew can given =
+    let chunks : List ChunkPayloadData = chunk_said at_once (slice_get a.queue.in_flight k) (tsn own (a.base + k)) in
     all_both (IsGiven own v) (IsAcceptedPiece own v.sender.plan) chunks given
     (all_weaker (IsAcceptedPiece own w.sender.plan) (IsAcceptedPiece own v.sender.plan) chunks
     (λ c piece. accepted_pieces_stay own w.sender.plan v.sender.plan c grew piece)
-    (again_is_accepted own a w inv f k (slice_get a.queue.in_flight k) refl can))
+    (again_is_accepted own a w inv f at_once k (slice_get a.queue.in_flight k) refl can))

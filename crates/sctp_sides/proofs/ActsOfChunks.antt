@@ -46,7 +46,7 @@ use Rattle.sctp_assoc.specs.Happened.{acts_of_unsent, forwards_of_poll}
 use Rattle.sctp_assoc.specs.Happened.{acts_of_ack, acts_of_checked, acts_of_chunk, acts_of_data_poll}
 use Rattle.sctp_assoc.specs.Happened.{acts_of_missing}
 use Rattle.sctp_outbound.specs.Sacks.{reports_of}
-use Rattle.sctp_outbound.specs.Sender.{asks_at_once, fast_room}
+use Rattle.sctp_outbound.specs.Sender.{asks_again, asks_at_once, fast_room}
 use Rattle.sctp_outbound.specs.declared.abandonment.Reason.{Reason}
 use Rattle.sctp_outbound.specs.declared.abandonment.Reason.TheVariants as reasons
 use Rattle.sctp_outbound.specs.Abandonment.{abandoned_if, first_dropped, has_late_tail, late_given_up, next_given_up}
@@ -349,7 +349,7 @@ give_if Is false xs ys g h = h
 
 -- Acts that give messages up, or give out DATA again, are all of a kind to which these belong.
 module _ (Is : Act → Type 0) (up : (index : ℕ) → Is (Act.Abandoned index)) (dropped : (k : ℕ) → Is (Act.Dropped k))
-    (again : (by : Retransmission) (index : ℕ) → Is (Act.SentAgain by index)) where
+    (again : (at_once : Bool) (by : Retransmission) (index : ℕ) → Is (Act.SentAgain at_once by index)) where
   -- what is given up
 
   abandoning_gives : (o : Option ℕ) → AllByRecursion Is (acts_of_abandoning o)
@@ -389,34 +389,35 @@ module _ (Is : Act → Type 0) (up : (index : ℕ) → Is (Act.Abandoned index))
 
   -- what goes out again
 
-  resending_gives : (by : Retransmission) (index room : ℕ) (ps : List InFlight)
-      → AllByRecursion Is (acts_of_resending by index room ps)
-  resending_gives by index room [] = tt
-  resending_gives by index room (p ∷ ps) =
-      give_if Is (not (picks by p)) (acts_of_resending by (index + 1) room ps) _
-      (resending_gives by (index + 1) room ps)
+  resending_gives : (at_once : Bool) (by : Retransmission) (index room : ℕ) (ps : List InFlight)
+      → AllByRecursion Is (acts_of_resending at_once by index room ps)
+  resending_gives at_once by index room [] = tt
+  resending_gives at_once by index room (p ∷ ps) =
+      give_if Is (not (picks by p)) (acts_of_resending at_once by (index + 1) room ps) _
+      (resending_gives at_once by (index + 1) room ps)
       (give_if Is (ltb room (room_taken by p)) []
-      (Act.SentAgain by index ∷ acts_of_resending by (index + 1) (room - room_taken by p) ps) tt
-      (again by index, resending_gives by (index + 1) (room - room_taken by p) ps))
+      (Act.SentAgain at_once by index ∷ acts_of_resending at_once by (index + 1) (room - room_taken by p) ps) tt
+      (again at_once by index, resending_gives at_once by (index + 1) (room - room_taken by p) ps))
 
-  first_again_gives : (ps : List InFlight) → AllByRecursion Is (first_again ps)
-  first_again_gives [] = tt
-  first_again_gives (p ∷ ps) = (again causes.Timer 0, tt)
+  first_again_gives : (at_once : Bool) (ps : List InFlight) → AllByRecursion Is (first_again at_once ps)
+  first_again_gives at_once [] = tt
+  first_again_gives at_once (p ∷ ps) = (again at_once causes.Timer 0, tt)
 
   pub marks_give : (a : Shown) → AllByRecursion Is (acts_of_marks_poll a)
   marks_give a =
       let s = (spent_abandoned causes.Timer a).sender in
       all_join Is (acts_of_spent causes.Timer a) (acts_of_marks s) (spent_gives causes.Timer a)
-      (give_if Is (resends_alone s) (first_again s.queue.in_flight)
-      (acts_of_resending causes.Timer 0 (both_windows s) s.queue.in_flight) (first_again_gives s.queue.in_flight)
-      (resending_gives causes.Timer 0 (both_windows s) s.queue.in_flight))
+      (give_if Is (resends_alone s) (first_again (asks_again s) s.queue.in_flight)
+      (acts_of_resending (asks_again s) causes.Timer 0 (both_windows s) s.queue.in_flight)
+      (first_again_gives (asks_again s) s.queue.in_flight)
+      (resending_gives (asks_again s) causes.Timer 0 (both_windows s) s.queue.in_flight))
 
   pub fast_give : (a : Shown) → AllByRecursion Is (acts_of_fast_poll a)
   fast_give a =
       let s = (spent_abandoned causes.Fast a).sender in
       all_join Is (acts_of_spent causes.Fast a) (acts_of_missing s) (spent_gives causes.Fast a)
-      (give_if Is s.is_fast_due (acts_of_resending causes.Fast 0 (fast_room s) s.queue.in_flight) []
-      (resending_gives causes.Fast 0 (fast_room s) s.queue.in_flight) tt)
+      (give_if Is s.is_fast_due (acts_of_resending (asks_again s) causes.Fast 0 (fast_room s) s.queue.in_flight) []
+      (resending_gives (asks_again s) causes.Fast 0 (fast_room s) s.queue.in_flight) tt)
 
 tail_gives : (now : ℕ) (s : Sender) → AllByRecursion GivesUpOrAgain (acts_of_tail now s)
 tail_gives now s = give_if GivesUpOrAgain (has_late_tail now s) (Act.TailAbandoned ∷ []) [] (tt, tt) tt
@@ -429,7 +430,7 @@ late_gives a now =
       tt,
       all_join GivesUpOrAgain (acts_of_giving_all_up (reasons.Expired now) b)
           (acts_of_tail now (late_given_up now all).0)
-          (giving_up_gives GivesUpOrAgain (λ i. tt) (λ k. tt) (λ by i. tt) (length b.0.queue.in_flight)
+          (giving_up_gives GivesUpOrAgain (λ i. tt) (λ k. tt) (λ asks by i. tt) (length b.0.queue.in_flight)
           (reasons.Expired now) b)
           (tail_gives now (late_given_up now all).0),
     )
@@ -471,9 +472,9 @@ old_acts_are_old a now =
     all_join GivesUpOrAgain (late ++ marks ++ fast) (acts_of_unsent (fast_polled a now) now)
     (all_join GivesUpOrAgain (late ++ marks) fast
     (all_join GivesUpOrAgain late marks (late_gives a now)
-    (marks_give GivesUpOrAgain (λ i. tt) (λ k. tt) (λ by i. tt) (late_abandoned a now)))
-    (fast_give GivesUpOrAgain (λ i. tt) (λ k. tt) (λ by i. tt) (marks_polled a now)))
-    (unsent_gives GivesUpOrAgain (λ i. tt) (λ k. tt) (λ by i. tt) (fast_polled a now) now)
+    (marks_give GivesUpOrAgain (λ i. tt) (λ k. tt) (λ asks by i. tt) (late_abandoned a now)))
+    (fast_give GivesUpOrAgain (λ i. tt) (λ k. tt) (λ asks by i. tt) (marks_polled a now)))
+    (unsent_gives GivesUpOrAgain (λ i. tt) (λ k. tt) (λ asks by i. tt) (fast_polled a now) now)
 
 pub data_poll_acts : (a : Shown) (now : ℕ) → acts_of_data_poll a now ≡ old_acts a now ++ new_acts a now
 data_poll_acts a now =

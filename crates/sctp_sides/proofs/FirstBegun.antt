@@ -369,7 +369,7 @@ act_orderly (Act.Wrote id named bytes) p h = written_orderly (stream_at p.stream
 act_orderly (Act.Adjusted id setting) p h = h
 act_orderly (Act.SpansEnded ids m) p h = h
 act_orderly (Act.Sent at_once now) p h = sent_orderly p.queue.pending p.queue now refl h
-act_orderly (Act.SentAgain by index) p h =
+act_orderly (Act.SentAgain at_once by index) p h =
     again_orderly by (slice_get p.queue.in_flight index) p.queue index refl h
 act_orderly Act.Marked p (pieces, rest) =
     (all_marked_fit p.queue.pending p.queue.next_message_id p.queue.in_flight pieces, rest)

@@ -151,7 +151,7 @@ abandoned_in_time now (Some x) p e =
 abbrev pub GivesUpOrOut : Act → Type 0
 GivesUpOrOut (Act.Abandoned index) = ⊤
 GivesUpOrOut (Act.Dropped k) = ⊤
-GivesUpOrOut (Act.SentAgain by index) = ⊤
+GivesUpOrOut (Act.SentAgain at_once by index) = ⊤
 GivesUpOrOut act = ⊥
 
 -- What waits and what is in flight is in order; nothing in flight is late, nor is a message that waits and of which
@@ -188,11 +188,11 @@ old_acts now (Act.Dropped k ∷ acts) p (one, only) (can, cans) e =
       first = first_behind_drop now k o p e.orderly e.first;
     }) in
     ((refl, more.0), more.1)
-old_acts now (Act.SentAgain by index ∷ acts) p (one, only) (can, cans) e =
+old_acts now (Act.SentAgain at_once by index ∷ acts) p (one, only) (can, cans) e =
     let o = slice_get p.queue.in_flight index in
     let more =
-    old_acts now acts (done (Act.SentAgain by index) p) only cans (record {
-      orderly = act_orderly (Act.SentAgain by index) p e.orderly;
+    old_acts now acts (done (Act.SentAgain at_once by index) p) only cans (record {
+      orderly = act_orderly (Act.SentAgain at_once by index) p e.orderly;
       flight = again_stays now by p.queue o index refl e.flight;
       first = again_first now by o p.queue index e.first;
     }) in

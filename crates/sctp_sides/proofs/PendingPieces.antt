@@ -211,7 +211,7 @@ module _ (size : ℕ) where
   act_fits (Act.SpansEnded ids m) p some h = still {p = p} refl refl h
   act_fits (Act.Sent at_once now) p some h =
       record { same = h.same; fit = sent_fit p.queue.pending p.queue now refl h.fit }
-  act_fits (Act.SentAgain by index) p some h =
+  act_fits (Act.SentAgain at_once by index) p some h =
       record { same = h.same; fit = again_fit by (slice_get p.queue.in_flight index) p.queue index h.fit }
   act_fits Act.Marked p some h = still {p = p} refl refl h
   act_fits (Act.Acknowledged n blocks missing) p some h = still {p = p} refl refl h

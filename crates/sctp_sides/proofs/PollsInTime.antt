@@ -66,7 +66,7 @@ module _ (a : Shown) (now : ℕ) (h : History) (binds : Binds a h) (uses : uses_
   marks_step =
       old_on now (acts_of_marks_poll (late_abandoned a now)) (parts (late_abandoned a now) h)
       (parts (marks_polled a now) h) (marks_sent (late_abandoned a now))
-      (marks_give GivesUpOrOut (λ i. tt) (λ k. tt) (λ by i. tt) (late_abandoned a now))
+      (marks_give GivesUpOrOut (λ i. tt) (λ k. tt) (λ asks by i. tt) (late_abandoned a now))
       (marks a now h binds.first binds.marked) (nothing_late_is_left a now h binds uses orderly)
 
   fast_step : StaysInTime now (acts_of_fast_poll (marks_polled a now)) (parts (marks_polled a now) h)
@@ -74,7 +74,7 @@ module _ (a : Shown) (now : ℕ) (h : History) (binds : Binds a h) (uses : uses_
   fast_step =
       old_on now (acts_of_fast_poll (marks_polled a now)) (parts (marks_polled a now) h) (parts (fast_polled a now) h)
       (fast_sent (marks_polled a now))
-      (fast_give GivesUpOrOut (λ i. tt) (λ k. tt) (λ by i. tt) (marks_polled a now))
+      (fast_give GivesUpOrOut (λ i. tt) (λ k. tt) (λ asks by i. tt) (marks_polled a now))
       (fast a now h binds.first binds.marked) marks_step.stays
 
   drops_step : StaysInTime now (acts_of_unsent (fast_polled a now) now) (parts (fast_polled a now) h)
@@ -82,7 +82,7 @@ module _ (a : Shown) (now : ℕ) (h : History) (binds : Binds a h) (uses : uses_
   drops_step =
       let c : Shown = fast_polled a now in
       old_on now (acts_of_unsent c now) (parts c h) (parts (late_dropped c now) h) []
-      (unsent_gives GivesUpOrOut (λ i. tt) (λ k. tt) (λ by i. tt) c now)
+      (unsent_gives GivesUpOrOut (λ i. tt) (λ k. tt) (λ asks by i. tt) c now)
       (drops_gives (uses_forward_tsn a) now (both_of c) h) fast_step.stays
 
   nothing_late_waits : AreWaitingInTime now (late_dropped (fast_polled a now) now).sender.queue.pending

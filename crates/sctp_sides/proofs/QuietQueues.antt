@@ -206,7 +206,7 @@ module _ (id : ℕ) where
   act_none (Act.Adjusted stream setting) p w h = h
   act_none (Act.SpansEnded ids m) p w h = h
   act_none (Act.Sent at_once now) p w h = sent_none p.queue.pending p.queue now refl h
-  act_none (Act.SentAgain by index) p w h = again_none by (slice_get p.queue.in_flight index) p.queue index refl h
+  act_none (Act.SentAgain at_once by index) p w h = again_none by (slice_get p.queue.in_flight index) p.queue index refl h
   act_none Act.Marked p w h = record { waiting = h.waiting; flying = marked_fly p.queue.in_flight h.flying }
   act_none (Act.Acknowledged n blocks missing) p w h = record {
     waiting = h.waiting;

@@ -74,12 +74,12 @@ use Rattle.sctp_sides.proofs.TimesGiven.{AllSpare, StandsIn, spared_offsets_are_
 -- Acts of calls that give nothing out again
 
 abbrev GivesNoneAgain : Act → Type 0
-GivesNoneAgain (Act.SentAgain by index) = ⊥
+GivesNoneAgain (Act.SentAgain at_once by index) = ⊥
 GivesNoneAgain act = ⊤
 
 none_again_spare : (xs : List Act) (p : Parts) → AllByRecursion GivesNoneAgain xs → AllSpare xs p
 none_again_spare [] p all = tt
-none_again_spare (Act.SentAgain by index ∷ xs) p (one, more) = absurd one
+none_again_spare (Act.SentAgain at_once by index ∷ xs) p (one, more) = absurd one
 none_again_spare (act ∷ xs) p (one, more) = (tt, none_again_spare xs (done act p) more)
 
 -- these acts give nothing out again

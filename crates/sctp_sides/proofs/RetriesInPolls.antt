@@ -16,7 +16,8 @@ use Rattle.sctp_streams.specs.Streams.{StreamMap}
 use Rattle.sctp_outbound.specs.declared.abandonment.Reason.TheVariants as reasons
 use Rattle.sctp_outbound.specs.declared.sender.Sender.{Sender}
 use Rattle.sctp_outbound.specs.Abandonment.{first_spent, given_up_before, is_spent, spent_index}
-use Rattle.sctp_outbound.specs.Sender.{alone_length_of, both_windows, fast_room, resend_window, resends_alone}
+use Rattle.sctp_outbound.specs.Sender.{alone_length_of, asks_again, both_windows, fast_room, resend_window}
+use Rattle.sctp_outbound.specs.Sender.{resends_alone}
 use Rattle.sctp_outbound.proofs.NoneLeft.{none_is_left}
 use Rattle.sctp_outbound.proofs.Spared.{alone_marked, due_index, marked_index, some_is_none}
 use Rattle.sctp_outbound.proofs.Unlimited.{index_on, index_skip, index_spent}
@@ -52,16 +53,16 @@ nothing_behind : {X : Type 0} (xs ys : List X) → xs ++ ys ≡ [] → ys ≡ []
 nothing_behind [] ys e = e
 nothing_behind (x ∷ xs) ys e = absurd (cc)
 
-said_if : (x : Option InFlight) (t : ℕ) (more : List ChunkPayloadData) → can_go_again x ≡ true
-    → chunk_said x t ++ more ≡ [] → ⊥
-said_if None t more can e = false≢true can
-said_if (Some x) t more can e = cc
+said_if : (at_once : Bool) (x : Option InFlight) (t : ℕ) (more : List ChunkPayloadData) → can_go_again x ≡ true
+    → chunk_said at_once x t ++ more ≡ [] → ⊥
+said_if at_once None t more can e = false≢true can
+said_if at_once (Some x) t more can e = cc
 
 silent_spare : (xs : List Act) (p : Parts) → CanAll xs p → all_data_given xs p ≡ [] → AllSpare xs p
 silent_spare [] p can none = tt
-silent_spare (Act.SentAgain by index ∷ xs) p (can, cans) none =
-    absurd (said_if (slice_get p.queue.in_flight index) (tsn p.history.own (p.history.base + index))
-    (all_data_given xs (done (Act.SentAgain by index) p)) can none)
+silent_spare (Act.SentAgain at_once by index ∷ xs) p (can, cans) none =
+    absurd (said_if at_once (slice_get p.queue.in_flight index) (tsn p.history.own (p.history.base + index))
+    (all_data_given xs (done (Act.SentAgain at_once by index) p)) can none)
 silent_spare (act ∷ xs) p (can, cans) none =
     (tt, silent_spare xs (done act p) cans (nothing_behind (data_given act p) (all_data_given xs (done act p)) none))
 
@@ -79,22 +80,22 @@ changed_in : (o : Option InFlight) (x : InFlight) (by : Retransmission) (q : Out
 changed_in o x by q index e = rw e refl
 
 -- a pass that reaches no spent piece sends none again, from any piece on
-resending_spare : (by : Retransmission) (ps xs : List InFlight) (i room : ℕ) (p : Parts)
+resending_spare : (at_once : Bool) (by : Retransmission) (ps xs : List InFlight) (i room : ℕ) (p : Parts)
     → p.queue.in_flight ≡ xs ++ ps → spent_index by i room ps ≡ None
-    → AllSpare (acts_of_resending by (length xs) room ps) p
-resending_spare by [] xs i room p e none = tt
-resending_spare by (x ∷ ps) xs i room p e none =
+    → AllSpare (acts_of_resending at_once by (length xs) room ps) p
+resending_spare at_once by [] xs i room p e none = tt
+resending_spare at_once by (x ∷ ps) xs i room p e none =
     ⊎_elim
     (λ (picked : picks by x ≡ true). ⊎_elim
     (λ (spent : is_spent x ≡ true).
     absurd (some_is_none i (sym (index_spent by i room x ps picked spent) ∙ none)))
     (λ (spared : is_spent x ≡ false). ⊎_elim
     (λ (full : nat_lt room (room_taken by x) ≡ true).
-    subst (λ (acts : List Act). AllSpare acts p) (sym (acts_full by x ps (length xs) room picked full)) tt)
+    subst (λ (acts : List Act). AllSpare acts p) (sym (acts_full at_once by x ps (length xs) room picked full)) tt)
     (λ (fits : nat_lt room (room_taken by x) ≡ false).
     let c : InFlight = counted_again by x in
     let left : ℕ = room - room_taken by x in
-    let q : Parts = done (Act.SentAgain by (length xs)) p in
+    let q : Parts = done (Act.SentAgain at_once by (length xs)) p in
     let held : slice_get p.queue.in_flight (length xs) ≡ Some x =
     ap (λ (z : List InFlight). slice_get z (length xs)) e ∙ get_behind xs ps x in
     let counted : q.queue.in_flight ≡ (xs ++ c ∷ []) ++ ps =
@@ -102,28 +103,28 @@ resending_spare by (x ∷ ps) xs i room p e none =
     ∙ ap (λ (z : List InFlight). slice_set z (length xs) c) e ∙ set_behind xs ps x c
     ∙ sym (append_assoc xs (c ∷ []) ps) in
     let rest =
-    resending_spare by ps (xs ++ c ∷ []) (i + 1) left q counted
+    resending_spare at_once by ps (xs ++ c ∷ []) (i + 1) left q counted
     (sym (index_on by i room x ps picked spared fits) ∙ none) in
-    subst (λ (acts : List Act). AllSpare acts p) (sym (acts_sent by x ps (length xs) room picked fits)) (
+    subst (λ (acts : List Act). AllSpare acts p) (sym (acts_sent at_once by x ps (length xs) room picked fits)) (
       ap is_spared held ∙ ap not spared,
-      subst (λ (l : ℕ). AllSpare (acts_of_resending by l left ps) q) (one_longer xs c) rest,
+      subst (λ (l : ℕ). AllSpare (acts_of_resending at_once by l left ps) q) (one_longer xs c) rest,
     ))
     (cases_Bool (nat_lt room (room_taken by x))))
     (cases_Bool (is_spent x)))
     (λ (skipped : picks by x ≡ false).
     let rest =
-    resending_spare by ps (xs ++ x ∷ []) (i + 1) room p (e ∙ sym (append_assoc xs (x ∷ []) ps))
+    resending_spare at_once by ps (xs ++ x ∷ []) (i + 1) room p (e ∙ sym (append_assoc xs (x ∷ []) ps))
     (sym (index_skip by i room x ps skipped) ∙ none) in
-    subst (λ (acts : List Act). AllSpare acts p) (sym (acts_skip by x ps (length xs) room skipped))
-    (subst (λ (l : ℕ). AllSpare (acts_of_resending by l room ps) p) (one_longer xs x) rest))
+    subst (λ (acts : List Act). AllSpare acts p) (sym (acts_skip at_once by x ps (length xs) room skipped))
+    (subst (λ (l : ℕ). AllSpare (acts_of_resending at_once by l room ps) p) (one_longer xs x) rest))
     (cases_Bool (picks by x))
 
 -- nor is a first piece spent that goes alone
-first_spare : (ps : List InFlight) (window room : ℕ) (p : Parts) → p.queue.in_flight ≡ ps
+first_spare : (at_once : Bool) (ps : List InFlight) (window room : ℕ) (p : Parts) → p.queue.in_flight ≡ ps
     → is_some (alone_length_of window (slice_get ps 0)) ≡ true → spent_index causes.Timer 0 room ps ≡ None
-    → AllSpare (first_again ps) p
-first_spare [] window room p e alone none = tt
-first_spare (x ∷ ps) window room p e alone none =
+    → AllSpare (first_again at_once ps) p
+first_spare at_once [] window room p e alone none = tt
+first_spare at_once (x ∷ ps) window room p e alone none =
     ⊎_elim
     (λ (spent : is_spent x ≡ true).
     absurd (some_is_none 0 (sym (index_spent causes.Timer 0 room x ps (alone_marked window x alone) spent) ∙ none)))
@@ -133,10 +134,12 @@ first_spare (x ∷ ps) window room p e alone none =
 
 marks_spare_if : (alone : Bool) (s : Sender) (p : Parts) → resends_alone s ≡ alone
     → p.queue.in_flight ≡ s.queue.in_flight → spent_index causes.Timer 0 (both_windows s) s.queue.in_flight ≡ None
-    → AllSpare (if alone then first_again s.queue.in_flight else
-    acts_of_resending causes.Timer 0 (both_windows s) s.queue.in_flight) p
-marks_spare_if true s p alone e none = first_spare s.queue.in_flight (resend_window s) (both_windows s) p e alone none
-marks_spare_if false s p alone e none = resending_spare causes.Timer s.queue.in_flight [] 0 (both_windows s) p e none
+    → AllSpare (if alone then first_again (asks_again s) s.queue.in_flight else
+    acts_of_resending (asks_again s) causes.Timer 0 (both_windows s) s.queue.in_flight) p
+marks_spare_if true s p alone e none =
+    first_spare (asks_again s) s.queue.in_flight (resend_window s) (both_windows s) p e alone none
+marks_spare_if false s p alone e none =
+    resending_spare (asks_again s) causes.Timer s.queue.in_flight [] 0 (both_windows s) p e none
 
 marks_spare : (s : Sender) (p : Parts) → p.queue.in_flight ≡ s.queue.in_flight → first_spent causes.Timer s ≡ None
     → AllSpare (acts_of_marks s) p
@@ -144,9 +147,9 @@ marks_spare s p e none = marks_spare_if (resends_alone s) s p refl e (marked_ind
 
 missing_spare_if : (due : Bool) (s : Sender) (p : Parts) → s.is_fast_due ≡ due
     → p.queue.in_flight ≡ s.queue.in_flight → first_spent causes.Fast s ≡ None
-    → AllSpare (if due then acts_of_resending causes.Fast 0 (fast_room s) s.queue.in_flight else []) p
+    → AllSpare (if due then acts_of_resending (asks_again s) causes.Fast 0 (fast_room s) s.queue.in_flight else []) p
 missing_spare_if true s p due e none =
-    resending_spare causes.Fast s.queue.in_flight [] 0 (fast_room s) p e (due_index causes.Fast s due none)
+    resending_spare (asks_again s) causes.Fast s.queue.in_flight [] 0 (fast_room s) p e (due_index causes.Fast s due none)
 missing_spare_if false s p due e none = tt
 
 missing_spare : (s : Sender) (p : Parts) → p.queue.in_flight ≡ s.queue.in_flight → first_spent causes.Fast s ≡ None

@@ -105,7 +105,7 @@ is_spared (Some x) = not (is_spent x)
 
 -- an act gives no piece out again that was sent as often as its policy allows
 abbrev pub Spares : Act → Parts → Type 0
-Spares (Act.SentAgain by index) p = is_spared (slice_get p.queue.in_flight index) ≡ true
+Spares (Act.SentAgain at_once by index) p = is_spared (slice_get p.queue.in_flight index) ≡ true
 Spares act p = ⊤
 
 abbrev pub AllSpare : List Act → Parts → Type 0
@@ -198,7 +198,7 @@ module _ (under : Bool) (n o t : ℕ) (small : n < 2 ^ 32 - 1) where
   act_stands (Act.Adjusted id setting) p can spares h = same_stands p (done (Act.Adjusted id setting) p) refl refl h
   act_stands (Act.SpansEnded ids m) p can spares h = same_stands p (done (Act.SpansEnded ids m) p) refl refl h
   act_stands (Act.Sent at_once now) p can spares h = sent_stands p.queue.pending now p can h
-  act_stands (Act.SentAgain by index) p can spares h =
+  act_stands (Act.SentAgain at_once by index) p can spares h =
       again_stands (slice_get p.queue.in_flight index) by index p refl spares h
   act_stands Act.Marked p can spares h =
       same_stands p (done Act.Marked p) refl
@@ -277,7 +277,7 @@ module _ (n o : ℕ) (p : Parts) (message : Attributes) (policy : message.policy
       → IsUnder n o (done x p).history.base (tallies (done x p).queue.in_flight)
   act_under (Act.Sent at_once now) at of =
       sent_under p.queue.pending now (sym (same_value (p.history.base + length p.queue.in_flight) o at)) of
-  act_under (Act.SentAgain by index) at of =
+  act_under (Act.SentAgain at_once by index) at of =
       again_under (slice_get p.queue.in_flight index) by index refl (sym (same_value (p.history.base + index) o at)) of
   act_under act at of = absurd (nothing_there o at)
 

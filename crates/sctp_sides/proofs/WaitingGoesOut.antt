@@ -30,7 +30,7 @@ use Rattle.sctp_outbound.specs.Abandonment.{all_given_up, dropped_by, dropped_fi
 use Rattle.sctp_outbound.specs.Abandonment.{given_up_before, given_up_first, late_given_up, tail_given_up}
 use Rattle.sctp_outbound.specs.Abandonment.{with_started}
 use Rattle.sctp_outbound.specs.Sender.{after_marked, after_missing, both_windows, can_send_next, fast_room, first_chunk}
-use Rattle.sctp_outbound.specs.Sender.{asks_at_once, first_counted, marked_by, missing_by, next_chunk_of, resends_alone}
+use Rattle.sctp_outbound.specs.Sender.{asks_again, asks_at_once, first_counted, marked_by, missing_by, next_chunk_of, resends_alone}
 use Rattle.sctp_outbound.specs.Sender.{resent_chunks, resent_pieces, sent_new, sent_one, sent_within}
 use Rattle.sctp_directions.specs.Acts.{Act, Parts, all_data_given, done_all}
 use Rattle.sctp_assoc.specs.Leads.{parts}
@@ -215,8 +215,8 @@ drops_begin true m first at_once now x kept b =
 marked_none : (s : Sender) → s.queue.in_flight ≡ []
     → (marked_by s ≡ []) × ((after_marked s).queue.in_flight ≡ [])
 marked_none s e = (
-  ap (λ (ps : List InFlight). if resends_alone s then first_chunk s.queue.first_tsn ps else
-      resent_chunks causes.Timer s.queue.first_tsn 0 (both_windows s) ps) e
+  ap (λ (ps : List InFlight). if resends_alone s then first_chunk (asks_again s) s.queue.first_tsn ps else
+      resent_chunks (asks_again s) causes.Timer s.queue.first_tsn 0 (both_windows s) ps) e
       ∙ none_anyway (resends_alone s),
   ap (λ (ps : List InFlight). if resends_alone s then first_counted ps else
       resent_pieces causes.Timer (both_windows s) ps) e
@@ -227,7 +227,7 @@ missing_none : (s : Sender) → s.queue.in_flight ≡ []
     → (missing_by s ≡ []) × ((after_missing s).queue.in_flight ≡ [])
 missing_none s e = (
   ap (λ (ps : List InFlight). if s.is_fast_due then
-      resent_chunks causes.Fast s.queue.first_tsn 0 (fast_room s) ps else []) e
+      resent_chunks (asks_again s) causes.Fast s.queue.first_tsn 0 (fast_room s) ps else []) e
       ∙ none_anyway s.is_fast_due,
   ap (λ (ps : List InFlight). if s.is_fast_due then resent_pieces causes.Fast (fast_room s) ps else ps) e
       ∙ none_anyway s.is_fast_due,

@@ -28,13 +28,13 @@ use Rattle.sctp_sides.specs.OneSide.{Call, FailsInside, IsCarriedOut, IsFresh, I
 -- the message of which an act gives out DATA, if it gives some
 abbrev pub message_given : Act → Outbound → Option Attributes
 message_given (Act.Sent at_once now) q = option_map (λ (m : Waiting). m.message) (slice_get q.pending 0)
-message_given (Act.SentAgain by index) q = option_map (λ (p : InFlight). p.message) (slice_get q.in_flight index)
+message_given (Act.SentAgain at_once by index) q = option_map (λ (p : InFlight). p.message) (slice_get q.in_flight index)
 message_given act q = None
 
 -- the offset of that DATA
 abbrev pub offset_given : Act → Parts → Option ℕ
 offset_given (Act.Sent at_once now) p = Some (p.history.base + length p.queue.in_flight)
-offset_given (Act.SentAgain by index) p = Some (p.history.base + index)
+offset_given (Act.SentAgain at_once by index) p = Some (p.history.base + index)
 offset_given act p = None
 
 -- Calls

@@ -549,7 +549,7 @@ GivesUpOrAgain (Act.Started now) = ⊤
 GivesUpOrAgain (Act.Abandoned index) = ⊤
 GivesUpOrAgain Act.TailAbandoned = ⊤
 GivesUpOrAgain (Act.Dropped k) = ⊤
-GivesUpOrAgain (Act.SentAgain by index) = ⊤
+GivesUpOrAgain (Act.SentAgain at_once by index) = ⊤
 GivesUpOrAgain act = ⊥
 
 -- acts that give out new DATA

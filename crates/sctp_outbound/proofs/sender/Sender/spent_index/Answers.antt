@@ -1,5 +1,6 @@
 use Rattle.std.proofs.Common.{rules, arith, ◌≡◌, ◌∙◌, Some, slice_get, sym}
 use Rattle.sctp_outbound.specs.Abandonment.{pass_room}
+use Rattle.sctp_outbound.specs.Sender.{asks_again}
 use Rattle.sctp_outbound.specs.declared.abandonment.Reached.TheVariants as reached
 use Rattle.sctp_outbound.proofs.GivenUp.{pass_step}
 use Rattle.sctp_outbound.proofs.Passes.{walks_from, walks_on}
@@ -8,7 +9,7 @@ use Rattle.sctp_outbound.proofs.sender.Sender.spent_index.Goals as goal
 pub pieces-init : goal.pieces-init
 pieces-init c =
     rw c.pass_room-left.ensures
-    (walks_from c.args.by c.args.self.now.queue.in_flight c.args.self.now.queue.first_tsn
+    (walks_from (asks_again c.args.self.now) c.args.by c.args.self.now.queue.in_flight c.args.self.now.queue.first_tsn
     (pass_room c.args.by c.args.self.now) c.next_picked-index.result c.args.looks.now c.next_picked-index.new.looks
     c.next_picked-index.ensures.index c.next_picked-index.ensures.looks)
 
