@@ -8,13 +8,6 @@ void sctp_assoc_watch_ended_by(sctp_assoc_watch *watch, const uint8_t *datagram,
 /* Proved: whether the newest event tells that the receive buffer was exhausted. */
 sctp_assoc_code sctp_assoc_tells_exhaustion(sctp_assoc *slot, bool *answer);
 
-/* Whether the association is lost; false if the slot is empty. */
-static bool is_over(sctp_assoc *slot) {
-    bool over = false;
-    sctp_assoc_is_drained(slot, &over);
-    return over;
-}
-
 static void count(uint64_t *datagrams, uint64_t *bytes, size_t length) {
     if (*datagrams != UINT64_MAX)
         ++*datagrams;
@@ -35,11 +28,11 @@ static void end_as(sctp_assoc_watch *watch, uint32_t end) {
 
 sctp_assoc_code sctp_assoc_watched_handle_datagram(sctp_assoc *slot, sctp_assoc_watch *watch, uint64_t now,
                                                    const uint8_t *datagram, size_t length, uint32_t *fate) {
-    bool was_over = is_over(slot);
+    bool was_over = sctp_assoc_is_drained(slot);
     sctp_assoc_code code = sctp_assoc_handle_datagram(slot, now, datagram, length, fate);
     if (code == SCTP_ASSOC_DONE && *fate == SCTP_ASSOC_TAKEN)
         count(&watch->datagrams_received, &watch->bytes_received, length);
-    if (was_over || !is_over(slot))
+    if (was_over || !sctp_assoc_is_drained(slot))
         return code;
     bool exhausted = false;
     sctp_assoc_tells_exhaustion(slot, &exhausted);
@@ -52,19 +45,19 @@ sctp_assoc_code sctp_assoc_watched_handle_datagram(sctp_assoc *slot, sctp_assoc_
 
 sctp_assoc_code sctp_assoc_watched_poll_transmit(sctp_assoc *slot, sctp_assoc_watch *watch, uint64_t now,
                                                  uint8_t *buffer, size_t room, size_t *length) {
-    bool was_over = is_over(slot);
+    bool was_over = sctp_assoc_is_drained(slot);
     sctp_assoc_code code = sctp_assoc_poll_transmit(slot, now, buffer, room, length);
     if (code == SCTP_ASSOC_DONE)
         count(&watch->datagrams_sent, &watch->bytes_sent, *length);
-    if (!was_over && is_over(slot))
+    if (!was_over && sctp_assoc_is_drained(slot))
         end_as(watch, SCTP_ASSOC_END_SHUT_DOWN);
     return code;
 }
 
 sctp_assoc_code sctp_assoc_watched_handle_timeout(sctp_assoc *slot, sctp_assoc_watch *watch, uint64_t now) {
-    bool was_over = is_over(slot);
+    bool was_over = sctp_assoc_is_drained(slot);
     sctp_assoc_code code = sctp_assoc_handle_timeout(slot, now);
-    if (!was_over && is_over(slot))
+    if (!was_over && sctp_assoc_is_drained(slot))
         end_as(watch, SCTP_ASSOC_END_SILENT);
     return code;
 }
@@ -78,18 +71,18 @@ sctp_assoc_code sctp_assoc_watched_poll_event(sctp_assoc *slot, sctp_assoc_watch
 }
 
 sctp_assoc_code sctp_assoc_watched_close(sctp_assoc *slot, sctp_assoc_watch *watch) {
-    bool was_over = is_over(slot);
+    bool was_over = sctp_assoc_is_drained(slot);
     sctp_assoc_code code = sctp_assoc_close(slot);
-    if (!was_over && is_over(slot))
+    if (!was_over && sctp_assoc_is_drained(slot))
         end_as(watch, SCTP_ASSOC_END_CLOSED);
     return code;
 }
 
 sctp_assoc_code sctp_assoc_watched_abort(sctp_assoc *slot, sctp_assoc_watch *watch, const uint8_t *reason,
                                          size_t length) {
-    bool was_over = is_over(slot);
+    bool was_over = sctp_assoc_is_drained(slot);
     sctp_assoc_code code = sctp_assoc_abort(slot, reason, length);
-    if (!was_over && is_over(slot))
+    if (!was_over && sctp_assoc_is_drained(slot))
         end_as(watch, SCTP_ASSOC_END_ABORTED);
     return code;
 }

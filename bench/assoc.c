@@ -21,7 +21,7 @@
 #define ALL_EXPIRED 64000 /* messages of the case expired, in as many rounds as that takes */
 
 /* End 0 writes and is the client, end 1 reads. */
-static sctp_assoc ends[2];
+static sctp_peer ends[2];
 static struct wire wires[2];
 static bool is_observed; /* each end has a watch, and an observer that does nothing */
 static sctp_assoc_watch watches[2];
@@ -31,7 +31,6 @@ static sctp_assoc_watch watches[2];
 #define OBSERVED is_observed
 #endif
 static bool is_channel, is_open; /* messages go over a data channel, which is open */
-static sctp_channels sides[2];
 #ifdef WITH_CHANNELS
 #define CHANNEL is_channel
 #else /* the archive is the one without data channels, so that there is no case `channel` */
@@ -77,23 +76,23 @@ static void observe(void *user, bool outgoing, uint64_t moment, const uint8_t *d
 
 static bool transmits(int end, struct datagram *room) {
     if (OBSERVED)
-        return done(sctp_assoc_observed_poll_transmit(&ends[end], &watches[end], observe, NULL, now, room->bytes,
+        return done(sctp_assoc_observed_poll_transmit(&ends[end].assoc, &watches[end], observe, NULL, now, room->bytes,
                                                       sizeof room->bytes, &room->length));
-    return done(sctp_assoc_poll_transmit(&ends[end], now, room->bytes, sizeof room->bytes, &room->length));
+    return done(sctp_assoc_poll_transmit(&ends[end].assoc, now, room->bytes, sizeof room->bytes, &room->length));
 }
 
 static void receives(int end, const struct datagram *came) {
     uint32_t fate;
     if (OBSERVED)
-        done(sctp_assoc_observed_handle_datagram(&ends[end], &watches[end], observe, NULL, now, came->bytes,
+        done(sctp_assoc_observed_handle_datagram(&ends[end].assoc, &watches[end], observe, NULL, now, came->bytes,
                                                  came->length, &fate));
     else
-        done(sctp_assoc_handle_datagram(&ends[end], now, came->bytes, came->length, &fate));
+        done(sctp_assoc_handle_datagram(&ends[end].assoc, now, came->bytes, came->length, &fate));
 }
 
 static bool has_event(int end, sctp_assoc_event *event) {
-    return done(OBSERVED ? sctp_assoc_watched_poll_event(&ends[end], &watches[end], event)
-                            : sctp_assoc_poll_event(&ends[end], event));
+    return done(OBSERVED ? sctp_assoc_watched_poll_event(&ends[end].assoc, &watches[end], event)
+                            : sctp_assoc_poll_event(&ends[end].assoc, event));
 }
 
 static void poll_end(int end) {
@@ -109,8 +108,8 @@ static bool read_one(uint16_t stream) {
     size_t length;
     uint32_t type;
     bool is_text;
-    if (!done(CHANNEL ? sctp_channels_receive(&sides[1], &ends[1], stream, buffer, sizeof buffer, &length, &is_text)
-                      : sctp_assoc_read(&ends[1], stream, buffer, sizeof buffer, &length, &type)))
+    if (!done(CHANNEL ? sctp_channels_receive(&ends[1], stream, buffer, sizeof buffer, &length, &is_text)
+                      : sctp_assoc_read(&ends[1].assoc, stream, buffer, sizeof buffer, &length, &type)))
         return false;
     messages_read++;
     bytes_read += length;
@@ -120,7 +119,7 @@ static bool read_one(uint16_t stream) {
 /* Takes all events of the channels of an end, and reads all messages. */
 static void take_channel_events(int end) {
     sctp_channels_event event;
-    while (done(sctp_channels_poll_event(&sides[end], &ends[end], &event))) {
+    while (done(sctp_channels_poll_event(&ends[end], &event))) {
         if (event.kind == SCTP_CHANNELS_EVENT_CONNECTED)
             established[end] = 1;
         else if (event.kind == SCTP_CHANNELS_EVENT_OPENED)
@@ -173,7 +172,7 @@ static void hand_over_all(void) {
 static void expire(void) {
     uint64_t least = UINT64_MAX, due;
     for (int end = 0; end < 2; end++)
-        if (done(sctp_assoc_poll_timeout(&ends[end], &due)) && due < least)
+        if (done(sctp_assoc_poll_timeout(&ends[end].assoc, &due)) && due < least)
             least = due;
     if (least == UINT64_MAX)
         fail("nothing arrives any more");
@@ -181,16 +180,16 @@ static void expire(void) {
     if (now < least)
         now += (least - now + TICK_NS - 1) / TICK_NS * TICK_NS;
     for (int end = 0; end < 2; end++) {
-        done(sctp_assoc_handle_timeout(&ends[end], now));
+        done(sctp_assoc_handle_timeout(&ends[end].assoc, now));
         poll_end(end);
     }
 }
 
 static void begin(int end) {
     sctp_assoc_identity identity = {.tag = next_tag++, .initial_tsn = next_tag++};
-    done((end == 0 ? sctp_assoc_client : sctp_assoc_server)(&ends[end], &config, PAYLOAD_SIZE, &identity, now));
+    done((end == 0 ? sctp_assoc_client : sctp_assoc_server)(&ends[end].assoc, &config, PAYLOAD_SIZE, &identity, now));
     if (CHANNEL) /* so that the first channel of end 0 has the identifier STREAM */
-        done(sctp_channels_begin(&sides[end], end == 0 ? SCTP_CHANNELS_SERVER : SCTP_CHANNELS_CLIENT));
+        done(sctp_channels_begin(&ends[end], end == 0 ? SCTP_CHANNELS_SERVER : SCTP_CHANNELS_CLIENT));
 }
 
 static void join(void) {
@@ -207,7 +206,7 @@ static void join(void) {
 static void join_with(uint16_t streams) {
     join();
     for (uint16_t i = 0; i < streams; i++)
-        done(sctp_assoc_open_stream(&ends[0], STREAM + i, SCTP_ASSOC_PPID_BINARY));
+        done(sctp_assoc_open_stream(&ends[0].assoc, STREAM + i, SCTP_ASSOC_PPID_BINARY));
 }
 
 /* A pair with a data channel, which takes one message each way to open. */
@@ -215,7 +214,7 @@ static void join_with_channel(void) {
     const sctp_channels_options ordered_reliable = SCTP_CHANNELS_ORDERED_RELIABLE;
     uint16_t id;
     join();
-    done(sctp_channels_open(&sides[0], &ends[0], &ordered_reliable, (const uint8_t *)"bench", 5, NULL, 0, &id));
+    done(sctp_channels_open(&ends[0], &ordered_reliable, (const uint8_t *)"bench", 5, NULL, 0, &id));
     take_events(0, true);
     poll_end(0);
     hand_over_all();
@@ -223,14 +222,14 @@ static void join_with_channel(void) {
         fail("the channel did not open");
     for (int end = 0; end < 2; end++) {
         sctp_assoc_totals totals;
-        if (!done(sctp_assoc_stats(&ends[end], &totals)) || totals.data_chunks != 1)
+        if (!done(sctp_assoc_stats(&ends[end].assoc, &totals)) || totals.data_chunks != 1)
             fail("the channel opened by more than an OPEN and an ACK");
     }
 }
 
 static void leave(void) {
     for (int end = 0; end < 2; end++) {
-        done(sctp_assoc_free(&ends[end]));
+        done(sctp_assoc_free(&ends[end].assoc));
         for (struct datagram *left; (left = take_from(&wires[end]));)
             give_back(left);
     }
@@ -244,8 +243,8 @@ static void exchange(uint64_t count, size_t size, uint16_t streams) {
         while (written < goal && written - messages_read < MAX_WAITING &&
                (written - messages_read) * size < MAX_WAITING_BYTES) {
             uint16_t stream = STREAM + (uint16_t)(written * 7919 % streams);
-            done(CHANNEL ? sctp_channels_send(&sides[0], &ends[0], stream, false, message, size)
-                         : sctp_assoc_write(&ends[0], stream, SCTP_ASSOC_PPID_OF_STREAM, message, size));
+            done(CHANNEL ? sctp_channels_send(&ends[0], stream, false, message, size)
+                         : sctp_assoc_write(&ends[0].assoc, stream, SCTP_ASSOC_PPID_OF_STREAM, message, size));
             written++;
         }
         poll_end(0);
@@ -271,7 +270,7 @@ static void messages(struct measure *m) {
     else
         join_with(1);
     if (!strcmp(m->name, "unordered"))
-        done(sctp_assoc_set_reliability(&ends[0], STREAM, true, SCTP_ASSOC_RELIABLE, 0));
+        done(sctp_assoc_set_reliability(&ends[0].assoc, STREAM, true, SCTP_ASSOC_RELIABLE, 0));
     lost_per_million = strcmp(m->name, "lossy") ? 0 : 10000;
     uint64_t began = now, began_datagrams = datagrams_sent, began_allocations = allocations;
     double began_us = cpu_us();
@@ -299,7 +298,7 @@ static void handshakes(struct measure *m) {
 
 /* The heap's bytes for one idle association. */
 static void memory(void) {
-    static sctp_assoc idle[2 * IDLE_PAIRS];
+    static sctp_peer idle[2 * IDLE_PAIRS];
     join();
     leave();
     size_t before = heap_bytes();
@@ -311,7 +310,7 @@ static void memory(void) {
     printf("{\"stack\":\"sctp_assoc\",\"case\":\"memory\",\"bytes\":%zu}\n",
            (heap_bytes() - before) / (2 * IDLE_PAIRS));
     for (int i = 0; i < 2 * IDLE_PAIRS; i++)
-        done(sctp_assoc_free(&idle[i]));
+        done(sctp_assoc_free(&idle[i].assoc));
 }
 
 /* Microseconds for a message over so many streams. */
@@ -328,7 +327,7 @@ static double with_streams(uint64_t count, size_t size, uint64_t streams) {
 /* One burst of messages to end 1, which does not read them. */
 static void deliver_unread(uint64_t count, size_t size) {
     for (uint64_t i = 0; i < count; i++)
-        done(sctp_assoc_write(&ends[0], STREAM, SCTP_ASSOC_PPID_OF_STREAM, message, size));
+        done(sctp_assoc_write(&ends[0].assoc, STREAM, SCTP_ASSOC_PPID_OF_STREAM, message, size));
     poll_end(0);
     for (bool any = true; any;) {
         any = hand_over_from(0, false);
@@ -355,7 +354,7 @@ static double with_unread(uint64_t count, size_t size, uint64_t unread) {
 
 /* One message in a datagram of its own, and the oldest on the way is handed over, unless the way is to get longer. */
 static void send_one(size_t size, bool hands_over) {
-    done(sctp_assoc_write(&ends[0], STREAM, SCTP_ASSOC_PPID_OF_STREAM, message, size));
+    done(sctp_assoc_write(&ends[0].assoc, STREAM, SCTP_ASSOC_PPID_OF_STREAM, message, size));
     poll_end(0);
     if (hands_over) {
         hand_over_from(0, true);
@@ -386,11 +385,11 @@ static double with_in_flight(uint64_t count, size_t size, uint64_t in_flight) {
 static void expire_round(uint64_t count, size_t size) {
     size_t buffered;
     for (uint64_t i = 0; i < count; i++)
-        done(sctp_assoc_write(&ends[0], STREAM, SCTP_ASSOC_PPID_OF_STREAM, message, size));
+        done(sctp_assoc_write(&ends[0].assoc, STREAM, SCTP_ASSOC_PPID_OF_STREAM, message, size));
     poll_end(0);
     now += LIFETIME_MS * UINT64_C(1000000);
     poll_end(0);
-    if (!done(sctp_assoc_buffered_amount(&ends[0], STREAM, &buffered)) || buffered != 0)
+    if (!done(sctp_assoc_buffered_amount(&ends[0].assoc, STREAM, &buffered)) || buffered != 0)
         fail("a message was not given up");
 }
 
@@ -398,7 +397,7 @@ static void expire_round(uint64_t count, size_t size) {
 static void expired(struct measure *m) {
     uint64_t rounds = m->messages < ALL_EXPIRED ? ALL_EXPIRED / m->messages : 1;
     join_with(1);
-    done(sctp_assoc_set_reliability(&ends[0], STREAM, false, SCTP_ASSOC_TIMED, LIFETIME_MS));
+    done(sctp_assoc_set_reliability(&ends[0].assoc, STREAM, false, SCTP_ASSOC_TIMED, LIFETIME_MS));
     uint64_t began_datagrams = datagrams_sent, began_allocations = allocations;
     for (uint64_t round = 0; round < rounds; round++) {
         double began_us = cpu_us();

@@ -301,7 +301,6 @@ static double cpu_us(void) {
 
 static void measure(const struct dear_case *chosen, bool is_dear, size_t chunks) {
     uint32_t fate = SCTP_ASSOC_TAKEN;
-    bool is_lost = false;
     chosen->state();
     kind = chosen->kind;
     value_length = chosen->value_length;
@@ -320,8 +319,7 @@ static void measure(const struct dear_case *chosen, bool is_dear, size_t chunks)
                                          : sctp_assoc_handle_datagram(&ours, now, packet, length, &fate);
     CALLGRIND_STOP_INSTRUMENTATION;
     double took_us = cpu_us() - began_us;
-    done(sctp_assoc_is_drained(&ours, &is_lost));
-    if ((!chosen->polls && !done(code)) || fate != SCTP_ASSOC_TAKEN || is_lost != chosen->closes)
+    if ((!chosen->polls && !done(code)) || fate != SCTP_ASSOC_TAKEN || sctp_assoc_is_drained(&ours) != chosen->closes)
         fail("the datagram was not taken, or closed the association");
     printf("{\"case\":\"%s\",\"bytes\":%zu,\"us\":%.1f}\n", chosen->name, length, took_us);
 }

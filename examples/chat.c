@@ -29,10 +29,9 @@
 #define MAX_BUFFERED 100000   /* bytes that may wait to be acknowledged before more input is read */
 #define END_WITHIN 20         /* seconds that a shutdown may take; a peer that is gone never answers it */
 
-static sctp_assoc assoc;
-static sctp_assoc_watch watch; /* says why it ended */
-static sctp_channels channels;
-static uint16_t channel; /* where it is open */
+static sctp_peer side;
+static sctp_assoc_watch watch; /* says why its association ended */
+static uint16_t channel;       /* where it is open */
 static bool is_client, is_up, is_open, is_ending;
 static uint64_t end_until; /* where it is ending */
 static int udp;
@@ -60,10 +59,10 @@ static void begin(void) {
     sctp_assoc_identity identity;
     done(sctp_assoc_default_config(&config));
     done(sctp_assoc_random_identity(&identity));
-    done((is_client ? sctp_assoc_client : sctp_assoc_server)(&assoc, &config, MAX_PAYLOAD_SIZE, &identity, now()));
-    done(sctp_channels_begin(&channels, is_client ? SCTP_CHANNELS_CLIENT : SCTP_CHANNELS_SERVER));
+    done((is_client ? sctp_assoc_client : sctp_assoc_server)(&side.assoc, &config, MAX_PAYLOAD_SIZE, &identity, now()));
+    done(sctp_channels_begin(&side, is_client ? SCTP_CHANNELS_CLIENT : SCTP_CHANNELS_SERVER));
     if (is_client)
-        done(sctp_channels_open(&channels, &assoc, &ordered_reliable, (const uint8_t *)"chat", 4, NULL, 0, &channel));
+        done(sctp_channels_open(&side, &ordered_reliable, (const uint8_t *)"chat", 4, NULL, 0, &channel));
 }
 
 static void print_all(uint16_t id) {
@@ -71,8 +70,8 @@ static void print_all(uint16_t id) {
     sctp_assoc_code code;
     size_t length;
     bool is_text;
-    while ((code = sctp_channels_receive(&channels, &assoc, id, text, sizeof text, &length, &is_text)) ==
-               SCTP_CHANNELS_OTHER || done(code))
+    while ((code = sctp_channels_receive(&side, id, text, sizeof text, &length, &is_text)) == SCTP_CHANNELS_OTHER ||
+           done(code))
         if (fwrite(text, 1, length, stdout) != length || putchar('\n') == EOF)
             err(1, "no output");
     fflush(stdout);
@@ -80,14 +79,12 @@ static void print_all(uint16_t id) {
 
 /* Whether messages can be sent: neither side has begun to end. */
 static bool can_send(void) {
-    bool is_established = false;
-    done(sctp_assoc_is_established(&assoc, &is_established));
-    return is_established && is_open;
+    return sctp_assoc_is_established(&side.assoc) && is_open;
 }
 
 /* Ends the association, once all that either side accepted is acknowledged. If the peer has begun to, that goes on. */
 static void end(void) {
-    if (sctp_assoc_shutdown(&assoc) != SCTP_ASSOC_DONE)
+    if (sctp_assoc_shutdown(&side.assoc) != SCTP_ASSOC_DONE)
         return;
     is_ending = true;
     end_until = now() + END_WITHIN * SECOND;
@@ -119,7 +116,7 @@ static void on_event(const sctp_channels_event *event) {
 static bool take_events(void) {
     sctp_channels_event event;
     bool any = false;
-    for (; done(sctp_channels_poll_event(&channels, &assoc, &event)); any = true)
+    for (; done(sctp_channels_poll_event(&side, &event)); any = true)
         on_event(&event);
     return any;
 }
@@ -128,7 +125,7 @@ static bool take_events(void) {
 static void send_all(void) {
     static uint8_t datagram[SCTP_ASSOC_MAX_DATAGRAM];
     size_t length;
-    while (done(sctp_assoc_watched_poll_transmit(&assoc, &watch, now(), datagram, sizeof datagram, &length)))
+    while (done(sctp_assoc_watched_poll_transmit(&side.assoc, &watch, now(), datagram, sizeof datagram, &length)))
         sendto(udp, datagram, length, 0, (struct sockaddr *)&peer, sizeof peer);
 }
 
@@ -151,7 +148,7 @@ static void receive_all(void) {
         bool is_peer = from.sin_addr.s_addr == peer.sin_addr.s_addr && from.sin_port == peer.sin_port;
         if (!is_peer && (is_client || is_up))
             continue;
-        done(sctp_assoc_watched_handle_datagram(&assoc, &watch, now(), datagram, (size_t)length, &fate));
+        done(sctp_assoc_watched_handle_datagram(&side.assoc, &watch, now(), datagram, (size_t)length, &fate));
         if (fate == SCTP_ASSOC_TAKEN)
             peer = from;
         serve();
@@ -159,7 +156,7 @@ static void receive_all(void) {
 }
 
 static void say(const uint8_t *text, size_t length) {
-    done(sctp_channels_send(&channels, &assoc, channel, true, text, length));
+    done(sctp_channels_send(&side, channel, true, text, length));
 }
 
 /* Says the lines that are whole. The end of the input ends the last one, and the chat. */
@@ -188,14 +185,13 @@ static void take_input(void) {
 /* Whether the input is to be read: not before the channel is open, nor while much waits to be acknowledged. */
 static bool wants_input(void) {
     size_t buffered;
-    return can_send() && done(sctp_channels_buffered_amount(&channels, &assoc, channel, &buffered)) &&
-           buffered < MAX_BUFFERED;
+    return can_send() && done(sctp_channels_buffered_amount(&side, channel, &buffered)) && buffered < MAX_BUFFERED;
 }
 
 /* The next moment at which a timer expires, or the end has to be; UINT64_MAX if there is none. */
 static uint64_t next_due(void) {
     uint64_t next = is_ending ? end_until : UINT64_MAX, due;
-    return done(sctp_assoc_poll_timeout(&assoc, &due)) && due < next ? due : next;
+    return done(sctp_assoc_poll_timeout(&side.assoc, &due)) && due < next ? due : next;
 }
 
 /* Until a datagram or input comes, a timer expires, or Ctrl-C. Takes the input. */
@@ -219,14 +215,13 @@ static void meet_interrupt(void) {
 
 static void meet_timer(void) {
     uint64_t due;
-    if (done(sctp_assoc_poll_timeout(&assoc, &due)) && due <= now())
-        done(sctp_assoc_watched_handle_timeout(&assoc, &watch, now()));
+    if (done(sctp_assoc_poll_timeout(&side.assoc, &due)) && due <= now())
+        done(sctp_assoc_watched_handle_timeout(&side.assoc, &watch, now()));
 }
 
 /* Until the association has ended, but not for ever. */
 static bool goes_on(void) {
-    bool is_over = false;
-    done(sctp_assoc_is_drained(&assoc, &is_over));
+    bool is_over = sctp_assoc_is_drained(&side.assoc);
     if (is_ending && !is_over && now() > end_until)
         errx(1, "the end was not answered within %d seconds", END_WITHIN);
     return !is_over;
@@ -291,8 +286,7 @@ int main(int argc, char **argv) {
         receive_all();
         serve();
     }
-    done(sctp_channels_free(&channels));
-    done(sctp_assoc_free(&assoc));
+    done(sctp_peer_free(&side));
     if (watch.end != SCTP_ASSOC_END_SHUT_DOWN)
         errx(1, "the chat ended: %s", sctp_assoc_end_name(watch.end));
     return 0;

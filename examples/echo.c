@@ -86,9 +86,7 @@ static size_t message(unsigned long number, uint8_t *bytes) {
 
 /* Whether neither side has begun to end the association. */
 static bool is_established(struct end *end) {
-    bool answer = false;
-    done(sctp_assoc_is_established(&end->slot, &answer));
-    return answer;
+    return sctp_assoc_is_established(&end->slot);
 }
 
 static void send_more(struct end *end) {
@@ -188,13 +186,11 @@ static void send_all(struct end *end) {
 /* What is due at an end, until there is neither an event nor a datagram: each may bring the other. That of a server
  * whose association is over is free for another client then. */
 static void serve(struct end *end) {
-    bool is_over = false;
     take_events(end);
     do
         send_all(end);
     while (take_events(end));
-    done(sctp_assoc_is_drained(&end->slot, &is_over));
-    if (is_client || !is_over)
+    if (is_client || !sctp_assoc_is_drained(&end->slot))
         return;
     puts("an association ended");
     fflush(stdout);
@@ -307,9 +303,8 @@ static void meet_interrupt(void) {
 }
 
 static bool is_any_left(void) {
-    bool is_over;
     for (struct end *end = ends; end < ends + CLIENTS; end++)
-        if (sctp_assoc_is_drained(&end->slot, &is_over) == SCTP_ASSOC_DONE && !is_over)
+        if (!sctp_assoc_is_drained(&end->slot))
             return true;
     return false;
 }

@@ -49,9 +49,8 @@ static struct {
     int chat;                   /* the channel of the chat, or -1 */
     uint64_t heard;             /* when a STUN request came last */
     STAILQ_HEAD(, packet) packets;
-    sctp_assoc assoc;
+    sctp_peer peer;             /* the page's: this side */
     sctp_assoc_watch watch;     /* says why the association ended */
-    sctp_channels channels;
 } page;
 
 static const char *address = "127.0.0.1";
@@ -80,7 +79,7 @@ static uint64_t now(void) {
 static const char *label_of(uint16_t id) {
     static char label[65536];
     size_t length = 0;
-    sctp_channels_label(&page.channels, id, (uint8_t *)label, sizeof label - 1, &length);
+    sctp_channels_label(&page.peer, id, (uint8_t *)label, sizeof label - 1, &length);
     label[length] = 0;
     return label;
 }
@@ -88,7 +87,7 @@ static const char *label_of(uint16_t id) {
 /* On a channel whose stream is gone nothing waits. */
 static size_t buffered_on(uint16_t id) {
     size_t bytes = 0;
-    sctp_channels_buffered_amount(&page.channels, &page.assoc, id, &bytes);
+    sctp_channels_buffered_amount(&page.peer, id, &bytes);
     return bytes;
 }
 
@@ -100,13 +99,13 @@ static void print_stats(FILE *out) {
     sctp_assoc_totals totals;
     sctp_channels_info info;
     size_t count, buffered = 0;
-    done(sctp_assoc_path(&page.assoc, &path));
-    done(sctp_assoc_stats(&page.assoc, &totals));
-    done(sctp_assoc_stream_ids(&page.assoc, ids, 65536, &count));
+    done(sctp_assoc_path(&page.peer.assoc, &path));
+    done(sctp_assoc_stats(&page.peer.assoc, &totals));
+    done(sctp_assoc_stream_ids(&page.peer.assoc, ids, 65536, &count));
     fprintf(out, "{\"channels\":[");
     for (size_t i = 0; i < count; i++) {
         size_t bytes = buffered_on(ids[i]);
-        if (sctp_channels_get_info(&page.channels, ids[i], &info) != SCTP_ASSOC_DONE)
+        if (sctp_channels_get_info(&page.peer, ids[i], &info) != SCTP_ASSOC_DONE)
             continue;
         fprintf(out, "%s{\"id\":%u,\"label\":\"", before, ids[i]);
         for (const char *at = label_of(ids[i]); *at; at++)
@@ -131,21 +130,21 @@ static void on_command(uint16_t id, const char *command) {
                &channel) == 7) {
         sctp_channels_options options = {kind, value, 0, channel, unordered != 0, negotiated != 0};
         sctp_assoc_code code = sctp_channels_open(
-            &page.channels, &page.assoc, &options, (uint8_t *)label, strcmp(label, "-") == 0 ? 0 : strlen(label),
-            (uint8_t *)protocol, strcmp(protocol, "-") == 0 ? 0 : strlen(protocol), &channel);
+            &page.peer, &options, (uint8_t *)label, strcmp(label, "-") == 0 ? 0 : strlen(label), (uint8_t *)protocol,
+            strcmp(protocol, "-") == 0 ? 0 : strlen(protocol), &channel);
         fprintf(out, "{\"code\":%u,\"id\":%u}", code, channel);
     } else if (sscanf(command, "close %hu", &channel) == 1)
-        fprintf(out, "{\"code\":%u}", sctp_channels_close(&page.channels, &page.assoc, channel));
+        fprintf(out, "{\"code\":%u}", sctp_channels_close(&page.peer, channel));
     else if (strcmp(command, "stats") == 0)
         print_stats(out);
     else if (strcmp(command, "shutdown") == 0)
-        sctp_assoc_shutdown(&page.assoc);
+        sctp_assoc_shutdown(&page.peer.assoc);
     else if (sscanf(command, "abort %999s", label) == 1)
-        sctp_assoc_watched_abort(&page.assoc, &page.watch, (uint8_t *)label, strlen(label));
+        sctp_assoc_watched_abort(&page.peer.assoc, &page.watch, (uint8_t *)label, strlen(label));
     else
         fprintf(out, "{\"code\":-1}");
     fclose(out);
-    sctp_channels_send(&page.channels, &page.assoc, id, true, (uint8_t *)answer, strlen(answer)); /* not after an end */
+    sctp_channels_send(&page.peer, id, true, (uint8_t *)answer, strlen(answer)); /* not after an end */
 }
 
 /* Sends back what came on a channel, unless it is for this program. While much waits there, the rest is left: then the
@@ -155,18 +154,18 @@ static void receive_on(uint16_t id) {
     size_t length;
     sctp_assoc_code code;
     bool is_text, is_chat = strcmp(label_of(id), "chat") == 0, is_control = strcmp(label_of(id), "control") == 0;
-    sctp_channels_set_low_threshold(&page.channels, &page.assoc, id, MAX_BUFFERED / 2);
+    sctp_channels_set_low_threshold(&page.peer, id, MAX_BUFFERED / 2);
     page.chat = is_chat ? id : page.chat;
     while (buffered_on(id) < MAX_BUFFERED &&
-           ((code = sctp_channels_receive(&page.channels, &page.assoc, id, text, MAX_MESSAGE, &length, &is_text)) ==
-            SCTP_ASSOC_DONE || code == SCTP_CHANNELS_OTHER)) {
+           ((code = sctp_channels_receive(&page.peer, id, text, MAX_MESSAGE, &length, &is_text)) == SCTP_ASSOC_DONE ||
+            code == SCTP_CHANNELS_OTHER)) {
         text[length] = 0;
         if (is_chat)
             printf("page: %s\n", (char *)text);
         else if (is_control)
             on_command(id, (char *)text);
         else if (code == SCTP_ASSOC_DONE)
-            sctp_channels_send(&page.channels, &page.assoc, id, is_text, text, length);
+            sctp_channels_send(&page.peer, id, is_text, text, length);
     }
 }
 
@@ -198,21 +197,22 @@ static void hold(bool is_incoming, const uint8_t *bytes, size_t length) {
 /* Takes events, polls for packets and lets one through that is due by a moment, until none of it brings anything. */
 static void serve(uint64_t by) {
     static uint8_t bytes[SCTP_ASSOC_MAX_DATAGRAM];
+    sctp_assoc *assoc = &page.peer.assoc;
     sctp_channels_event event;
     struct packet *packet;
     size_t length;
     uint32_t fate;
     for (bool is_any = page.is_secure; is_any;) {
-        for (is_any = false; done(sctp_channels_poll_event(&page.channels, &page.assoc, &event)); is_any = true)
+        for (is_any = false; done(sctp_channels_poll_event(&page.peer, &event)); is_any = true)
             on_event(&event);
-        for (; done(sctp_assoc_watched_poll_transmit(&page.assoc, &page.watch, now(), bytes, sizeof bytes, &length));
+        for (; done(sctp_assoc_watched_poll_transmit(assoc, &page.watch, now(), bytes, sizeof bytes, &length));
              is_any = true)
             hold(false, bytes, length);
         if (!(packet = STAILQ_FIRST(&page.packets)) || packet->due > by)
             continue;
         STAILQ_REMOVE_HEAD(&page.packets, next);
         if (packet->is_incoming)
-            sctp_assoc_watched_handle_datagram(&page.assoc, &page.watch, now(), packet->bytes, packet->length, &fate);
+            sctp_assoc_watched_handle_datagram(assoc, &page.watch, now(), packet->bytes, packet->length, &fate);
         else
             SSL_write(page.dtls, packet->bytes, (int)packet->length);
         free(packet);
@@ -228,10 +228,10 @@ static void begin_association(void) {
     config.max_receive_message_size = MAX_MESSAGE;
     config.remote_port = (uint16_t)page.sctp_port;
     done(sctp_assoc_random_identity(&identity));
-    done((page.is_client ? sctp_assoc_client : sctp_assoc_server)(&page.assoc, &config, MAX_PAYLOAD_SIZE, &identity,
-                                                                  now()));
-    done(sctp_channels_begin(&page.channels, page.is_client ? SCTP_CHANNELS_CLIENT : SCTP_CHANNELS_SERVER));
-    done(sctp_channels_set_max_message_size(&page.assoc, page.max_message_size));
+    done((page.is_client ? sctp_assoc_client : sctp_assoc_server)(&page.peer.assoc, &config, MAX_PAYLOAD_SIZE,
+                                                                  &identity, now()));
+    done(sctp_channels_begin(&page.peer, page.is_client ? SCTP_CHANNELS_CLIENT : SCTP_CHANNELS_SERVER));
+    done(sctp_channels_set_max_message_size(&page.peer, page.max_message_size));
     page.is_secure = true;
 }
 
@@ -350,14 +350,13 @@ static void on_udp(void) {
 
 /* Ends the connection, by an ABORT unless the association is over. */
 static void take_down(const char *why) {
-    sctp_assoc_watched_abort(&page.assoc, &page.watch, (const uint8_t *)why, strlen(why));
+    sctp_assoc_watched_abort(&page.peer.assoc, &page.watch, (const uint8_t *)why, strlen(why));
     serve(UINT64_MAX);
     SSL_shutdown(page.dtls);
     printf("the connection ended: %s%s%.*s\n", why, page.watch.reason_length > 0 ? ": " : "", page.watch.reason_length,
            (char *)page.watch.reason);
     SSL_free(page.dtls);
-    sctp_channels_free(&page.channels);
-    sctp_assoc_free(&page.assoc);
+    sctp_peer_free(&page.peer);
     memset(&page, 0, sizeof page);
 }
 
@@ -429,7 +428,7 @@ static void turn(void) {
     bool has_room = page.dtls && page.chat >= 0 && buffered_on(page.chat) < MAX_BUFFERED;
     struct pollfd ready[] = {{udp, POLLIN, 0}, {listener, POLLIN, 0}, {has_room ? input : -1, POLLIN, 0}};
     uint64_t at = now(), due = at + SECOND / 10, timeout;
-    if (sctp_assoc_poll_timeout(&page.assoc, &timeout) == SCTP_ASSOC_DONE && timeout < due)
+    if (sctp_assoc_poll_timeout(&page.peer.assoc, &timeout) == SCTP_ASSOC_DONE && timeout < due)
         due = timeout;
     if (STAILQ_FIRST(&page.packets) && STAILQ_FIRST(&page.packets)->due < due)
         due = STAILQ_FIRST(&page.packets)->due;
@@ -440,10 +439,10 @@ static void turn(void) {
     if (ready[2].revents && getline(&line, &room, stdin) <= 0)
         input = -1;
     else if (ready[2].revents)
-        sctp_channels_send(&page.channels, &page.assoc, page.chat, true, (uint8_t *)line, strcspn(line, "\n"));
+        sctp_channels_send(&page.peer, page.chat, true, (uint8_t *)line, strcspn(line, "\n"));
     if (!page.dtls)
         return;
-    sctp_assoc_watched_handle_timeout(&page.assoc, &page.watch, now());
+    sctp_assoc_watched_handle_timeout(&page.peer.assoc, &page.watch, now());
     serve_dtls();
     if (now() > page.heard + 30 * SECOND) /* RFC 7675 */
         page.end = "the page was not heard of for long (ICE consent)";
@@ -492,7 +491,7 @@ int main(int argc, char **argv) {
     while (interrupts == 0)
         turn();
     /* The first Ctrl-C ends the association in order, but does not wait for ever; a second one ends it at once. */
-    bool is_ending = sctp_assoc_shutdown(&page.assoc) == SCTP_ASSOC_DONE;
+    bool is_ending = sctp_assoc_shutdown(&page.peer.assoc) == SCTP_ASSOC_DONE;
     for (uint64_t until = now() + 3 * SECOND; is_ending && page.dtls && interrupts == 1 && now() < until;)
         turn();
     if (page.dtls)

@@ -7,9 +7,9 @@ static void exchange(void) {
     count[0] = count[1] = 0;
     for (int round = 0; round < 6; round++) {
         for (int side = 0; side < 2; side++) {
-            CHECK(done(sctp_assoc_handle_timeout(&ends[side], now)));
+            CHECK(done(sctp_assoc_handle_timeout(&sides[side].assoc, now)));
             poll_events(side);
-            pass_on(&ends[side], &ends[!side], now);
+            pass_on(&sides[side].assoc, &sides[!side].assoc, now);
             poll_events(!side);
         }
         now += 250 * MS;
@@ -27,34 +27,62 @@ static void send_over(int side, uint16_t channel, bool is_text, const char *mess
     CHECK(receive_on(!side, channel, sizeof bytes) == SCTP_ASSOC_NOTHING);
 }
 
-/* Every call that gets these slots, one of which is empty, answers so. */
-static void refuse_empty(sctp_channels *channels, sctp_assoc *assoc) {
+/* Every call that needs the association and the channels answers so where one of them is missing. */
+static void refuse_without_one(sctp_peer *peer) {
     sctp_channels_event event;
-    CHECK(sctp_channels_open(channels, assoc, &reliable, bytes, 1, bytes, 1, &id) == SCTP_ASSOC_EMPTY_SLOT);
-    CHECK(sctp_channels_poll_event(channels, assoc, &event) == SCTP_ASSOC_EMPTY_SLOT);
-    CHECK(sctp_channels_send(channels, assoc, 0, true, bytes, 1) == SCTP_ASSOC_EMPTY_SLOT);
-    CHECK(sctp_channels_receive(channels, assoc, 0, bytes, 1, &length, &text) == SCTP_ASSOC_EMPTY_SLOT);
-    CHECK(sctp_channels_close(channels, assoc, 0) == SCTP_ASSOC_EMPTY_SLOT);
-    CHECK(sctp_channels_buffered_amount(channels, assoc, 0, &length) == SCTP_ASSOC_EMPTY_SLOT);
-    CHECK(sctp_channels_low_threshold(channels, assoc, 0, &length) == SCTP_ASSOC_EMPTY_SLOT);
-    CHECK(sctp_channels_set_low_threshold(channels, assoc, 0, 1) == SCTP_ASSOC_EMPTY_SLOT);
+    CHECK(sctp_channels_open(peer, &reliable, bytes, 1, bytes, 1, &id) == SCTP_ASSOC_EMPTY_SLOT);
+    CHECK(sctp_channels_poll_event(peer, &event) == SCTP_ASSOC_EMPTY_SLOT);
+    CHECK(sctp_channels_send(peer, 0, true, bytes, 1) == SCTP_ASSOC_EMPTY_SLOT);
+    CHECK(sctp_channels_receive(peer, 0, bytes, 1, &length, &text) == SCTP_ASSOC_EMPTY_SLOT);
+    CHECK(sctp_channels_close(peer, 0) == SCTP_ASSOC_EMPTY_SLOT);
+    CHECK(sctp_channels_buffered_amount(peer, 0, &length) == SCTP_ASSOC_EMPTY_SLOT);
+    CHECK(sctp_channels_low_threshold(peer, 0, &length) == SCTP_ASSOC_EMPTY_SLOT);
+    CHECK(sctp_channels_set_low_threshold(peer, 0, 1) == SCTP_ASSOC_EMPTY_SLOT);
 }
 
-static void empty_slots(void) {
-    sctp_channels none = SCTP_CHANNELS_EMPTY;
-    sctp_assoc no_assoc = SCTP_ASSOC_EMPTY;
+/* So do those that need the channels alone where these are missing. */
+static void refuse_without_channels(sctp_peer *peer) {
+    sctp_channels_info info;
+    refuse_without_one(peer);
+    CHECK(sctp_channels_get_info(peer, 0, &info) == SCTP_ASSOC_EMPTY_SLOT);
+    CHECK(sctp_channels_label(peer, 0, bytes, 1, &length) == SCTP_ASSOC_EMPTY_SLOT);
+    CHECK(sctp_channels_protocol(peer, 0, bytes, 1, &length) == SCTP_ASSOC_EMPTY_SLOT);
+}
+
+static void empty_peer(void) {
+    sctp_peer none = SCTP_PEER_EMPTY;
+    refuse_without_channels(&none);
+    CHECK(sctp_channels_set_max_message_size(&none, 1) == SCTP_ASSOC_EMPTY_SLOT);
+    CHECK(sctp_peer_free(&none) == SCTP_ASSOC_EMPTY_SLOT && sctp_peer_free(NULL) == SCTP_ASSOC_EMPTY_SLOT);
+    CHECK(!none.assoc.at && !none.assoc.live && !none.channels.at && !none.channels.live && blocks == 0);
+}
+
+static void association_alone(void) {
+    sctp_peer peer = SCTP_PEER_EMPTY;
+    sctp_assoc_config config = default_config();
+    sctp_assoc_identity client = identity(1);
+    CHECK(done(sctp_assoc_client(&peer.assoc, &config, PAYLOAD_SIZE, &client, 0)));
+    refuse_without_channels(&peer);
+    CHECK(peer.assoc.live && !peer.channels.at && !peer.channels.live);
+    CHECK(done(sctp_channels_set_max_message_size(&peer, 1)));
+    CHECK(sctp_peer_free(&peer) == SCTP_ASSOC_DONE && !peer.assoc.live && blocks == 0);
+    CHECK(sctp_peer_free(&peer) == SCTP_ASSOC_EMPTY_SLOT);
+}
+
+/* Channels whose association was freed by itself. */
+static void channels_alone(void) {
     sctp_channels_info info;
     join();
-    refuse_empty(&none, &ends[0]);
-    refuse_empty(&sides[0], &no_assoc);
-    refuse_empty(&none, &no_assoc);
-    CHECK(!none.at && !none.live && sides[0].live && ends[0].live && !no_assoc.live);
-    CHECK(sctp_channels_free(&none) == SCTP_ASSOC_EMPTY_SLOT);
-    CHECK(sctp_channels_get_info(&none, 0, &info) == SCTP_ASSOC_EMPTY_SLOT);
-    CHECK(sctp_channels_label(&none, 0, bytes, 1, &length) == SCTP_ASSOC_EMPTY_SLOT);
-    CHECK(sctp_channels_protocol(&none, 0, bytes, 1, &length) == SCTP_ASSOC_EMPTY_SLOT);
-    CHECK(sctp_channels_set_max_message_size(&no_assoc, 1) == SCTP_ASSOC_EMPTY_SLOT);
+    CHECK(done(open_as(0, reliable, "label", "protocol")) && id == 0);
+    CHECK(sctp_assoc_free(&sides[0].assoc) == SCTP_ASSOC_DONE);
+    refuse_without_one(&sides[0]);
+    CHECK(sides[0].channels.live && !sides[0].assoc.at && !sides[0].assoc.live);
+    CHECK(sctp_channels_set_max_message_size(&sides[0], 1) == SCTP_ASSOC_EMPTY_SLOT);
+    CHECK(done(sctp_channels_get_info(&sides[0], 0, &info)) && info.state == SCTP_CHANNELS_STATE_CONNECTING);
+    CHECK(done(sctp_channels_label(&sides[0], 0, bytes, sizeof bytes, &length)) && length == 5);
+    CHECK(done(sctp_channels_protocol(&sides[0], 0, bytes, sizeof bytes, &length)) && length == 8);
     free_sides();
+    CHECK(!sides[0].channels.live && sctp_peer_free(&sides[0]) == SCTP_ASSOC_EMPTY_SLOT);
 }
 
 /* Refusals of calls about a channel that is not there. */
@@ -63,13 +91,13 @@ static void no_channel(void) {
     join();
     CHECK(send_on(0, 4, true, "none") == SCTP_CHANNELS_NO_CHANNEL);
     CHECK(receive_on(0, 4, sizeof bytes) == SCTP_CHANNELS_NO_CHANNEL);
-    CHECK(sctp_channels_close(&sides[0], &ends[0], 4) == SCTP_CHANNELS_NO_CHANNEL);
+    CHECK(sctp_channels_close(&sides[0], 4) == SCTP_CHANNELS_NO_CHANNEL);
     CHECK(sctp_channels_get_info(&sides[0], 4, &info) == SCTP_CHANNELS_NO_CHANNEL);
     CHECK(sctp_channels_label(&sides[0], 4, bytes, 1, &length) == SCTP_CHANNELS_NO_CHANNEL);
     CHECK(sctp_channels_protocol(&sides[0], 4, bytes, 1, &length) == SCTP_CHANNELS_NO_CHANNEL);
-    CHECK(sctp_channels_buffered_amount(&sides[0], &ends[0], 4, &length) == SCTP_CHANNELS_NO_CHANNEL);
-    CHECK(sctp_channels_low_threshold(&sides[0], &ends[0], 4, &length) == SCTP_CHANNELS_NO_CHANNEL);
-    CHECK(sctp_channels_set_low_threshold(&sides[0], &ends[0], 4, 1) == SCTP_CHANNELS_NO_CHANNEL);
+    CHECK(sctp_channels_buffered_amount(&sides[0], 4, &length) == SCTP_CHANNELS_NO_CHANNEL);
+    CHECK(sctp_channels_low_threshold(&sides[0], 4, &length) == SCTP_CHANNELS_NO_CHANNEL);
+    CHECK(sctp_channels_set_low_threshold(&sides[0], 4, 1) == SCTP_CHANNELS_NO_CHANNEL);
     free_sides();
 }
 
@@ -78,10 +106,8 @@ static void refused_open(void) {
     sctp_channels_options agreed = {.negotiated = true};
     static uint8_t label[65536];
     join();
-    CHECK(sctp_channels_open(&sides[0], &ends[0], &reliable, label, 65536, NULL, 0, &id) ==
-          SCTP_CHANNELS_LABEL_TOO_LONG);
-    CHECK(sctp_channels_open(&sides[0], &ends[0], &reliable, NULL, 0, label, 65536, &id) ==
-          SCTP_CHANNELS_LABEL_TOO_LONG);
+    CHECK(sctp_channels_open(&sides[0], &reliable, label, 65536, NULL, 0, &id) == SCTP_CHANNELS_LABEL_TOO_LONG);
+    CHECK(sctp_channels_open(&sides[0], &reliable, NULL, 0, label, 65536, &id) == SCTP_CHANNELS_LABEL_TOO_LONG);
     agreed.id = 65535;
     CHECK(open_as(0, agreed, "", "") == SCTP_CHANNELS_IDENTIFIER_TAKEN);
     refused_from = growths + 1, refused_to = UINT64_MAX;
@@ -140,10 +166,10 @@ static void negotiated(void) {
     for (int side = 0; side < 2; side++)
         CHECK(done(open_as(side, agreed, "agreed", "")) && id == 700);
     CHECK(send_on(0, 700, true, "early") == SCTP_CHANNELS_NOT_OPEN);
-    CHECK(sctp_channels_buffered_amount(&sides[0], &ends[0], 700, &length) == SCTP_ASSOC_NO_STREAM);
+    CHECK(sctp_channels_buffered_amount(&sides[0], 700, &length) == SCTP_ASSOC_NO_STREAM);
     CHECK(done(open_as(0, reliable, "gone", "")) && id == 0);
-    CHECK(done(sctp_channels_close(&sides[0], &ends[0], 0)));
-    CHECK(sctp_channels_close(&sides[0], &ends[0], 0) == SCTP_CHANNELS_NO_CHANNEL);
+    CHECK(done(sctp_channels_close(&sides[0], 0)));
+    CHECK(sctp_channels_close(&sides[0], 0) == SCTP_CHANNELS_NO_CHANNEL);
     exchange();
     for (int side = 0; side < 2; side++) {
         CHECK(was_told(side, SCTP_CHANNELS_EVENT_CONNECTED, 0));
@@ -162,16 +188,16 @@ static void no_room(void) {
     CHECK(done(send_on(0, 0, false, "six bytes")));
     exchange();
     CHECK(receive_on(1, 0, 8) == SCTP_ASSOC_NO_ROOM && length == 9);
-    CHECK(sctp_channels_receive(&sides[1], &ends[1], 0, NULL, 0, &length, &text) == SCTP_ASSOC_NO_ROOM && length == 9);
+    CHECK(sctp_channels_receive(&sides[1], 0, NULL, 0, &length, &text) == SCTP_ASSOC_NO_ROOM && length == 9);
     CHECK(done(receive_on(1, 0, 9)) && length == 9 && !text && !memcmp(bytes, "six bytes", 9));
     bytes[0] = 'x';
     CHECK(sctp_channels_label(&sides[1], 0, bytes, 4, &length) == SCTP_ASSOC_NO_ROOM && length == 5);
     CHECK(sctp_channels_protocol(&sides[1], 0, NULL, 0, &length) == SCTP_ASSOC_NO_ROOM && length == 8);
     CHECK(bytes[0] == 'x');
-    CHECK(done(sctp_channels_set_max_message_size(&ends[0], 5)));
+    CHECK(done(sctp_channels_set_max_message_size(&sides[0], 5)));
     CHECK(send_on(0, 0, true, "longer") == SCTP_ASSOC_MESSAGE_TOO_LONG);
     send_over(0, 0, true, "short");
-    CHECK(done(sctp_channels_set_max_message_size(&ends[0], 0)));
+    CHECK(done(sctp_channels_set_max_message_size(&sides[0], 0)));
     send_over(0, 0, true, "longer");
     free_sides();
 }
@@ -181,14 +207,14 @@ static void buffered(void) {
     join();
     CHECK(done(open_as(0, reliable, "", "")) && id == 0);
     exchange();
-    CHECK(done(sctp_channels_low_threshold(&sides[0], &ends[0], 0, &length)) && length == 0);
-    CHECK(done(sctp_channels_set_low_threshold(&sides[0], &ends[0], 0, 3)));
-    CHECK(done(sctp_channels_low_threshold(&sides[0], &ends[0], 0, &length)) && length == 3);
+    CHECK(done(sctp_channels_low_threshold(&sides[0], 0, &length)) && length == 0);
+    CHECK(done(sctp_channels_set_low_threshold(&sides[0], 0, 3)));
+    CHECK(done(sctp_channels_low_threshold(&sides[0], 0, &length)) && length == 3);
     CHECK(done(send_on(0, 0, true, "a message")));
-    CHECK(done(sctp_channels_buffered_amount(&sides[0], &ends[0], 0, &length)) && length == 9);
+    CHECK(done(sctp_channels_buffered_amount(&sides[0], 0, &length)) && length == 9);
     exchange();
     CHECK(was_told(0, SCTP_CHANNELS_EVENT_BUFFERED_LOW, 0));
-    CHECK(done(sctp_channels_buffered_amount(&sides[0], &ends[0], 0, &length)) && length == 0);
+    CHECK(done(sctp_channels_buffered_amount(&sides[0], 0, &length)) && length == 0);
     free_sides();
 }
 
@@ -200,10 +226,10 @@ static void closed(void) {
         CHECK(done(open_as(0, reliable, "", "")) && id == 0);
         exchange();
         send_over(0, 0, true, "before the end");
-        CHECK(done(sctp_channels_close(&sides[1], &ends[1], 0)));
+        CHECK(done(sctp_channels_close(&sides[1], 0)));
         CHECK(done(sctp_channels_get_info(&sides[1], 0, &info)) && info.state == SCTP_CHANNELS_STATE_CLOSING);
         CHECK(send_on(1, 0, true, "late") == SCTP_CHANNELS_NOT_OPEN);
-        CHECK(done(sctp_channels_close(&sides[1], &ends[1], 0)));
+        CHECK(done(sctp_channels_close(&sides[1], 0)));
         exchange();
         for (int side = 0; side < 2; side++) {
             CHECK(was_told(side, SCTP_CHANNELS_EVENT_CLOSED, 0));
@@ -216,17 +242,17 @@ static void closed(void) {
 /* A stream of the peer that begins with something else than an OPEN, and the end of the association. */
 static void failed_and_lost(void) {
     join();
-    CHECK(done(sctp_assoc_open_stream(&ends[1], 9, SCTP_ASSOC_PPID_STRING)));
-    CHECK(done(sctp_assoc_write(&ends[1], 9, SCTP_ASSOC_PPID_OF_STREAM, (const uint8_t *)"no OPEN", 7)));
+    CHECK(done(sctp_assoc_open_stream(&sides[1].assoc, 9, SCTP_ASSOC_PPID_STRING)));
+    CHECK(done(sctp_assoc_write(&sides[1].assoc, 9, SCTP_ASSOC_PPID_OF_STREAM, (const uint8_t *)"no OPEN", 7)));
     exchange();
     CHECK(was_told(0, SCTP_CHANNELS_EVENT_FAILED, 9));
     CHECK(done(open_as(0, reliable, "", "")) && id == 0);
     exchange();
-    CHECK(done(sctp_assoc_abort(&ends[0], NULL, 0)));
-    CHECK(sctp_channels_close(&sides[0], &ends[0], 0) == SCTP_ASSOC_NO_STREAM);
+    CHECK(done(sctp_assoc_abort(&sides[0].assoc, NULL, 0)));
+    CHECK(sctp_channels_close(&sides[0], 0) == SCTP_ASSOC_NO_STREAM);
     count[0] = count[1] = 0;
     for (int side = 0; side < 2; side++) {
-        pass_on(&ends[0], &ends[1], now);
+        pass_on(&sides[0].assoc, &sides[1].assoc, now);
         poll_events(side);
         CHECK(was_told(side, SCTP_CHANNELS_EVENT_LOST, 0));
         CHECK(told[side][count[side] - 1].reason == SCTP_ASSOC_REASON_CLOSED);
@@ -238,13 +264,13 @@ static void failed_and_lost(void) {
 
 /* Roles and reliabilities without a name. */
 static void numbers_without_a_name(void) {
-    sctp_channels slot = SCTP_CHANNELS_EMPTY;
+    sctp_peer peer = SCTP_PEER_EMPTY;
     sctp_channels_options options = reliable;
     uint16_t id;
-    CHECK(sctp_channels_begin(&slot, 2) == SCTP_CHANNELS_BAD_ROLE);
-    CHECK(sctp_channels_begin(&slot, UINT32_MAX) == SCTP_CHANNELS_BAD_ROLE && !slot.live && blocks == 0);
+    CHECK(sctp_channels_begin(&peer, 2) == SCTP_CHANNELS_BAD_ROLE);
+    CHECK(sctp_channels_begin(&peer, UINT32_MAX) == SCTP_CHANNELS_BAD_ROLE && !peer.channels.live && blocks == 0);
     options.reliability = 3;
-    CHECK(sctp_channels_open(&slot, &ends[0], &options, NULL, 0, NULL, 0, &id) == SCTP_ASSOC_BAD_RELIABILITY);
+    CHECK(sctp_channels_open(&peer, &options, NULL, 0, NULL, 0, &id) == SCTP_ASSOC_BAD_RELIABILITY);
 }
 
 /* INITs that nobody answers. */
@@ -252,21 +278,20 @@ static void handshake_failed(void) {
     sctp_assoc_config config = default_config();
     sctp_assoc_identity client = identity(1);
     config.max_init_retransmits = 1;
-    CHECK(done(sctp_assoc_client(&ends[0], &config, PAYLOAD_SIZE, &client, 0)));
+    CHECK(done(sctp_assoc_client(&sides[0].assoc, &config, PAYLOAD_SIZE, &client, 0)));
     CHECK(done(sctp_channels_begin(&sides[0], SCTP_CHANNELS_CLIENT)));
     CHECK(done(open_as(0, reliable, "", "")));
     count[0] = 0;
     uint64_t moment;
-    while (done(sctp_assoc_poll_timeout(&ends[0], &moment))) {
-        CHECK(done(sctp_assoc_handle_timeout(&ends[0], moment)));
-        while (done(sctp_assoc_poll_transmit(&ends[0], moment, bytes, sizeof bytes, &length)))
+    while (done(sctp_assoc_poll_timeout(&sides[0].assoc, &moment))) {
+        CHECK(done(sctp_assoc_handle_timeout(&sides[0].assoc, moment)));
+        while (done(sctp_assoc_poll_transmit(&sides[0].assoc, moment, bytes, sizeof bytes, &length)))
             ;
     }
     poll_events(0);
     CHECK(was_told(0, SCTP_CHANNELS_EVENT_HANDSHAKE_FAILED, 0));
     CHECK(told[0][count[0] - 1].reason == SCTP_ASSOC_REASON_NO_INIT_ACK);
-    CHECK(sctp_channels_free(&sides[0]) == SCTP_ASSOC_DONE);
-    CHECK(sctp_assoc_free(&ends[0]) == SCTP_ASSOC_DONE);
+    CHECK(sctp_peer_free(&sides[0]) == SCTP_ASSOC_DONE);
     CHECK(blocks == 0);
 }
 
@@ -279,7 +304,7 @@ static void refused_memory(void) {
         CHECK(code == SCTP_ASSOC_DONE || code == SCTP_ASSOC_NO_MEMORY);
         sctp_channels_event event;
         do
-            code = sctp_channels_poll_event(&sides[0], &ends[0], &event);
+            code = sctp_channels_poll_event(&sides[0], &event);
         while (code == SCTP_ASSOC_DONE || code == SCTP_ASSOC_NO_MEMORY);
         CHECK(code == SCTP_ASSOC_NOTHING || code == SCTP_ASSOC_FAILED);
         refused = growths >= refused_from;
@@ -289,7 +314,9 @@ static void refused_memory(void) {
 }
 
 int main(void) {
-    TRY(empty_slots());
+    TRY(empty_peer());
+    TRY(association_alone());
+    TRY(channels_alone());
     TRY(no_channel());
     TRY(refused_open());
     TRY(each_type());

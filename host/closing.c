@@ -3,14 +3,11 @@
  * and this side has channels. */
 #include "packets.h"
 
-#include "sctp_channels.h"
-
 #define CHANNEL 0
 #define OWN_TSN 500
 #define PEER_TSN 100
 
 static const uint8_t open_message[] = {3, 0, 0, 0, 0, 0, 0, 0, 0, 1, 0, 0, 'x'};
-static sctp_channels channels;
 static uint64_t now;
 static uint32_t next_tsn; /* of the peer's DATA */
 
@@ -63,13 +60,13 @@ static void peer_responds(void) {
 /* The next event is this one. */
 static bool tells(uint32_t kind) {
     sctp_channels_event event;
-    return done(sctp_channels_poll_event(&channels, &end, &event)) && event.kind == kind &&
+    return done(sctp_channels_poll_event(&end, &event)) && event.kind == kind &&
            (kind == SCTP_CHANNELS_EVENT_CONNECTED || event.id == CHANNEL);
 }
 
 static bool tells_nothing(void) {
     sctp_channels_event event;
-    return !done(sctp_channels_poll_event(&channels, &end, &event));
+    return !done(sctp_channels_poll_event(&end, &event));
 }
 
 /* The peer's channel is announced, its text is received, and that one came is told so often; nothing is behind that. */
@@ -79,9 +76,9 @@ static void announces(const char *said, unsigned times) {
     bool is_text;
     CHECK(tells(SCTP_CHANNELS_EVENT_ANNOUNCED));
     CHECK(tells(SCTP_CHANNELS_EVENT_MESSAGE));
-    CHECK(done(sctp_channels_receive(&channels, &end, CHANNEL, message, sizeof message, &length, &is_text)));
+    CHECK(done(sctp_channels_receive(&end, CHANNEL, message, sizeof message, &length, &is_text)));
     CHECK(is_text && length == strlen(said) && memcmp(message, said, length) == 0);
-    CHECK(!done(sctp_channels_receive(&channels, &end, CHANNEL, message, sizeof message, &length, &is_text)));
+    CHECK(!done(sctp_channels_receive(&end, CHANNEL, message, sizeof message, &length, &is_text)));
     while (--times > 0)
         CHECK(tells(SCTP_CHANNELS_EVENT_MESSAGE));
     CHECK(tells_nothing());
@@ -109,7 +106,7 @@ static bool asks(void) {
 /* Two sides with a channel that the peer opened, and of which it said something. */
 static void meet(void) {
     begin(PAYLOAD_SIZE, OWN_TSN, PEER_TSN, WINDOW, WINDOW);
-    CHECK(done(sctp_channels_begin(&channels, SCTP_CHANNELS_SERVER)));
+    CHECK(done(sctp_channels_begin(&end, SCTP_CHANNELS_SERVER)));
     now = 0, next_tsn = PEER_TSN;
     CHECK(tells(SCTP_CHANNELS_EVENT_CONNECTED) && tells_nothing());
     peer_opens("first");
@@ -117,11 +114,6 @@ static void meet(void) {
     CHECK(acknowledges());
     comes(sack(OWN_TAG, OWN_TSN, WINDOW, NULL, 0), now);
     CHECK(tells(SCTP_CHANNELS_EVENT_BUFFERED_LOW) && tells_nothing());
-}
-
-static void part(void) {
-    CHECK(done(sctp_channels_free(&channels)));
-    finish();
 }
 
 /* A second channel comes on a stream whose channel still closes here: nothing is told of it until that one is gone,
@@ -134,7 +126,7 @@ static void opens_while_closing(void) {
     now += 1000 * MS;
     peer_opens("second");
     CHECK(tells_nothing());
-    CHECK(done(sctp_channels_get_info(&channels, CHANNEL, &info)) && info.state == SCTP_CHANNELS_STATE_CLOSING);
+    CHECK(done(sctp_channels_get_info(&end, CHANNEL, &info)) && info.state == SCTP_CHANNELS_STATE_CLOSING);
     for (int expiry = 0; expiry < 4; expiry++) {
         now = time_out();
         if (asks())
@@ -146,8 +138,8 @@ static void opens_while_closing(void) {
     CHECK(tells(SCTP_CHANNELS_EVENT_CLOSED));
     announces("second", 1);
     CHECK(acknowledges());
-    CHECK(done(sctp_channels_get_info(&channels, CHANNEL, &info)) && info.state == SCTP_CHANNELS_STATE_OPEN);
-    part();
+    CHECK(done(sctp_channels_get_info(&end, CHANNEL, &info)) && info.state == SCTP_CHANNELS_STATE_OPEN);
+    finish();
 }
 
 /* The same, where the second channel comes once the first one is gone. */
@@ -160,7 +152,7 @@ static void opens_when_closed(void) {
     peer_opens("second");
     announces("second", 2);
     CHECK(acknowledges());
-    part();
+    finish();
 }
 
 int main(void) {

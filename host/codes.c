@@ -15,7 +15,7 @@ static sctp_assoc_event event;
 /* Calls of an empty slot. */
 static void empty_slot(void) {
     sctp_assoc none = SCTP_ASSOC_EMPTY;
-    CHECK(sctp_assoc_free(&none) == SCTP_ASSOC_EMPTY_SLOT);
+    CHECK(sctp_assoc_free(&none) == SCTP_ASSOC_EMPTY_SLOT && sctp_assoc_free(NULL) == SCTP_ASSOC_EMPTY_SLOT);
     CHECK(sctp_assoc_shutdown(&none) == SCTP_ASSOC_EMPTY_SLOT);
     CHECK(sctp_assoc_close(&none) == SCTP_ASSOC_EMPTY_SLOT);
     CHECK(sctp_assoc_handle_datagram(&none, 0, bytes, 20, &number) == SCTP_ASSOC_EMPTY_SLOT);
@@ -24,10 +24,9 @@ static void empty_slot(void) {
     CHECK(sctp_assoc_handle_timeout(&none, 0) == SCTP_ASSOC_EMPTY_SLOT);
     CHECK(sctp_assoc_poll_event(&none, &event) == SCTP_ASSOC_EMPTY_SLOT);
     CHECK(sctp_assoc_poll_endpoint_event(&none) == SCTP_ASSOC_EMPTY_SLOT);
-    CHECK(sctp_assoc_is_established(&none, &answer) == SCTP_ASSOC_EMPTY_SLOT);
+    CHECK(!sctp_assoc_is_established(&none) && sctp_assoc_is_drained(&none));
     CHECK(sctp_assoc_is_closing(&none, &answer) == SCTP_ASSOC_EMPTY_SLOT);
     CHECK(sctp_assoc_is_closed(&none, &answer) == SCTP_ASSOC_EMPTY_SLOT);
-    CHECK(sctp_assoc_is_drained(&none, &answer) == SCTP_ASSOC_EMPTY_SLOT);
     CHECK(sctp_assoc_is_failed(&none, &answer) == SCTP_ASSOC_EMPTY_SLOT);
     CHECK(sctp_assoc_open_stream(&none, 1, 53) == SCTP_ASSOC_EMPTY_SLOT);
     CHECK(sctp_assoc_accept_stream(&none, &stream) == SCTP_ASSOC_EMPTY_SLOT);
@@ -39,6 +38,17 @@ static void empty_slot(void) {
     CHECK(sctp_assoc_set_reliability(&none, 1, false, 0, 0) == SCTP_ASSOC_EMPTY_SLOT);
     CHECK(sctp_assoc_buffered_amount(&none, 1, &length) == SCTP_ASSOC_EMPTY_SLOT);
     CHECK(!none.at && !none.live);
+}
+
+/* A slot that is a const object, in memory that cannot be written to, can be asked; and one that is not empty stays as
+ * it was. */
+static void const_slot(void) {
+    static const sctp_assoc none = SCTP_ASSOC_EMPTY;
+    const sctp_assoc *asked = &ends[0];
+    void *at = asked->at;
+    CHECK(!sctp_assoc_is_established(&none) && sctp_assoc_is_drained(&none));
+    CHECK(sctp_assoc_is_established(asked) && !sctp_assoc_is_drained(asked));
+    CHECK(asked->at == at && asked->live);
 }
 
 /* Configurations that are refused, one fault in front of the other and both in front of all else. */
@@ -203,7 +213,7 @@ static void repeated_init(void) {
     CHECK(sctp_assoc_poll_endpoint_event(&ends[0]) == SCTP_ASSOC_NOTHING);
     CHECK(done(sctp_assoc_is_closed(&ends[0], &answer)) && !answer);
     CHECK(done(sctp_assoc_is_closed(&ends[1], &answer)) && answer);
-    CHECK(done(sctp_assoc_is_drained(&ends[1], &answer)) && !answer);
+    CHECK(!sctp_assoc_is_drained(&ends[1]));
     CHECK(done(sctp_assoc_poll_transmit(&ends[0], 0, init, sizeof init, &init_length)));
     CHECK(done(sctp_assoc_poll_timeout(&ends[0], &moment)) && moment == 3000 * MS);
     CHECK(done(sctp_assoc_handle_datagram(&ends[1], 0, init, init_length, &number)) && number == SCTP_ASSOC_TAKEN);
@@ -211,11 +221,11 @@ static void repeated_init(void) {
         pass_on(&ends[1], &ends[0], 0);
         pass_on(&ends[0], &ends[1], 0);
     }
-    CHECK(done(sctp_assoc_is_established(&ends[1], &answer)) && answer);
+    CHECK(sctp_assoc_is_established(&ends[1]));
     CHECK(done(sctp_assoc_handle_datagram(&ends[1], 0, init, init_length, &number)));
     CHECK(number == SCTP_ASSOC_REPEATED_INIT);
     CHECK(!done(sctp_assoc_poll_transmit(&ends[1], 0, datagram, sizeof datagram, &length)));
-    CHECK(done(sctp_assoc_is_established(&ends[1], &answer)) && answer);
+    CHECK(sctp_assoc_is_established(&ends[1]));
     free_both(ends);
 }
 
@@ -321,6 +331,7 @@ int main(void) {
     refused_begin();
     repeated_init();
     shake_hands(ends, &config, 0);
+    const_slot();
     refused_streams();
     numbers_without_a_name();
     no_room();

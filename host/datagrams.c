@@ -61,7 +61,7 @@ static bool answers(int end, sctp_assoc_code (*question)(sctp_assoc *, bool *)) 
 static void is_quiet(void) {
     sctp_assoc_event event;
     uint64_t moment;
-    CHECK(answers(1, sctp_assoc_is_established));
+    CHECK(sctp_assoc_is_established(&ends[1]));
     CHECK(!sends(1));
     CHECK(!done(sctp_assoc_poll_event(&ends[1], &event)));
     CHECK(!done(sctp_assoc_poll_timeout(&ends[1], &moment)));
@@ -83,7 +83,7 @@ static void takes(void) {
     CHECK(sends(1) && length == spell(heartbeat_ack, answer) && memcmp(bytes, answer, length) == 0);
     is_quiet();
     CHECK(fate_of(reflected_abort) == SCTP_ASSOC_TAKEN);
-    CHECK(answers(1, sctp_assoc_is_closed) && answers(1, sctp_assoc_is_drained) && !sends(1));
+    CHECK(answers(1, sctp_assoc_is_closed) && sctp_assoc_is_drained(&ends[1]) && !sends(1));
 }
 
 static void by_tag(void) {
@@ -153,7 +153,7 @@ static void aborts(void) {
     for (int end = 0; end < 2; end++) {
         sctp_assoc_event event;
         CHECK(done(sctp_assoc_poll_event(&ends[end], &event)) && event.kind == SCTP_ASSOC_EVENT_LOST);
-        CHECK(event.reason == SCTP_ASSOC_REASON_CLOSED && answers(end, sctp_assoc_is_drained));
+        CHECK(event.reason == SCTP_ASSOC_REASON_CLOSED && sctp_assoc_is_drained(&ends[end]));
     }
     free_both(ends);
 }

@@ -6,8 +6,8 @@
 static void carry(void) {
     for (uint64_t until = now + 10000 * MS; now < until; now += 100 * MS)
         for (int side = 0; side < 2; side++) {
-            CHECK(done(sctp_assoc_handle_timeout(&ends[side], now)));
-            pass_on(&ends[side], &ends[!side], now);
+            CHECK(done(sctp_assoc_handle_timeout(&sides[side].assoc, now)));
+            pass_on(&sides[side].assoc, &sides[!side].assoc, now);
         }
 }
 
@@ -73,7 +73,7 @@ static void begins(void) {
 /* The client closes its channel 0, which is gone at both sides once they told it. */
 static void closes(void) {
     sctp_channels_info info;
-    CHECK(done(sctp_channels_close(&sides[0], &ends[0], 0)));
+    CHECK(done(sctp_channels_close(&sides[0], 0)));
     CHECK(done(sctp_channels_get_info(&sides[0], 0, &info)) && info.state == SCTP_CHANNELS_STATE_CLOSING);
     carry();
     tells(1, "closed 0");
@@ -107,7 +107,7 @@ static void identifiers(void) {
     for (uint16_t side = 0; side < 2; side++) {
         CHECK(done(open_as(side, reliable, "chat", "p")) && id == side);
         CHECK(done(open_as(side, reliable, "chat", "p")) && id == side + 2);
-        CHECK(done(sctp_channels_close(&sides[side], &ends[side], side)));
+        CHECK(done(sctp_channels_close(&sides[side], side)));
         CHECK(done(open_as(side, reliable, "chat", "p")) && id == side);
     }
     free_sides();
@@ -132,13 +132,13 @@ static void negotiated(void) {
 static unsigned data_sent(bool is_unordered) {
     unsigned chunks = 0;
     uint32_t fate;
-    while (done(sctp_assoc_poll_transmit(&ends[0], now, bytes, sizeof bytes, &length))) {
+    while (done(sctp_assoc_poll_transmit(&sides[0].assoc, now, bytes, sizeof bytes, &length))) {
         for (size_t at = 12; at < length; at += (size_t)((bytes[at + 2] << 8 | bytes[at + 3]) + 3) / 4 * 4)
             if (bytes[at] == 0) {
                 CHECK(((bytes[at + 1] & 4) != 0) == is_unordered);
                 chunks++;
             }
-        CHECK(done(sctp_assoc_handle_datagram(&ends[1], now, bytes, length, &fate)) && fate == SCTP_ASSOC_TAKEN);
+        CHECK(done(sctp_assoc_handle_datagram(&sides[1].assoc, now, bytes, length, &fate)) && fate == SCTP_ASSOC_TAKEN);
     }
     return chunks;
 }
@@ -169,15 +169,15 @@ static void unordered(void) {
 static const uint8_t ack[] = {2};
 
 static void writes(uint16_t stream, uint32_t type, const void *message, size_t size) {
-    CHECK(done(sctp_assoc_write(&ends[1], stream, type, message, size)));
-    pass_on(&ends[1], &ends[0], now);
+    CHECK(done(sctp_assoc_write(&sides[1].assoc, stream, type, message, size)));
+    pass_on(&sides[1].assoc, &sides[0].assoc, now);
 }
 
 static void reads_dcep(uint16_t stream, const uint8_t *message, size_t size) {
     uint8_t read[100];
     uint32_t type;
-    pass_on(&ends[0], &ends[1], now);
-    CHECK(done(sctp_assoc_read(&ends[1], stream, read, sizeof read, &length, &type)));
+    pass_on(&sides[0].assoc, &sides[1].assoc, now);
+    CHECK(done(sctp_assoc_read(&sides[1].assoc, stream, read, sizeof read, &length, &type)));
     CHECK(type == SCTP_ASSOC_PPID_DCEP && length == size && memcmp(read, message, size) == 0);
 }
 
@@ -223,12 +223,12 @@ static void reads_open(void) {
     static const sctp_channels_options loose = {SCTP_ASSOC_RELIABLE, 0, 513, 0, true, false};
     join();
     tells(0, "connected");
-    CHECK(done(sctp_assoc_open_stream(&ends[1], 1, SCTP_ASSOC_PPID_BINARY)));
+    CHECK(done(sctp_assoc_open_stream(&sides[1].assoc, 1, SCTP_ASSOC_PPID_BINARY)));
     writes(1, SCTP_ASSOC_PPID_DCEP, "\3\1\2\0\0\0\0\3\0\1\0\2lpp", 15);
     tells(0, "announced 1, message 1");
     check_info(0, 1, rexmit, "l", "pp");
     reads_dcep(1, ack, sizeof ack);
-    CHECK(done(sctp_assoc_open_stream(&ends[1], 3, SCTP_ASSOC_PPID_BINARY)));
+    CHECK(done(sctp_assoc_open_stream(&sides[1].assoc, 3, SCTP_ASSOC_PPID_BINARY)));
     writes(3, SCTP_ASSOC_PPID_DCEP, "\3\200\2\1\0\0\0\7\0\0\0\0", 12);
     tells(0, "announced 3, message 3");
     check_info(0, 3, loose, "", "");
@@ -258,13 +258,13 @@ static void no_open(void) {
         size_t streams;
         char failure[100];
         tried = others[k].name;
-        CHECK(done(sctp_assoc_open_stream(&ends[1], stream, SCTP_ASSOC_PPID_BINARY)));
+        CHECK(done(sctp_assoc_open_stream(&sides[1].assoc, stream, SCTP_ASSOC_PPID_BINARY)));
         writes(stream, others[k].type, others[k].message, others[k].size);
         snprintf(failure, sizeof failure, "failed %u", stream);
         tells(0, failure);
         carry();
         tells(0, "");
-        CHECK(done(sctp_assoc_stream_ids(&ends[1], ids, 1, &streams)) && streams == 0);
+        CHECK(done(sctp_assoc_stream_ids(&sides[1].assoc, ids, 1, &streams)) && streams == 0);
         CHECK(send_on(0, stream, true, "t") == SCTP_CHANNELS_NO_CHANNEL);
     }
     free_sides();
@@ -300,8 +300,8 @@ static void long_ack(void) {
     tells(0, "message 0");
     CHECK(done(receive_on(0, 0, 100)) && text && length == 1 && bytes[0] == 't');
     CHECK(done(send_on(0, 0, true, "u")));
-    pass_on(&ends[0], &ends[1], now);
-    CHECK(done(sctp_assoc_read(&ends[1], 0, bytes, sizeof bytes, &length, &type)));
+    pass_on(&sides[0].assoc, &sides[1].assoc, now);
+    CHECK(done(sctp_assoc_read(&sides[1].assoc, 0, bytes, sizeof bytes, &length, &type)));
     CHECK(type == SCTP_ASSOC_PPID_STRING && length == 1 && bytes[0] == 'u');
     is_dropped("\3", 1, SCTP_CHANNELS_STATE_CLOSING);
     free_sides();
@@ -311,7 +311,7 @@ static void long_ack(void) {
 static void other_type(void) {
     join();
     tells(0, "connected");
-    CHECK(done(sctp_assoc_open_stream(&ends[1], 1, SCTP_ASSOC_PPID_BINARY)));
+    CHECK(done(sctp_assoc_open_stream(&sides[1].assoc, 1, SCTP_ASSOC_PPID_BINARY)));
     writes(1, SCTP_ASSOC_PPID_DCEP, "\3\0\0\0\0\0\0\0\0\1\0\0x", 13);
     tells(0, "announced 1, message 1");
     writes(1, SCTP_ASSOC_PPID_UNKNOWN, "part", 4);

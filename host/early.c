@@ -2,15 +2,12 @@
  * spelled apart from the library (RFC 4960, RFC 8832), and whose COOKIE ACK comes late, as when it was lost. */
 #include "packets.h"
 
-#include "sctp_channels.h"
-
 #define OWN_TSN 500
 #define PEER_TSN 100
 #define STREAMS 10 /* on which the peer receives */
 
 static const sctp_channels_options reliable = SCTP_CHANNELS_ORDERED_RELIABLE;
 static const uint8_t open_message[] = {3, 0, 0, 0, 0, 0, 0, 0, 0, 1, 0, 0, 'x'};
-static sctp_channels channels;
 static uint32_t next_tsn; /* of the peer's DATA */
 static uint16_t id;
 
@@ -60,8 +57,8 @@ static void greet(void) {
     sctp_assoc_config config = default_config();
     sctp_assoc_identity named = identity(OWN_TAG);
     named.initial_tsn = OWN_TSN;
-    CHECK(done(sctp_assoc_client(&end, &config, PAYLOAD_SIZE, &named, 0)));
-    CHECK(done(sctp_channels_begin(&channels, SCTP_CHANNELS_SERVER)));
+    CHECK(done(sctp_assoc_client(&end.assoc, &config, PAYLOAD_SIZE, &named, 0)));
+    CHECK(done(sctp_channels_begin(&end, SCTP_CHANNELS_SERVER)));
     next_tsn = PEER_TSN;
 }
 
@@ -71,20 +68,15 @@ static void meet_peer(void) {
     CHECK(polls(0) && sent.bytes[12] == 10 && !polls(0));
 }
 
-static void part(void) {
-    CHECK(done(sctp_channels_free(&channels)));
-    finish();
-}
-
 /* The next event is this one. */
 static bool tells(uint32_t kind, uint16_t channel) {
     sctp_channels_event event;
-    return done(sctp_channels_poll_event(&channels, &end, &event)) && event.kind == kind && event.id == channel;
+    return done(sctp_channels_poll_event(&end, &event)) && event.kind == kind && event.id == channel;
 }
 
 static bool tells_nothing(void) {
     sctp_channels_event event;
-    return !done(sctp_channels_poll_event(&channels, &end, &event));
+    return !done(sctp_channels_poll_event(&end, &event));
 }
 
 /* A text of a channel is received, and nothing is behind it. */
@@ -92,17 +84,17 @@ static bool receives(uint16_t channel, const char *said) {
     uint8_t message[100];
     size_t length;
     bool is_text;
-    return done(sctp_channels_receive(&channels, &end, channel, message, sizeof message, &length, &is_text)) &&
-           is_text && length == strlen(said) && memcmp(message, said, length) == 0 &&
-           !done(sctp_channels_receive(&channels, &end, channel, message, sizeof message, &length, &is_text));
+    return done(sctp_channels_receive(&end, channel, message, sizeof message, &length, &is_text)) && is_text &&
+           length == strlen(said) && memcmp(message, said, length) == 0 &&
+           !done(sctp_channels_receive(&end, channel, message, sizeof message, &length, &is_text));
 }
 
 static sctp_assoc_code send_text(uint16_t channel) {
-    return sctp_channels_send(&channels, &end, channel, true, (const uint8_t *)"t", 1);
+    return sctp_channels_send(&end, channel, true, (const uint8_t *)"t", 1);
 }
 
 static sctp_assoc_code open_as(sctp_channels_options options) {
-    return sctp_channels_open(&channels, &end, &options, (const uint8_t *)"x", 1, NULL, 0, &id);
+    return sctp_channels_open(&end, &options, (const uint8_t *)"x", 1, NULL, 0, &id);
 }
 
 /* This side sends an ACK on a stream, and perhaps more. */
@@ -123,7 +115,7 @@ static void announced_once_established(void) {
     peer_writes(0, 0, SCTP_ASSOC_PPID_DCEP, open_message, sizeof open_message);
     peer_writes(0, 1, SCTP_ASSOC_PPID_STRING, "early", 5);
     CHECK(tells_nothing() && !acknowledges(0) && tells_nothing());
-    CHECK(sctp_channels_get_info(&channels, 0, &info) == SCTP_CHANNELS_NO_CHANNEL);
+    CHECK(sctp_channels_get_info(&end, 0, &info) == SCTP_CHANNELS_NO_CHANNEL);
     CHECK(send_text(0) == SCTP_CHANNELS_NO_CHANNEL);
     peer_accepts();
     CHECK(tells(SCTP_CHANNELS_EVENT_CONNECTED, 0));
@@ -132,7 +124,7 @@ static void announced_once_established(void) {
     CHECK(tells(SCTP_CHANNELS_EVENT_MESSAGE, 0));
     CHECK(receives(0, "early"));
     CHECK(acknowledges(0));
-    part();
+    finish();
 }
 
 /* A negotiated channel of which a message came is open once the association is established. */
@@ -149,7 +141,7 @@ static void negotiated_once_established(void) {
     CHECK(tells(SCTP_CHANNELS_EVENT_OPENED, 4));
     CHECK(tells(SCTP_CHANNELS_EVENT_MESSAGE, 4));
     CHECK(receives(4, "early") && done(send_text(4)));
-    part();
+    finish();
 }
 
 /* Identifiers stop at the streams on which the peer receives, and before it told how many, at those that are offered. */
@@ -174,7 +166,7 @@ static void streams_agreed(void) {
     for (uint16_t own = 1; own < STREAMS - 1; own += 2)
         CHECK(done(open_as(reliable)) && id == own);
     CHECK(open_as(reliable) == SCTP_CHANNELS_NO_IDENTIFIER_LEFT);
-    part();
+    finish();
 }
 
 int main(void) {

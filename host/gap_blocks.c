@@ -36,7 +36,7 @@ static unsigned taken_in(const uint32_t *tsns, size_t count) {
     unsigned taken = 0;
     for (size_t i = 0; i < count; i++)
         comes(data(7, tsns[i], "x"), 0);
-    while (done(sctp_assoc_poll_event(&end, &event)))
+    while (done(sctp_assoc_poll_event(&end.assoc, &event)))
         taken += event.kind == SCTP_ASSOC_EVENT_DATAGRAM_RECEIVED;
     return taken;
 }
@@ -45,7 +45,7 @@ static void read_all(void) {
     uint8_t byte[1];
     size_t length;
     uint32_t type;
-    while (done(sctp_assoc_read(&end, STREAM, byte, sizeof byte, &length, &type)))
+    while (done(sctp_assoc_read(&end.assoc, STREAM, byte, sizeof byte, &length, &type)))
         CHECK(length == 1 && byte[0] == 'x' && type == SCTP_ASSOC_PPID_STRING);
 }
 
@@ -123,9 +123,9 @@ static void pieces_are_put_together(void) {
     comes(data(1, 0, "lo"), 0);
     comes(data(2, UINT32_MAX, "hel"), 0);
     memset(buffer, '.', sizeof buffer);
-    CHECK(done(sctp_assoc_read(&end, STREAM, buffer, sizeof buffer, &length, &type)));
+    CHECK(done(sctp_assoc_read(&end.assoc, STREAM, buffer, sizeof buffer, &length, &type)));
     CHECK(length == 5 && memcmp(buffer, "hello..", 7) == 0 && type == SCTP_ASSOC_PPID_STRING);
-    CHECK(!done(sctp_assoc_read(&end, STREAM, buffer, sizeof buffer, &length, &type)));
+    CHECK(!done(sctp_assoc_read(&end.assoc, STREAM, buffer, sizeof buffer, &length, &type)));
     finish();
 }
 
@@ -145,7 +145,7 @@ static void sends_data(uint64_t now, const uint32_t *tsns, size_t count) {
 
 static size_t buffered(void) {
     size_t bytes;
-    CHECK(done(sctp_assoc_buffered_amount(&end, STREAM, &bytes)));
+    CHECK(done(sctp_assoc_buffered_amount(&end.assoc, STREAM, &bytes)));
     return bytes;
 }
 
@@ -198,8 +198,8 @@ static void a_begun_message_is_given_up(void) {
     struct packet packet = packet_for(PEER_TAG);
     begin(MAX_PIECE, UINT32_MAX, 500, WINDOW, 1500); /* the second piece finds no room at the peer */
     write_messages(0, "");
-    CHECK(done(sctp_assoc_set_reliability(&end, STREAM, false, SCTP_ASSOC_REXMIT, 0)));
-    CHECK(done(sctp_assoc_write(&end, STREAM, SCTP_ASSOC_PPID_OF_STREAM, message, sizeof message)));
+    CHECK(done(sctp_assoc_set_reliability(&end.assoc, STREAM, false, SCTP_ASSOC_REXMIT, 0)));
+    CHECK(done(sctp_assoc_write(&end.assoc, STREAM, SCTP_ASSOC_PPID_OF_STREAM, message, sizeof message)));
     sends_data(0, begun, 1);
     CHECK(buffered() == sizeof message);
     add(&packet, 4, 192u << 24 | 12); /* FORWARD TSN (RFC 3758 section 3.2) up to TSN 0, of SSN 0 */
@@ -208,7 +208,7 @@ static void a_begun_message_is_given_up(void) {
     add(&packet, 2, 0);
     sends(packet, time_out());
     CHECK(buffered() == 0 && path().bytes_in_flight == 0);
-    CHECK(done(sctp_assoc_write(&end, STREAM, SCTP_ASSOC_PPID_OF_STREAM, message, 2)));
+    CHECK(done(sctp_assoc_write(&end.assoc, STREAM, SCTP_ASSOC_PPID_OF_STREAM, message, 2)));
     sends_data(3000 * MS, next, 1);
     finish();
 }
@@ -241,10 +241,10 @@ static void chunks_have_their_parameters(void) {
     sctp_assoc_config config = default_config();
     sctp_assoc_identity client = identity(1), server = identity(2);
     const uint8_t *value = NULL;
-    CHECK(done(sctp_assoc_client(&end, &config, MAX_PIECE, &client, 0)) && polls(0));
+    CHECK(done(sctp_assoc_client(&end.assoc, &config, MAX_PIECE, &client, 0)) && polls(0));
     CHECK(parameters(1, 16, 0x8008, &value) == 1 && get(value - 2, 2) == 6 && value[0] == 130 && value[1] == 192);
     struct packet init = sent;
-    CHECK(done(sctp_assoc_server(&end, &config, MAX_PIECE, &server, 0)));
+    CHECK(done(sctp_assoc_server(&end.assoc, &config, MAX_PIECE, &server, 0)));
     comes(init, 0);
     CHECK(polls(0));
     CHECK(parameters(2, 16, 7, &value) == 2 && get(value - 2, 2) == 4 + sizeof server.cookie);

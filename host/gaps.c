@@ -113,12 +113,9 @@ int main(int argc, char **argv) {
         turn();
     CHECK(done(sctp_assoc_open_stream(&slot, STREAM, SCTP_ASSOC_PPID_BINARY)));
     write_with_gaps();
-    bool is_over = false;
-    while (!is_over && now() < end) {
+    while (!sctp_assoc_is_drained(&slot) && now() < end)
         turn();
-        done(sctp_assoc_is_drained(&slot, &is_over));
-    }
-    CHECK(is_over && is_reset && echoed == 2 * GAPS);
+    CHECK(sctp_assoc_is_drained(&slot) && is_reset && echoed == 2 * GAPS);
     CHECK(longest >= 28 + 4 * GAPS);
     send_all();
     CHECK(done(sctp_assoc_free(&slot)) && blocks == 0);

@@ -96,11 +96,6 @@ static void watched(void) {
     free_both(ends);
 }
 
-static bool is_over(int end) {
-    bool is_drained = false;
-    return done(sctp_assoc_is_drained(&ends[end], &is_drained)) && is_drained;
-}
-
 /* The peer is asked once it was silent for 10 s, and after 30 s the association ends. A datagram that is taken begins
  * the time anew, one with another tag does not. */
 static void silent(void) {
@@ -121,11 +116,11 @@ static void silent(void) {
         CHECK(look_at_silence(&ends[0], &silence, 11 * SECOND) == 31 * SECOND);
     CHECK(done(sctp_assoc_poll_transmit(&ends[0], 11 * SECOND, datagram, sizeof datagram, &length)));
     CHECK(!done(sctp_assoc_poll_transmit(&ends[0], 11 * SECOND, datagram, sizeof datagram, &length)));
-    CHECK(look_at_silence(&ends[0], &silence, 30 * SECOND) == 31 * SECOND && !is_over(0));
-    CHECK(look_at_silence(&ends[0], &silence, 31 * SECOND) == UINT64_MAX && is_over(0));
-    CHECK(!is_over(1));
+    CHECK(look_at_silence(&ends[0], &silence, 30 * SECOND) == 31 * SECOND && !sctp_assoc_is_drained(&ends[0]));
+    CHECK(look_at_silence(&ends[0], &silence, 31 * SECOND) == UINT64_MAX && sctp_assoc_is_drained(&ends[0]));
+    CHECK(!sctp_assoc_is_drained(&ends[1]));
     lose_consent(&ends[1]);
-    CHECK(is_over(1) && !take_events(&ends[1]));
+    CHECK(sctp_assoc_is_drained(&ends[1]) && !take_events(&ends[1]));
     free_both(ends);
     came = 0;
 }
@@ -145,7 +140,7 @@ int main(void) {
     CHECK(done(sctp_assoc_stream_ids(&ends[1], NULL, 0, &count)) && count == 0);
     CHECK(done(sctp_assoc_shutdown(&ends[0])));
     go_on(1200 * MS);
-    CHECK(is_over(0) && is_over(1));
+    CHECK(sctp_assoc_is_drained(&ends[0]) && sctp_assoc_is_drained(&ends[1]));
     free_both(ends);
     puts("guide: ok");
     return 0;

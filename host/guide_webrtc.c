@@ -17,10 +17,10 @@ static void exchange(void) {
     count[OURS] = count[BROWSER] = 0;
     for (int round = 0; round < 40; round++) {
         for (int side = 0; side < 2; side++) {
-            CHECK(done(sctp_assoc_handle_timeout(&ends[side], now)));
-            if (sides[side].live)
+            CHECK(done(sctp_assoc_handle_timeout(&sides[side].assoc, now)));
+            if (sides[side].channels.live)
                 poll_events(side);
-            pass_on(&ends[side], &ends[!side], now);
+            pass_on(&sides[side].assoc, &sides[!side].assoc, now);
         }
         now += 20 * MS;
     }
@@ -32,11 +32,11 @@ static void meet_browser(void) {
     sctp_assoc_identity named = identity(9);
     now = 0;
     config.max_receive_message_size = PEER_MAX_MESSAGE;
-    CHECK(done(sctp_assoc_client(&ends[BROWSER], &config, PAYLOAD_SIZE, &named, now)));
-    CHECK(done(sctp_channels_set_max_message_size(&ends[BROWSER], MAX_MESSAGE)));
+    CHECK(done(sctp_assoc_client(&sides[BROWSER].assoc, &config, PAYLOAD_SIZE, &named, now)));
+    CHECK(done(sctp_channels_set_max_message_size(&sides[BROWSER], MAX_MESSAGE)));
     CHECK(done(sctp_channels_begin(&sides[BROWSER], SCTP_CHANNELS_CLIENT)));
-    CHECK(done(begin_session(&ends[OURS], &sides[OURS], false, PEER_MAX_MESSAGE, now)));
-    CHECK(done(open_wanted(&ends[OURS], &sides[OURS], wanted, 2)));
+    CHECK(done(begin_session(&sides[OURS], false, PEER_MAX_MESSAGE, now)));
+    CHECK(done(open_wanted(&sides[OURS], wanted, 2)));
     exchange();
 }
 
@@ -53,7 +53,7 @@ static void what_was_wanted_is_open(void) {
 }
 
 static sctp_assoc_code send_bytes(int side, size_t size) {
-    return sctp_channels_send(&sides[side], &ends[side], wanted[0].id, false, message, size);
+    return sctp_channels_send(&sides[side], wanted[0].id, false, message, size);
 }
 
 /* One of so many bytes is taken, and comes whole. */
@@ -62,7 +62,7 @@ static void carry(int side, size_t size) {
     fill(message, size, (uint32_t)size);
     CHECK(done(send_bytes(side, size)));
     exchange();
-    CHECK(done(sctp_channels_receive(&sides[!side], &ends[!side], wanted[0].id, came, sizeof came, &length, &text)));
+    CHECK(done(sctp_channels_receive(&sides[!side], wanted[0].id, came, sizeof came, &length, &text)));
     CHECK(length == size && !text && memcmp(came, message, size) == 0);
 }
 
@@ -77,7 +77,7 @@ static void the_greatest_messages_come(void) {
 /* A peer that doesn't keep to the description ends the association, of which the next poll for events tells. */
 static void a_longer_message_ends_it(void) {
     meet_browser();
-    CHECK(done(sctp_channels_set_max_message_size(&ends[BROWSER], 0)));
+    CHECK(done(sctp_channels_set_max_message_size(&sides[BROWSER], 0)));
     CHECK(done(send_bytes(BROWSER, MAX_MESSAGE + 1)));
     exchange();
     CHECK(was_told(OURS, SCTP_CHANNELS_EVENT_LOST, 0));
@@ -87,7 +87,7 @@ static void a_longer_message_ends_it(void) {
 static void a_close_is_told_as_loss(void) {
     meet_browser();
     count[OURS] = 0;
-    CHECK(done(sctp_assoc_close(&ends[OURS])));
+    CHECK(done(sctp_assoc_close(&sides[OURS].assoc)));
     poll_events(OURS);
     CHECK(count[OURS] == 1 && was_told(OURS, SCTP_CHANNELS_EVENT_LOST, 0));
     free_sides();
@@ -102,16 +102,16 @@ static void join_both(void) {
     now = 0;
     for (int side = 0; side < 2; side++)
         CHECK(done(offer_token(&config, &own[side], inits[side], &lengths[side])));
-    CHECK(join_by_init(&ends[OURS], &config, &own[OURS], inits[BROWSER], 19) == SCTP_ASSOC_BAD_INIT);
-    CHECK(!ends[OURS].live);
+    CHECK(join_by_init(&sides[OURS].assoc, &config, &own[OURS], inits[BROWSER], 19) == SCTP_ASSOC_BAD_INIT);
+    CHECK(!sides[OURS].assoc.live);
     for (int side = 0; side < 2; side++)
-        CHECK(done(join_by_init(&ends[side], &config, &own[side], inits[!side], lengths[!side])));
+        CHECK(done(join_by_init(&sides[side].assoc, &config, &own[side], inits[!side], lengths[!side])));
 }
 
 static void tokens_take_the_place_of_the_handshake(void) {
     join_both();
     begin_sides();
-    CHECK(done(open_wanted(&ends[OURS], &sides[OURS], wanted, 1)));
+    CHECK(done(open_wanted(&sides[OURS], wanted, 1)));
     exchange();
     CHECK(wanted[0].id == 0 && was_told(OURS, SCTP_CHANNELS_EVENT_OPENED, 0));
     carry(OURS, 1000);
@@ -125,20 +125,19 @@ static void nobody_acknowledges_the_channel(void) {
     uint32_t type;
     join_both();
     CHECK(done(sctp_channels_begin(&sides[OURS], SCTP_CHANNELS_CLIENT)));
-    CHECK(done(open_wanted(&ends[OURS], &sides[OURS], wanted, 1)));
+    CHECK(done(open_wanted(&sides[OURS], wanted, 1)));
     exchange();
     CHECK(was_told(OURS, SCTP_CHANNELS_EVENT_CONNECTED, 0));
     CHECK(!was_told(OURS, SCTP_CHANNELS_EVENT_OPENED, wanted[0].id));
     CHECK(done(sctp_channels_get_info(&sides[OURS], wanted[0].id, &info)));
     CHECK(info.state == SCTP_CHANNELS_STATE_CONNECTING && done(send_bytes(OURS, 5)));
-    CHECK(done(sctp_channels_close(&sides[OURS], &ends[OURS], wanted[0].id)));
+    CHECK(done(sctp_channels_close(&sides[OURS], wanted[0].id)));
     exchange();
-    while (sctp_assoc_read(&ends[BROWSER], 0, bytes, sizeof bytes, &length, &type) == SCTP_ASSOC_DONE)
+    while (sctp_assoc_read(&sides[BROWSER].assoc, 0, bytes, sizeof bytes, &length, &type) == SCTP_ASSOC_DONE)
         ;
     exchange();
     CHECK(sctp_channels_get_info(&sides[OURS], wanted[0].id, &info) == SCTP_CHANNELS_NO_CHANNEL);
-    CHECK(sctp_channels_free(&sides[OURS]) == SCTP_ASSOC_DONE);
-    free_both(ends);
+    free_sides();
 }
 
 int main(void) {

@@ -93,7 +93,7 @@ static void a_joined_association_is_connected(void) {
     uint64_t timeout_ms;
     CHECK(done(join(&end, 1200, 1, 2)));
     CHECK(is_told(&end, SCTP_ASSOC_EVENT_CONNECTED, 0) && is_told_nothing(&end));
-    CHECK(answers(&end, sctp_assoc_is_established) && deadline(&end) == 0);
+    CHECK(sctp_assoc_is_established(&end) && deadline(&end) == 0);
     sctp_assoc_path_values path = path_of(&end);
     CHECK(path.mtu == 1228 && path.congestion_window == 4380 && path.slow_start_threshold == 1048576);
     CHECK(path.peer_window == 1048576 && path.bytes_in_flight == 0 && path.smoothed_round_trip_ms == 0);
@@ -112,7 +112,7 @@ static void a_heartbeat_is_answered_with_its_information(void) {
 
 /* A server that heard nothing yet is in Closed, and knows no peer. */
 static bool is_new(void) {
-    return answers(&end, sctp_assoc_is_closed) && !answers(&end, sctp_assoc_is_drained) && deadline(&end) == 0 &&
+    return answers(&end, sctp_assoc_is_closed) && !sctp_assoc_is_drained(&end) && deadline(&end) == 0 &&
            path_of(&end).peer_window == 0 && is_told_nothing(&end) && sends(&end, 0, "");
 }
 
@@ -123,7 +123,7 @@ static void an_init_is_answered_by_an_init_ack(void) {
     CHECK(comes(&end, 0, INIT) == SCTP_ASSOC_TAKEN && sends(&end, 0, INIT_ACK));
     CHECK(answers(&end, sctp_assoc_is_closed) && deadline(&end) == 0 && is_told_nothing(&end));
     CHECK(path_of(&end).peer_window == 131072);
-    CHECK(chunks_come(&end, 0, 2, COOKIE_ECHO) == SCTP_ASSOC_TAKEN && answers(&end, sctp_assoc_is_established));
+    CHECK(chunks_come(&end, 0, 2, COOKIE_ECHO) == SCTP_ASSOC_TAKEN && sctp_assoc_is_established(&end));
     CHECK(last_tsn(&end, 0, 2, DATA_0) == 0);
     release(&end);
 }
@@ -164,9 +164,9 @@ static void of_an_init_ack_between_other_ports_the_tag_counts(void) {
     CHECK(chunks_come(&end, 0, 2, REFLECTED_ABORT) == SCTP_ASSOC_OTHER_TAG);
     CHECK(comes(&end, 0, INIT_ACK_OF_OTHER_PORTS) == SCTP_ASSOC_TAKEN && sends(&end, 0, CLIENT_INIT));
     CHECK(path_of(&end).peer_window == 0 && deadline(&end) == 3000);
-    CHECK(!answers(&end, sctp_assoc_is_established) && !answers(&end, sctp_assoc_is_closed));
+    CHECK(!sctp_assoc_is_established(&end) && !answers(&end, sctp_assoc_is_closed));
     CHECK(chunks_come(&end, 0, 1, FORWARD_TSN) == SCTP_ASSOC_TAKEN && sends(&end, 0, ERROR));
-    CHECK(chunks_come(&end, 0, 2, REFLECTED_ABORT) == SCTP_ASSOC_TAKEN && answers(&end, sctp_assoc_is_drained));
+    CHECK(chunks_come(&end, 0, 2, REFLECTED_ABORT) == SCTP_ASSOC_TAKEN && sctp_assoc_is_drained(&end));
     release(&end);
 }
 
@@ -204,7 +204,7 @@ static void cross(sctp_assoc ends[2], uint64_t now) {
 
 static void are_established(sctp_assoc ends[2]) {
     for (int i = 0; i < 2; i++)
-        CHECK(answers(&ends[i], sctp_assoc_is_established) && deadline(&ends[i]) == 0);
+        CHECK(sctp_assoc_is_established(&ends[i]) && deadline(&ends[i]) == 0);
 }
 
 static void two_clients_that_meet_are_established(void) {

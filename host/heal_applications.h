@@ -168,8 +168,8 @@ static void read_stream(int end, int place) {
     size_t length;
     uint32_t type;
     sctp_assoc_code code;
-    while ((code = noted(end, sctp_assoc_read(&ends[end], stream_ids[place], bytes, sizeof bytes, &length, &type))) ==
-           SCTP_ASSOC_DONE)
+    while ((code = noted(end, sctp_assoc_read(&ends[end].assoc, stream_ids[place], bytes, sizeof bytes, &length,
+                                              &type))) == SCTP_ASSOC_DONE)
         look_at(end, place, length);
     CHECK(code != SCTP_ASSOC_NO_ROOM && code != SCTP_ASSOC_EMPTY_SLOT);
     applications[end].streams[place].is_readable = code == SCTP_ASSOC_NO_MEMORY && !is_failed[end];
@@ -213,7 +213,7 @@ static void note_event(int end, const sctp_assoc_event *event) {
         own->is_handshake_failed = true;
         break;
     case SCTP_ASSOC_EVENT_OPENED:
-        done(sctp_assoc_accept_stream(&ends[end], &id));
+        done(sctp_assoc_accept_stream(&ends[end].assoc, &id));
         stream->is_opened_by_peer = true;
         stream->is_closed = false;
         break;
@@ -240,7 +240,7 @@ static void take_events_of(int end) {
     sctp_assoc_event event;
     if (own->is_deaf)
         return;
-    while (went(end, sctp_assoc_watched_poll_event(&ends[end], &watches[end], &event)))
+    while (went(end, sctp_assoc_watched_poll_event(&ends[end].assoc, &watches[end], &event)))
         note_event(end, &event);
     for (int place = 0; place < STREAMS && !own->is_paused; place++)
         if (own->streams[place].is_readable)
@@ -255,8 +255,8 @@ static void set_policy(int end, int place, bool is_reliable) {
         kind = happens(500) ? SCTP_ASSOC_REXMIT : SCTP_ASSOC_TIMED;
         value = (uint32_t)pick(kind == SCTP_ASSOC_REXMIT ? 4 : 3000);
     }
-    noted(end, sctp_assoc_set_reliability(&ends[end], stream_ids[place], applications[end].streams[place].is_unordered,
-                                          kind, value));
+    noted(end, sctp_assoc_set_reliability(&ends[end].assoc, stream_ids[place],
+                                          applications[end].streams[place].is_unordered, kind, value));
 }
 
 static void choose_policy(int end, int place) {
@@ -283,7 +283,7 @@ static void write_one(int end, int place, uint32_t length) {
         set_policy(end, place, true);
     fill(bytes, length, message_count);
     sctp_assoc_code code =
-        noted(end, sctp_assoc_write(&ends[end], stream_ids[place], SCTP_ASSOC_PPID_BINARY, bytes, length));
+        noted(end, sctp_assoc_write(&ends[end].assoc, stream_ids[place], SCTP_ASSOC_PPID_BINARY, bytes, length));
     if (code != SCTP_ASSOC_DONE)
         return;
     bool is_reliable = stream->is_reliable || is_first;
@@ -297,7 +297,8 @@ static void write_one(int end, int place, uint32_t length) {
 /* Opens a stream unless it is there. Answers the code. */
 static sctp_assoc_code open_one(int end, int place) {
     struct stream *stream = &applications[end].streams[place];
-    sctp_assoc_code code = noted(end, sctp_assoc_open_stream(&ends[end], stream_ids[place], SCTP_ASSOC_PPID_BINARY));
+    sctp_assoc_code code =
+        noted(end, sctp_assoc_open_stream(&ends[end].assoc, stream_ids[place], SCTP_ASSOC_PPID_BINARY));
     if (code == SCTP_ASSOC_DONE) {
         say("%c opens stream %u", "AB"[end], stream_ids[place]);
         stream->has_begun = stream->has_loose = stream->is_closed = false;
@@ -338,7 +339,7 @@ static void close_one(int end) {
     if (set.is_gentle &&
         (applications[!end].streams[place].unread_bytes > 0 || !(stream->has_begun || stream->is_opened_by_peer)))
         way = 1;
-    if (noted(end, ways[way].call(&ends[end], stream_ids[place])) != SCTP_ASSOC_DONE)
+    if (noted(end, ways[way].call(&ends[end].assoc, stream_ids[place])) != SCTP_ASSOC_DONE)
         return;
     say("%c %s stream %u", "AB"[end], ways[way].name, stream_ids[place]);
     if (way != 1)
@@ -357,18 +358,16 @@ static void stop_reading(int end) {
 /* Something of what an application does. One that takes no events does nothing else. */
 static void act(int end) {
     struct application *own = &applications[end];
-    bool is_established;
     if (is_failed[end] || own->is_deaf)
         return;
-    CHECK(done(sctp_assoc_is_established(&ends[end], &is_established)));
-    if (is_established && !own->has_shut_down) {
+    if (sctp_assoc_is_established(&ends[end].assoc) && !own->has_shut_down) {
         if (happens(set.writes))
             write_some(end);
         if (happens(set.closes))
             close_one(end);
         bool are_connected = applications[A].is_connected && applications[B].is_connected;
         if (happens(set.shutdowns) && (are_connected || !set.shuts_down_connected) &&
-            noted(end, sctp_assoc_shutdown(&ends[end])) == SCTP_ASSOC_DONE) {
+            noted(end, sctp_assoc_shutdown(&ends[end].assoc)) == SCTP_ASSOC_DONE) {
             say("%c shuts down", "AB"[end]);
             own->has_shut_down = true;
         }

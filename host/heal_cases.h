@@ -42,7 +42,7 @@ static void crossing(void) {
     pass(1000);
     CHECK(writes(B, STREAM, 5));
     pass(1000);
-    CHECK(sctp_assoc_close_stream(&ends[A], STREAM) == SCTP_ASSOC_DONE && closes(B, STREAM));
+    CHECK(sctp_assoc_close_stream(&ends[A].assoc, STREAM) == SCTP_ASSOC_DONE && closes(B, STREAM));
     turn(A);
     pass(100);
     HOLDS(told(B, SCTP_ASSOC_EVENT_RESET_COMPLETE, STREAM) == 1);
@@ -57,7 +57,7 @@ static void crossing_unlost(void) {
     pass(1000);
     CHECK(writes(B, STREAM, 5) && opens(A, OTHER_STREAM) && writes(A, OTHER_STREAM, 5));
     pass(1000);
-    CHECK(sctp_assoc_close_stream(&ends[A], STREAM) == SCTP_ASSOC_DONE && closes(B, STREAM));
+    CHECK(sctp_assoc_close_stream(&ends[A].assoc, STREAM) == SCTP_ASSOC_DONE && closes(B, STREAM));
     turn(A);
     pass(100);
     HOLDS(are_told_complete(STREAM, 1));
@@ -254,7 +254,7 @@ static uint64_t lose_flight(bool (*is_large)(const sctp_assoc_path_values *path)
     sctp_assoc_path_values path;
     join();
     CHECK(opens(A, STREAM) && writes_many(A, STREAM, LONG, 100));
-    for (int i = 0; done(sctp_assoc_path(&ends[A], &path)) && !is_large(&path); i++) {
+    for (int i = 0; done(sctp_assoc_path(&ends[A].assoc, &path)) && !is_large(&path); i++) {
         CHECK(i < 2000);
         pass(1);
     }
@@ -316,7 +316,7 @@ static void no_rto(void) {
     sctp_assoc_token token;
     config.rto_initial_ms = config.rto_min_ms = config.rto_max_ms = 0;
     CHECK(done(sctp_assoc_make_token(&config, 1, 100, &token)));
-    HOLDS(sctp_assoc_joined(&ends[A], &config, PAYLOAD_SIZE, &token, &token) == SCTP_ASSOC_BAD_TIMEOUT);
+    HOLDS(sctp_assoc_joined(&ends[A].assoc, &config, PAYLOAD_SIZE, &token, &token) == SCTP_ASSOC_BAD_TIMEOUT);
     config.rto_initial_ms = config.rto_min_ms = config.rto_max_ms = 1;
     join();
     is_black = true;
@@ -347,12 +347,12 @@ static void hand_over(int from, uint8_t lost_type) {
     static uint8_t datagram[SCTP_ASSOC_MAX_DATAGRAM];
     size_t length;
     uint32_t fate;
-    while (
-        done(sctp_assoc_watched_poll_transmit(&ends[from], &watches[from], now, datagram, sizeof datagram, &length))) {
+    while (done(
+        sctp_assoc_watched_poll_transmit(&ends[from].assoc, &watches[from], now, datagram, sizeof datagram, &length))) {
         show(first_chunk(datagram) == lost_type ? "is lost" : "comes", from, datagram, length);
         if (first_chunk(datagram) != lost_type)
-            CHECK(
-                done(sctp_assoc_watched_handle_datagram(&ends[!from], &watches[!from], now, datagram, length, &fate)));
+            CHECK(done(
+                sctp_assoc_watched_handle_datagram(&ends[!from].assoc, &watches[!from], now, datagram, length, &fate)));
     }
 }
 
@@ -362,18 +362,19 @@ static void two_clients(void) {
     size_t length;
     uint32_t fate;
     meet(true);
-    CHECK(done(sctp_assoc_watched_poll_transmit(&ends[A], &watches[A], now, init, sizeof init, &length)));
-    CHECK(done(sctp_assoc_watched_handle_datagram(&ends[B], &watches[B], now, init, length, &fate)));
+    CHECK(done(sctp_assoc_watched_poll_transmit(&ends[A].assoc, &watches[A], now, init, sizeof init, &length)));
+    CHECK(done(sctp_assoc_watched_handle_datagram(&ends[B].assoc, &watches[B], now, init, length, &fate)));
     hand_over(B, UINT8_MAX);
     hand_over(A, 10); /* COOKIE ECHO */
     hand_over(B, UINT8_MAX);
     hand_over(A, 11); /* COOKIE ACK */
     CHECK(is_established(A) && !is_established(B) && opens(A, STREAM));
-    CHECK(done(sctp_assoc_set_reliability(&ends[A], STREAM, true, SCTP_ASSOC_RELIABLE, 0)) && accepts(A, STREAM, 4));
+    CHECK(done(sctp_assoc_set_reliability(&ends[A].assoc, STREAM, true, SCTP_ASSOC_RELIABLE, 0)) &&
+          accepts(A, STREAM, 4));
     hand_over(A, UINT8_MAX);
     take_case_events(B);
     CHECK(read_counts[B][STREAM] == 1);
-    CHECK(done(sctp_assoc_watched_handle_datagram(&ends[B], &watches[B], now, init, length, &fate)));
+    CHECK(done(sctp_assoc_watched_handle_datagram(&ends[B].assoc, &watches[B], now, init, length, &fate)));
     pass(60000);
     HOLDS(read_counts[B][STREAM] == 1);
     HOLDS(goes_on() && is_established(A) && is_established(B));
@@ -387,7 +388,7 @@ static void shut_early(void) {
     turn(A);
     pass(100);
     CHECK(!is_established(A) && opens(B, STREAM) && writes(B, STREAM, 5));
-    CHECK(sctp_assoc_shutdown(&ends[B]) == SCTP_ASSOC_DONE);
+    CHECK(sctp_assoc_shutdown(&ends[B].assoc) == SCTP_ASSOC_DONE);
     turn(B);
     lose(NULL);
     pass(600000);
@@ -401,7 +402,7 @@ static void shut_early(void) {
 static void lost_complete(void) {
     join();
     lose(loses_first_complete);
-    CHECK(sctp_assoc_shutdown(&ends[A]) == SCTP_ASSOC_DONE);
+    CHECK(sctp_assoc_shutdown(&ends[A].assoc) == SCTP_ASSOC_DONE);
     turn(A);
     pass(600000);
     CHECK(number_lost >= 1);

@@ -4,11 +4,8 @@
 
 #include "heal_steps.h"
 
-#include "sctp_channels.h"
-
 #define CHANNELS 8 /* identifiers of channels lie below it */
 
-static sctp_channels sides[2];
 static unsigned channel_told[2][SCTP_CHANNELS_EVENT_HANDSHAKE_FAILED + 1][CHANNELS];
 static size_t received[2][CHANNELS];
 static bool closes_at_message; /* B closes a channel at its first message */
@@ -17,19 +14,18 @@ static const sctp_channels_options ordered_reliable = SCTP_CHANNELS_ORDERED_RELI
 static void receive_all(int side, uint16_t channel) {
     size_t length;
     bool is_text;
-    while (sctp_channels_receive(&sides[side], &ends[side], channel, bytes, sizeof bytes, &length, &is_text) ==
-           SCTP_ASSOC_DONE) {
+    while (sctp_channels_receive(&ends[side], channel, bytes, sizeof bytes, &length, &is_text) == SCTP_ASSOC_DONE) {
         received[side][channel]++;
         if (side == B && closes_at_message) {
             closes_at_message = false;
-            CHECK(done(sctp_channels_close(&sides[B], &ends[B], channel)));
+            CHECK(done(sctp_channels_close(&ends[B], channel)));
         }
     }
 }
 
 static void take_channel_events(int side) {
     sctp_channels_event event;
-    while (done(sctp_channels_poll_event(&sides[side], &ends[side], &event))) {
+    while (done(sctp_channels_poll_event(&ends[side], &event))) {
         CHECK(event.kind <= SCTP_CHANNELS_EVENT_HANDSHAKE_FAILED && event.id < CHANNELS);
         channel_told[side][event.kind][event.id]++;
         if (event.kind == SCTP_CHANNELS_EVENT_MESSAGE)
@@ -42,31 +38,25 @@ static void take_channel_events(int side) {
 static void join_sides(void) {
     static const struct run channel_run = {take_channel_events, send_in_case, look_at_nothing};
     join_for(&channel_run);
-    CHECK(done(sctp_channels_begin(&sides[A], SCTP_CHANNELS_CLIENT)));
-    CHECK(done(sctp_channels_begin(&sides[B], SCTP_CHANNELS_SERVER)));
+    CHECK(done(sctp_channels_begin(&ends[A], SCTP_CHANNELS_CLIENT)));
+    CHECK(done(sctp_channels_begin(&ends[B], SCTP_CHANNELS_SERVER)));
     memset(channel_told, 0, sizeof channel_told);
     memset(received, 0, sizeof received);
     closes_at_message = false;
     turn_both();
 }
 
-static void part_sides(void) {
-    for (int side = 0; side < 2; side++)
-        CHECK(sctp_channels_free(&sides[side]) == SCTP_ASSOC_DONE);
-    end_pair();
-}
-
 /* Whether A opens a channel, whose identifier is answered. */
 static bool opens_channel(sctp_channels_options options, uint16_t *id) {
-    bool is_opened = sctp_channels_open(&sides[A], &ends[A], &options, (const uint8_t *)"channel", 7, NULL, 0, id) ==
-                     SCTP_ASSOC_DONE;
+    bool is_opened =
+        sctp_channels_open(&ends[A], &options, (const uint8_t *)"channel", 7, NULL, 0, id) == SCTP_ASSOC_DONE;
     turn(A);
     return is_opened;
 }
 
 static bool sends(int side, uint16_t channel, size_t length) {
     memset(bytes, 7, length);
-    bool is_sent = sctp_channels_send(&sides[side], &ends[side], channel, false, bytes, length) == SCTP_ASSOC_DONE;
+    bool is_sent = sctp_channels_send(&ends[side], channel, false, bytes, length) == SCTP_ASSOC_DONE;
     turn(side);
     return is_sent;
 }
@@ -92,7 +82,7 @@ static void channels_cancelled(void) {
     HOLDS(sends(A, chat, 5));
     pass(1000);
     HOLDS(received[B][chat] == 1);
-    part_sides();
+    end_pair();
 }
 
 static bool loses_second_request_of_b(int from, const uint8_t *datagram, size_t length) {
@@ -107,7 +97,7 @@ static void channels_reused(void) {
     CHECK(opens_channel(ordered_reliable, &first));
     pass(1000);
     lose(loses_second_request_of_b);
-    CHECK(done(sctp_channels_close(&sides[B], &ends[B], first)));
+    CHECK(done(sctp_channels_close(&ends[B], first)));
     turn(B);
     pass(100);
     HOLDS(is_told_closed(A, first));
@@ -117,13 +107,13 @@ static void channels_reused(void) {
     HOLDS(sends(A, second, 5));
     pass(1000);
     HOLDS(received[B][second] == 1);
-    part_sides();
+    end_pair();
 }
 
 /* ---- Each way in which a channel of A ends ---- */
 
 static void close_at(int side, uint16_t id) {
-    CHECK(done(sctp_channels_close(&sides[side], &ends[side], id)));
+    CHECK(done(sctp_channels_close(&ends[side], id)));
 }
 
 static void by_opener(uint16_t id) {
@@ -185,7 +175,7 @@ static void ends_and_is_opened_anew(void (*end)(uint16_t id), uint64_t opened_fo
     pass(5000);
     HOLDS(received[A][id] == before[A] + 1 && received[B][id] == before[B] + 1);
     HOLDS(is_told_closed(A, id) && is_told_closed(B, id) && goes_on());
-    part_sides();
+    end_pair();
 }
 
 static void channels_end(void) {
@@ -205,14 +195,14 @@ static void channels_negotiated(void) {
     join_sides();
     CHECK(opens_channel(negotiated, &id) && id == 4);
     pass(1000);
-    CHECK(done(sctp_channels_close(&sides[A], &ends[A], id)));
+    CHECK(done(sctp_channels_close(&ends[A], id)));
     turn(A);
     pass(60000);
     HOLDS(is_told_closed(A, id));
     HOLDS(opens_channel(negotiated, &id));
     pass(1000);
     HOLDS(channel_told[A][SCTP_CHANNELS_EVENT_OPENED][id] == 2);
-    part_sides();
+    end_pair();
 }
 
 #endif

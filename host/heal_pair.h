@@ -5,6 +5,8 @@
 
 #include "support.h"
 
+#include "sctp_channels.h"
+
 #include <stdarg.h>
 
 #define SECOND UINT64_C(1000000000)
@@ -29,7 +31,7 @@ struct datagram {
     uint8_t bytes[];
 };
 
-static sctp_assoc ends[2];
+static sctp_peer ends[2]; /* of channels only the tests of those know */
 static sctp_assoc_watch watches[2];
 static bool is_failed[2];   /* for want of memory */
 static bool may_be_refused; /* memory, in this run */
@@ -130,7 +132,7 @@ static inline struct datagram *take_first(void) {
 static inline sctp_assoc_code noted(int end, sctp_assoc_code code) {
     if (code == SCTP_ASSOC_NO_MEMORY || code == SCTP_ASSOC_FAILED) {
         CHECK(may_be_refused);
-        CHECK(sctp_assoc_is_failed(&ends[end], &is_failed[end]) == SCTP_ASSOC_DONE);
+        CHECK(sctp_assoc_is_failed(&ends[end].assoc, &is_failed[end]) == SCTP_ASSOC_DONE);
         CHECK(is_failed[end] || code == SCTP_ASSOC_NO_MEMORY);
     }
     return code;
@@ -145,14 +147,14 @@ static inline bool went(int end, sctp_assoc_code code) {
 static inline void expire(int end) {
     expiries_at_once[end] = last_expiry[end] == now ? expiries_at_once[end] + 1 : 1;
     last_expiry[end] = now;
-    went(end, sctp_assoc_watched_handle_timeout(&ends[end], &watches[end], now));
+    went(end, sctp_assoc_watched_handle_timeout(&ends[end].assoc, &watches[end], now));
 }
 
 static inline void send_all(int end) {
     static uint8_t datagram[SCTP_ASSOC_MAX_DATAGRAM];
     size_t length, count = 0;
-    while (went(end,
-                sctp_assoc_watched_poll_transmit(&ends[end], &watches[end], now, datagram, sizeof datagram, &length))) {
+    while (went(end, sctp_assoc_watched_poll_transmit(&ends[end].assoc, &watches[end], now, datagram, sizeof datagram,
+                                                      &length))) {
         CHECK(++count < MOST_OF_A_TURN);
         run->send(end, datagram, length);
     }
@@ -162,7 +164,7 @@ static inline void turn(int end) {
     uint64_t due;
     if (is_failed[end])
         return;
-    if (done(sctp_assoc_poll_timeout(&ends[end], &due)) && due <= now)
+    if (done(sctp_assoc_poll_timeout(&ends[end].assoc, &due)) && due <= now)
         expire(end);
     run->take_events(end);
     send_all(end);
@@ -178,7 +180,7 @@ static inline void turn_both(void) {
 /* When the timer of an end expires next. */
 static inline uint64_t due_at(int end) {
     uint64_t due;
-    return !is_failed[end] && done(sctp_assoc_poll_timeout(&ends[end], &due)) ? due : NEVER;
+    return !is_failed[end] && done(sctp_assoc_poll_timeout(&ends[end].assoc, &due)) ? due : NEVER;
 }
 
 /* The moment of the next timer or datagram, unless another one comes first. */
@@ -201,8 +203,8 @@ static inline void deliver_due(void) {
         uint32_t fate;
         if (!is_failed[end]) {
             show("comes", !end, came->bytes, came->length);
-            went(end,
-                 sctp_assoc_watched_handle_datagram(&ends[end], &watches[end], now, came->bytes, came->length, &fate));
+            went(end, sctp_assoc_watched_handle_datagram(&ends[end].assoc, &watches[end], now, came->bytes,
+                                                         came->length, &fate));
         }
         free(came);
         turn(end);
@@ -237,7 +239,9 @@ static inline void begin_pair(const struct run *begun) {
 static inline void end_pair(void) {
     while (first_on_way)
         free(take_first());
-    free_both(ends);
+    for (int end = 0; end < 2; end++)
+        CHECK(sctp_peer_free(&ends[end]) == SCTP_ASSOC_DONE);
+    CHECK(blocks == 0 && heap_bytes == 0);
 }
 
 #endif

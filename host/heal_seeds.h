@@ -184,17 +184,14 @@ static void close_each(int end) {
     for (int place = end; place < set.streams; place += 2) {
         const struct stream *stream = &applications[end].streams[place];
         if (!stream->is_stopping && !stream->is_reset_failed &&
-            sctp_assoc_close_stream(&ends[end], stream_ids[place]) == SCTP_ASSOC_DONE)
+            sctp_assoc_close_stream(&ends[end].assoc, stream_ids[place]) == SCTP_ASSOC_DONE)
             note_close(end, place);
     }
 }
 
 /* A message goes over each stream in both directions, and then each stream is reset. */
 static void judge_use(void) {
-    bool is_established[2];
-    for (int end = 0; end < 2; end++)
-        CHECK(done(sctp_assoc_is_established(&ends[end], &is_established[end])));
-    if (!is_established[A] || !is_established[B] || is_any_failed())
+    if (!sctp_assoc_is_established(&ends[A].assoc) || !sctp_assoc_is_established(&ends[B].assoc) || is_any_failed())
         return;
     for (int pass = 0; pass < 2 && found == WELL; pass++) {
         uint64_t from = now;
@@ -336,11 +333,11 @@ static void make_ends(void) {
     for (int end = 0; end < 2; end++) {
         bool is_client = end == A || set.join == TWO_CLIENTS;
         if (set.join == JOINED)
-            CHECK(
-                done(sctp_assoc_joined(&ends[end], &configs[end], set.max_payload_size, &tokens[end], &tokens[!end])));
+            CHECK(done(
+                sctp_assoc_joined(&ends[end].assoc, &configs[end], set.max_payload_size, &tokens[end], &tokens[!end])));
         else
             CHECK(done((is_client ? sctp_assoc_client : sctp_assoc_server)(
-                &ends[end], &configs[end], set.max_payload_size, &identities[end], now)));
+                &ends[end].assoc, &configs[end], set.max_payload_size, &identities[end], now)));
         applications[end].next_act = now + pick(SECOND);
     }
 }

@@ -34,18 +34,18 @@ static inline void read_all(int end) {
     size_t length;
     uint32_t type;
     for (uint16_t stream = 0; stream < CASE_STREAMS; stream++)
-        while (sctp_assoc_read(&ends[end], stream, bytes, sizeof bytes, &length, &type) == SCTP_ASSOC_DONE)
+        while (sctp_assoc_read(&ends[end].assoc, stream, bytes, sizeof bytes, &length, &type) == SCTP_ASSOC_DONE)
             read_counts[end][stream]++;
 }
 
 static inline void take_case_events(int end) {
     sctp_assoc_event event;
     uint16_t accepted;
-    while (done(sctp_assoc_watched_poll_event(&ends[end], &watches[end], &event))) {
+    while (done(sctp_assoc_watched_poll_event(&ends[end].assoc, &watches[end], &event))) {
         CHECK(event.kind < SCTP_ASSOC_EVENT_OTHER && event.stream < CASE_STREAMS);
         told_counts[end][event.kind][event.stream]++;
         if (event.kind == SCTP_ASSOC_EVENT_OPENED)
-            done(sctp_assoc_accept_stream(&ends[end], &accepted));
+            done(sctp_assoc_accept_stream(&ends[end].assoc, &accepted));
         if (event.kind != SCTP_ASSOC_EVENT_DATAGRAM_RECEIVED && event.kind != SCTP_ASSOC_EVENT_READABLE)
             say("%c is told event %u of stream %u, reason %u", "AB"[end], event.kind, event.stream, event.reason);
     }
@@ -85,7 +85,7 @@ static inline void join_for(const struct run *case_run) {
     for (int end = 0; end < 2; end++)
         CHECK(done(sctp_assoc_make_token(&config, (uint32_t)end + 1, 100 + 400 * (uint32_t)end, &tokens[end])));
     for (int end = 0; end < 2; end++)
-        CHECK(done(sctp_assoc_joined(&ends[end], &config, PAYLOAD_SIZE, &tokens[end], &tokens[!end])));
+        CHECK(done(sctp_assoc_joined(&ends[end].assoc, &config, PAYLOAD_SIZE, &tokens[end], &tokens[!end])));
 }
 
 static const struct run case_run = {take_case_events, send_in_case, look_at_nothing};
@@ -100,8 +100,8 @@ static inline void join(void) {
 static inline void meet(bool are_both_clients) {
     sctp_assoc_identity identities[2] = {identity(1), identity(2)};
     begin_case(&case_run);
-    CHECK(done(sctp_assoc_client(&ends[A], &config, PAYLOAD_SIZE, &identities[A], now)));
-    CHECK(done((are_both_clients ? sctp_assoc_client : sctp_assoc_server)(&ends[B], &config, PAYLOAD_SIZE,
+    CHECK(done(sctp_assoc_client(&ends[A].assoc, &config, PAYLOAD_SIZE, &identities[A], now)));
+    CHECK(done((are_both_clients ? sctp_assoc_client : sctp_assoc_server)(&ends[B].assoc, &config, PAYLOAD_SIZE,
                                                                           &identities[B], now)));
 }
 
@@ -112,12 +112,12 @@ static inline void pass(uint64_t ms) {
 }
 
 static inline bool opens(int end, uint16_t stream) {
-    return sctp_assoc_open_stream(&ends[end], stream, SCTP_ASSOC_PPID_BINARY) == SCTP_ASSOC_DONE;
+    return sctp_assoc_open_stream(&ends[end].assoc, stream, SCTP_ASSOC_PPID_BINARY) == SCTP_ASSOC_DONE;
 }
 
 static inline bool accepts(int end, uint16_t stream, size_t length) {
     memset(bytes, 7, length);
-    return sctp_assoc_write(&ends[end], stream, SCTP_ASSOC_PPID_OF_STREAM, bytes, length) == SCTP_ASSOC_DONE;
+    return sctp_assoc_write(&ends[end].assoc, stream, SCTP_ASSOC_PPID_OF_STREAM, bytes, length) == SCTP_ASSOC_DONE;
 }
 
 /* Writes a message, which goes out as far as the windows allow. */
@@ -135,23 +135,21 @@ static inline bool writes_many(int end, uint16_t stream, size_t length, unsigned
 }
 
 static inline bool closes(int end, uint16_t stream) {
-    bool is_closed = sctp_assoc_close_stream(&ends[end], stream) == SCTP_ASSOC_DONE;
+    bool is_closed = sctp_assoc_close_stream(&ends[end].assoc, stream) == SCTP_ASSOC_DONE;
     turn(end);
     return is_closed;
 }
 
 /* Messages that are written from here on go out once, or as often as it takes. */
 static inline void set_reliable(int end, uint16_t stream, bool is_reliable) {
-    CHECK(done(sctp_assoc_set_reliability(&ends[end], stream, false,
+    CHECK(done(sctp_assoc_set_reliability(&ends[end].assoc, stream, false,
                                           is_reliable ? SCTP_ASSOC_RELIABLE : SCTP_ASSOC_REXMIT, 0)));
 }
 
 /* ---- What is so of an end ---- */
 
 static inline bool is_established(int end) {
-    bool answer = false;
-    CHECK(done(sctp_assoc_is_established(&ends[end], &answer)));
-    return answer;
+    return sctp_assoc_is_established(&ends[end].assoc);
 }
 
 static inline bool goes_on(void) {
@@ -164,7 +162,7 @@ static inline bool are_shut_down(void) {
 
 static inline bool is_acknowledged(int end, uint16_t stream) {
     size_t buffered;
-    return sctp_assoc_buffered_amount(&ends[end], stream, &buffered) == SCTP_ASSOC_DONE && buffered == 0;
+    return sctp_assoc_buffered_amount(&ends[end].assoc, stream, &buffered) == SCTP_ASSOC_DONE && buffered == 0;
 }
 
 /* Lives until all is acknowledged that an end wrote on the stream, and so long at most. */

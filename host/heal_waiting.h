@@ -19,14 +19,14 @@ static bool is_any_ending(void) {
 
 static bool is_unknown(int end, int place) {
     sctp_assoc_counters counters;
-    return sctp_assoc_stream_stats(&ends[end], stream_ids[place], &counters) == SCTP_ASSOC_NO_STREAM;
+    return sctp_assoc_stream_stats(&ends[end].assoc, stream_ids[place], &counters) == SCTP_ASSOC_NO_STREAM;
 }
 
 /* Of a stream at an end that is neither failed nor over. A reset is not waited for where one end shuts down. */
 static enum kind what_waits_on(int end, int place) {
     const struct stream *stream = &applications[end].streams[place];
     size_t buffered;
-    if (sctp_assoc_buffered_amount(&ends[end], stream_ids[place], &buffered) == SCTP_ASSOC_DONE && buffered > 0)
+    if (sctp_assoc_buffered_amount(&ends[end].assoc, stream_ids[place], &buffered) == SCTP_ASSOC_DONE && buffered > 0)
         return BUFFERED;
     if (is_any_ending())
         return WELL;
@@ -128,10 +128,10 @@ static void note_over(int end) {
 /* Looks at an end after each of its turns. One that is drained tells its loss also where nobody took events. */
 static void look_at_end(int end) {
     sctp_assoc_path_values path;
-    bool is_drained;
+    bool is_drained = sctp_assoc_is_drained(&ends[end].assoc);
     if (is_failed[end])
         return;
-    CHECK(done(sctp_assoc_is_drained(&ends[end], &is_drained)) && done(sctp_assoc_path(&ends[end], &path)));
+    CHECK(done(sctp_assoc_path(&ends[end].assoc, &path)));
     if (is_drained && applications[end].is_deaf) {
         applications[end].is_deaf = false;
         take_events_of(end);

@@ -290,18 +290,18 @@ static bool is(sctp_assoc_code (*question)(sctp_assoc *, bool *)) {
 static const char *find_state(void) {
     if (is(sctp_assoc_is_closed))
         return "Closed";
-    if (is(sctp_assoc_is_established))
+    if (sctp_assoc_is_established(&end))
         return "Established";
     if (!is(sctp_assoc_is_closing)) {
         packet_comes("to-2 COOKIE_ACK");
-        return is(sctp_assoc_is_established) ? "CookieEchoed" : "CookieWait";
+        return sctp_assoc_is_established(&end) ? "CookieEchoed" : "CookieWait";
     }
     packet_comes("to-2 SHUTDOWN_COMPLETE");
-    if (is(sctp_assoc_is_drained))
+    if (sctp_assoc_is_drained(&end))
         return "ShutdownAckSent";
     packet_comes("to-2 SHUTDOWN_ACK");
     look_at_sent(note_chunk);
-    if (is(sctp_assoc_is_drained))
+    if (sctp_assoc_is_drained(&end))
         return "ShutdownSent";
     memset(was_sent, 0, sizeof was_sent);
     packet_comes("to-2 SACK_102");
@@ -313,7 +313,7 @@ static const char *find_state(void) {
 /* The last TSN in order, by the SACK that answers old DATA, if one does: the handshake ends before that. */
 static uint64_t find_last_tsn(void) {
     last_tsn_told = NOT_TOLD;
-    if (!is(sctp_assoc_is_established) && !is(sctp_assoc_is_closing))
+    if (!sctp_assoc_is_established(&end) && !is(sctp_assoc_is_closing))
         packet_comes("to-2 COOKIE_ECHO");
     packet_comes("to-2 DATA_499");
     look_at_sent(note_chunk);
@@ -342,7 +342,7 @@ static struct standing stand(void) {
     CHECK(done(sctp_assoc_stats(&end, &totals)));
     standing.datas = totals.data_chunks;
     standing.sacks = totals.sacks;
-    CHECK(!is(sctp_assoc_is_failed) && is(sctp_assoc_is_drained) == was_told_lost);
+    CHECK(!is(sctp_assoc_is_failed) && sctp_assoc_is_drained(&end) == was_told_lost);
     CHECK(is(sctp_assoc_is_closed) || !was_told_lost);
     return standing;
 }
@@ -414,7 +414,7 @@ static void each_way_leads_to_its_state(void) {
     for (size_t i = 0; i < COUNT_OF(ways); i++) {
         tried = ways[i].name;
         lead(&ways[i]);
-        CHECK(is(sctp_assoc_is_drained) == is_lost(&ways[i]));
+        CHECK(sctp_assoc_is_drained(&end) == is_lost(&ways[i]));
         CHECK(strcmp(find_state(), ways[i].state) == 0);
         release(&end);
         tried = "";

@@ -8,11 +8,19 @@
 #define FIELD(name, field) printf("%s.%s %zu %zu\n", #name, #field, offsetof(name, field), sizeof(((name *)0)->field))
 
 static void slot(void) {
-    sctp_channels filled = SCTP_CHANNELS_EMPTY;
+    sctp_channels filled = {0, 0};
     (void)filled;
     STRUCT(sctp_channels);
     FIELD(sctp_channels, at);
     FIELD(sctp_channels, live);
+}
+
+static void peer(void) {
+    sctp_peer filled = SCTP_PEER_EMPTY;
+    (void)filled;
+    STRUCT(sctp_peer);
+    FIELD(sctp_peer, assoc);
+    FIELD(sctp_peer, channels);
 }
 
 static void options(void) {
@@ -52,6 +60,7 @@ static void info(void) {
 
 int main(void) {
     slot();
+    peer();
     options();
     event();
     info();

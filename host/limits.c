@@ -21,13 +21,13 @@ static void receive_limit(uint32_t limit) {
     deliver(B, 0);
     if (limit >= 2) {
         read_bytes('h', 2);
-        CHECK(answers(B, sctp_assoc_is_established) && !answers(B, sctp_assoc_is_closed));
+        CHECK(sctp_assoc_is_established(&ends[B]) && !answers(B, sctp_assoc_is_closed));
     } else {
         uint8_t byte;
         size_t length;
         uint32_t type;
         CHECK(sctp_assoc_read(&ends[B], STREAM, &byte, 1, &length, &type) == SCTP_ASSOC_NO_STREAM);
-        CHECK(!answers(B, sctp_assoc_is_established) && answers(B, sctp_assoc_is_closed));
+        CHECK(!sctp_assoc_is_established(&ends[B]) && answers(B, sctp_assoc_is_closed));
     }
     free_both(ends);
 }

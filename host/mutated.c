@@ -170,9 +170,10 @@ static void look(int end, struct view *view) {
     view->bytes = heap_bytes;
     view->is_due = done(sctp_assoc_poll_timeout(slot, &view->due));
     CHECK(done(sctp_assoc_rto(slot, &view->rto)) && done(sctp_assoc_stats(slot, &view->totals)));
-    CHECK(done(sctp_assoc_is_established(slot, &view->is_established)));
+    view->is_established = sctp_assoc_is_established(slot);
+    view->is_drained = sctp_assoc_is_drained(slot);
     CHECK(done(sctp_assoc_is_closing(slot, &view->is_closing)) && done(sctp_assoc_is_closed(slot, &view->is_closed)));
-    CHECK(done(sctp_assoc_is_drained(slot, &view->is_drained)) && done(sctp_assoc_is_failed(slot, &view->is_failed)));
+    CHECK(done(sctp_assoc_is_failed(slot, &view->is_failed)));
     CHECK(!view->is_failed && view->is_drained == is_lost[end] && (view->is_closed || !view->is_drained));
 }
 
@@ -312,12 +313,10 @@ static bool is_done(sctp_assoc_code code) {
 
 static bool can_write(int end) {
     size_t sum = 0, buffered;
-    bool is_established;
-    CHECK(done(sctp_assoc_is_established(&ends[end], &is_established)));
     for (int kind = 0; kind < KINDS; kind++)
         if (sctp_assoc_buffered_amount(&ends[end], (uint16_t)(2 * kind + end), &buffered) == SCTP_ASSOC_DONE)
             sum += buffered;
-    return is_established && sum < MOST_WAITING && unread_count[end] < MOST_UNREAD &&
+    return sctp_assoc_is_established(&ends[end]) && sum < MOST_WAITING && unread_count[end] < MOST_UNREAD &&
            written_count[end] < MOST_MESSAGES;
 }
 

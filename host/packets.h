@@ -5,6 +5,8 @@
 
 #include "support.h"
 
+#include "sctp_channels.h"
+
 #define STREAM 1
 #define OWN_TAG 1
 #define PEER_TAG 2
@@ -21,7 +23,7 @@ struct block {
     uint16_t start, end;
 };
 
-static sctp_assoc end;
+static sctp_peer end;      /* of channels only the tests of those know */
 static struct packet sent; /* what the end sent last */
 
 static inline uint32_t get(const uint8_t *at, int width) {
@@ -65,12 +67,12 @@ static inline struct packet sack(uint32_t tag, uint32_t cumulative, uint32_t win
 static inline void comes(struct packet packet, uint64_t now) {
     uint32_t fate;
     seal(packet.bytes, packet.length);
-    CHECK(done(sctp_assoc_handle_datagram(&end, now, packet.bytes, packet.length, &fate)));
+    CHECK(done(sctp_assoc_handle_datagram(&end.assoc, now, packet.bytes, packet.length, &fate)));
     CHECK(fate == SCTP_ASSOC_TAKEN);
 }
 
 static inline bool polls(uint64_t now) {
-    return done(sctp_assoc_poll_transmit(&end, now, sent.bytes, sizeof sent.bytes, &sent.length));
+    return done(sctp_assoc_poll_transmit(&end.assoc, now, sent.bytes, sizeof sent.bytes, &sent.length));
 }
 
 /* An end whose first TSN is this one, whose peer's is another, and the bytes that may wait here and at the peer. */
@@ -85,31 +87,32 @@ static inline void begin(uint32_t max_piece, uint32_t own_tsn, uint32_t peer_tsn
     peer.window = peer_window;
     config.max_receive_buffer_size = buffer;
     config.profile = kept_rules;
-    CHECK(done(sctp_assoc_joined(&end, &config, max_piece, &own, &peer)));
+    CHECK(done(sctp_assoc_joined(&end.assoc, &config, max_piece, &own, &peer)));
 }
 
 static inline void finish(void) {
-    CHECK(done(sctp_assoc_free(&end)) && blocks == 0);
+    CHECK(done(sctp_peer_free(&end)) && blocks == 0);
 }
 
 /* So many messages of these bytes wait on the stream, which is opened. */
 static inline void write_messages(size_t count, const char *bytes) {
-    CHECK(done(sctp_assoc_open_stream(&end, STREAM, SCTP_ASSOC_PPID_BINARY)));
+    CHECK(done(sctp_assoc_open_stream(&end.assoc, STREAM, SCTP_ASSOC_PPID_BINARY)));
     while (count-- > 0)
-        CHECK(done(sctp_assoc_write(&end, STREAM, SCTP_ASSOC_PPID_OF_STREAM, (const uint8_t *)bytes, strlen(bytes))));
+        CHECK(done(
+            sctp_assoc_write(&end.assoc, STREAM, SCTP_ASSOC_PPID_OF_STREAM, (const uint8_t *)bytes, strlen(bytes))));
 }
 
 /* The next timer expires. */
 static inline uint64_t time_out(void) {
     uint64_t moment;
-    CHECK(done(sctp_assoc_poll_timeout(&end, &moment)));
-    CHECK(done(sctp_assoc_handle_timeout(&end, moment)));
+    CHECK(done(sctp_assoc_poll_timeout(&end.assoc, &moment)));
+    CHECK(done(sctp_assoc_handle_timeout(&end.assoc, moment)));
     return moment;
 }
 
 static inline sctp_assoc_path_values path(void) {
     sctp_assoc_path_values values;
-    CHECK(done(sctp_assoc_path(&end, &values)));
+    CHECK(done(sctp_assoc_path(&end.assoc, &values)));
     return values;
 }
 

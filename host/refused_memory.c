@@ -37,12 +37,6 @@ static bool is_failed(int end) {
     return answer;
 }
 
-static bool is_drained(int end) {
-    bool answer = false;
-    sctp_assoc_is_drained(&ends[end], &answer);
-    return answer;
-}
-
 /* ---- Replies, beside those of the full run ---- */
 
 static uint64_t full[MOST_REPLIES]; /* of the full run: each with what it gave, as a number */
@@ -293,7 +287,7 @@ static uint64_t refuse(uint64_t from, uint64_t to) {
         CHECK(!has_diverged && replies == full_count);
         for (int stream = 0; stream < STREAMS; stream++)
             CHECK(written[stream] == MESSAGES && read_count[stream] == MESSAGES);
-        CHECK(is_drained(0) && is_drained(1));
+        CHECK(sctp_assoc_is_drained(&ends[0]) && sctp_assoc_is_drained(&ends[1]));
     }
     failed_count += to == from + 1 && is_any_failed();
     again_count += to == from + 1 && was_called_again;

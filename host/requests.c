@@ -78,7 +78,7 @@ static struct shown shown_after(int times) {
     begin();
     for (int i = 0; i < times; i++)
         CHECK(is_answered(IN_TURN, i == 0 ? ANSWERS : PERFORMED));
-    CHECK(ends_once() && answers(&end, sctp_assoc_is_established));
+    CHECK(ends_once() && sctp_assoc_is_established(&end));
     CHECK(done(sctp_assoc_stats(&end, &shown.totals)) && done(sctp_assoc_rto(&end, &shown.timeout_ms)));
     shown.path = path_of(&end);
     shown.deadline = deadline(&end);

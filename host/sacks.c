@@ -73,7 +73,7 @@ static void a_block_releases_the_bytes_that_it_names(void) {
 static void a_block_that_names_the_unsent_closes(void) {
     begin_sending();
     CHECK(comes(&end, 0, FOURTH_CAME) == SCTP_ASSOC_TAKEN && sends(&end, 0, ""));
-    CHECK(answers(&end, sctp_assoc_is_closed) && answers(&end, sctp_assoc_is_drained) && deadline(&end) == 0);
+    CHECK(answers(&end, sctp_assoc_is_closed) && sctp_assoc_is_drained(&end) && deadline(&end) == 0);
     release(&end);
 }
 
@@ -117,7 +117,7 @@ static void a_forward_tsn_that_is_not_in_use_is_refused(void) {
     sctp_assoc_identity named = identity_of(1, 500);
     CHECK(done(sctp_assoc_server(&end, &config, 1200, &named, 0)));
     CHECK(comes(&end, 0, AHEAD) == SCTP_ASSOC_TAKEN && sends(&end, 0, ERROR));
-    CHECK(answers(&end, sctp_assoc_is_closed) && !answers(&end, sctp_assoc_is_drained));
+    CHECK(answers(&end, sctp_assoc_is_closed) && !sctp_assoc_is_drained(&end));
     CHECK(path_of(&end).peer_window == 0 && deadline(&end) == 0 && is_told_nothing(&end));
     release(&end);
 }

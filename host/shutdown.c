@@ -58,8 +58,8 @@ static void shut_down(int end) {
     CHECK(sctp_assoc_shutdown(&ends[end]) == SCTP_ASSOC_SHUTDOWN_NOT_ESTABLISHED);
     CHECK(sctp_assoc_write(&ends[end], STREAM, SCTP_ASSOC_PPID_BINARY, message, 1) == SCTP_ASSOC_NOT_ESTABLISHED);
     CHECK(sctp_assoc_stop(&ends[end], STREAM) == SCTP_ASSOC_CANNOT_RESET);
-    CHECK(answers(end, sctp_assoc_is_closing) && !answers(end, sctp_assoc_is_established));
-    CHECK(!answers(end, sctp_assoc_is_drained) && !answers(end, sctp_assoc_is_closed));
+    CHECK(answers(end, sctp_assoc_is_closing) && !sctp_assoc_is_established(&ends[end]));
+    CHECK(!sctp_assoc_is_drained(&ends[end]) && !answers(end, sctp_assoc_is_closed));
 }
 
 /* An end is told once that the association was closed, and has no timer and nothing to send any more. */
@@ -69,7 +69,7 @@ static void is_over(int end) {
     while (done(sctp_assoc_poll_event(&ends[end], &event)))
         lost += event.kind == SCTP_ASSOC_EVENT_LOST && event.reason == SCTP_ASSOC_REASON_CLOSED;
     CHECK(lost == 1);
-    CHECK(answers(end, sctp_assoc_is_drained) && answers(end, sctp_assoc_is_closed));
+    CHECK(sctp_assoc_is_drained(&ends[end]) && answers(end, sctp_assoc_is_closed));
     CHECK(!answers(end, sctp_assoc_is_closing) && !answers(end, sctp_assoc_is_failed));
     CHECK(sctp_assoc_poll_timeout(&ends[end], &moment) == SCTP_ASSOC_NOTHING);
     CHECK(sctp_assoc_poll_transmit(&ends[end], 10000 * MS, bytes, sizeof bytes, &length) == SCTP_ASSOC_NOTHING);

@@ -1,4 +1,4 @@
-/* What the tests of data channels share: two ends with the channels of each, and what a side is told. */
+/* What the tests of data channels share: two sides, and what each is told. */
 #ifndef SIDES_H
 #define SIDES_H
 
@@ -6,8 +6,7 @@
 
 #include "sctp_channels.h"
 
-static sctp_assoc ends[2];
-static sctp_channels sides[2];
+static sctp_peer sides[2];
 static uint64_t now;
 static uint8_t bytes[70000];
 static size_t length;
@@ -27,7 +26,7 @@ static inline bool was_told(int side, uint32_t kind, uint16_t channel) {
 
 static inline void poll_events(int side) {
     sctp_channels_event event;
-    while (done(sctp_channels_poll_event(&sides[side], &ends[side], &event))) {
+    while (done(sctp_channels_poll_event(&sides[side], &event))) {
         CHECK(count[side] < 64);
         told[side][count[side]++] = event;
     }
@@ -40,11 +39,11 @@ static inline void begin_sides(void) {
 
 static inline void free_sides(void) {
     for (int side = 0; side < 2; side++)
-        CHECK(sctp_channels_free(&sides[side]) == SCTP_ASSOC_DONE);
-    free_both(ends);
+        CHECK(sctp_peer_free(&sides[side]) == SCTP_ASSOC_DONE);
+    CHECK(blocks == 0 && heap_bytes == 0);
 }
 
-/* Two ends that tokens join, with the channels of each. */
+/* Two sides that tokens join. */
 static inline void join(void) {
     sctp_assoc_config config = default_config();
     sctp_assoc_token tokens[2];
@@ -52,17 +51,17 @@ static inline void join(void) {
     for (int side = 0; side < 2; side++)
         CHECK(done(sctp_assoc_make_token(&config, (uint32_t)side + 1, 100, &tokens[side])));
     for (int side = 0; side < 2; side++)
-        CHECK(done(sctp_assoc_joined(&ends[side], &config, PAYLOAD_SIZE, &tokens[side], &tokens[!side])));
+        CHECK(done(sctp_assoc_joined(&sides[side].assoc, &config, PAYLOAD_SIZE, &tokens[side], &tokens[!side])));
     begin_sides();
 }
 
-/* A client and a server before their handshake, with the channels of each. */
+/* A client and a server before their handshake. */
 static inline void meet(void) {
     sctp_assoc_config config = default_config();
     sctp_assoc_identity client = identity(1), server = identity(2);
     now = 0;
-    CHECK(done(sctp_assoc_client(&ends[0], &config, PAYLOAD_SIZE, &client, now)));
-    CHECK(done(sctp_assoc_server(&ends[1], &config, PAYLOAD_SIZE, &server, now)));
+    CHECK(done(sctp_assoc_client(&sides[0].assoc, &config, PAYLOAD_SIZE, &client, now)));
+    CHECK(done(sctp_assoc_server(&sides[1].assoc, &config, PAYLOAD_SIZE, &server, now)));
     begin_sides();
 }
 
@@ -70,16 +69,16 @@ static const sctp_channels_options reliable = SCTP_CHANNELS_ORDERED_RELIABLE;
 
 static inline sctp_assoc_code open_as(int side, sctp_channels_options options, const char *label,
                                       const char *protocol) {
-    return sctp_channels_open(&sides[side], &ends[side], &options, (const uint8_t *)label, strlen(label),
-                              (const uint8_t *)protocol, strlen(protocol), &id);
+    return sctp_channels_open(&sides[side], &options, (const uint8_t *)label, strlen(label), (const uint8_t *)protocol,
+                              strlen(protocol), &id);
 }
 
 static inline sctp_assoc_code send_on(int side, uint16_t channel, bool is_text, const char *message) {
-    return sctp_channels_send(&sides[side], &ends[side], channel, is_text, (const uint8_t *)message, strlen(message));
+    return sctp_channels_send(&sides[side], channel, is_text, (const uint8_t *)message, strlen(message));
 }
 
 static inline sctp_assoc_code receive_on(int side, uint16_t channel, size_t room) {
-    return sctp_channels_receive(&sides[side], &ends[side], channel, bytes, room, &length, &text);
+    return sctp_channels_receive(&sides[side], channel, bytes, room, &length, &text);
 }
 
 /* What a side is told of a channel. */

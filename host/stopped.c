@@ -4,8 +4,6 @@
  * forge DATA. */
 #include "heal_steps.h"
 
-#include "sctp_channels.h"
-
 #define STREAM 1
 #define OTHER_STREAM 2
 #define LONG 65536
@@ -74,12 +72,12 @@ static const struct run stream_run = {take_case_events, send_in_network, account
 static bool reads_one(void) {
     size_t length;
     uint32_t type;
-    return sctp_assoc_read(&ends[B], STREAM, bytes, sizeof bytes, &length, &type) == SCTP_ASSOC_DONE;
+    return sctp_assoc_read(&ends[B].assoc, STREAM, bytes, sizeof bytes, &length, &type) == SCTP_ASSOC_DONE;
 }
 
 static bool has_none_in_flight(int end) {
     sctp_assoc_path_values path;
-    return done(sctp_assoc_path(&ends[end], &path)) && path.bytes_in_flight == 0;
+    return done(sctp_assoc_path(&ends[end].assoc, &path)) && path.bytes_in_flight == 0;
 }
 
 /* B stops the stream behind its first message, and A's request to reset its half waits until all is acknowledged. By
@@ -94,7 +92,7 @@ static void ends_under_way(ending_call *ends_stream, uint32_t profile, enum netw
     while (!reads_one())
         pass(10);
     account(B);
-    CHECK(done(ends_stream(&ends[B], STREAM)));
+    CHECK(done(ends_stream(&ends[B].assoc, STREAM)));
     mark_heap();
     unsigned told_readable = told(B, SCTP_ASSOC_EVENT_READABLE, STREAM);
     turn(B);
@@ -127,9 +125,9 @@ static void gets_forged(uint32_t tsn, uint16_t stream, uint8_t flags) {
         forged[16 + i] = (uint8_t)(tsn >> (24 - 8 * i));
     forged[20] = (uint8_t)(stream >> 8), forged[21] = (uint8_t)stream;
     seal(forged, sizeof forged);
-    CHECK(done(sctp_assoc_watched_handle_datagram(&ends[B], &watches[B], now, forged, sizeof forged, &fate)));
+    CHECK(done(sctp_assoc_watched_handle_datagram(&ends[B].assoc, &watches[B], now, forged, sizeof forged, &fate)));
     take_case_events(B);
-    while (done(sctp_assoc_watched_poll_transmit(&ends[B], &watches[B], now, answer, sizeof answer, &length)))
+    while (done(sctp_assoc_watched_poll_transmit(&ends[B].assoc, &watches[B], now, answer, sizeof answer, &length)))
         CHECK(length < LONG);
     account(B);
 }
@@ -141,7 +139,7 @@ static void ends_forged(ending_call *ends_stream, uint32_t profile) {
     turn_both();
     CHECK(opens(A, STREAM) && writes(A, STREAM, 100));
     pass(1000);
-    CHECK(read_counts[B][STREAM] == 1 && done(ends_stream(&ends[B], STREAM)));
+    CHECK(read_counts[B][STREAM] == 1 && done(ends_stream(&ends[B].assoc, STREAM)));
     turn(B);
     mark_heap();
     for (uint32_t i = 0; i < FORGED && goes_on(); i++)
@@ -158,7 +156,6 @@ static void ends_forged(ending_call *ends_stream, uint32_t profile) {
 
 /* ---- Data channels ---- */
 
-static sctp_channels sides[2];
 static unsigned channel_told[2][SCTP_CHANNELS_EVENT_HANDSHAKE_FAILED + 1];
 static uint32_t lost_reason;
 static unsigned received[2]; /* by B, of the file and of the chat */
@@ -169,18 +166,17 @@ static const sctp_channels_options reliable = SCTP_CHANNELS_ORDERED_RELIABLE;
 static void receive_all(uint16_t channel) {
     size_t length;
     bool is_text;
-    while (sctp_channels_receive(&sides[B], &ends[B], channel, bytes, sizeof bytes, &length, &is_text) ==
-           SCTP_ASSOC_DONE)
+    while (sctp_channels_receive(&ends[B], channel, bytes, sizeof bytes, &length, &is_text) == SCTP_ASSOC_DONE)
         if (received[channel == chat]++ == 0 && channel == file) {
             account(B);
-            CHECK(done(sctp_channels_close(&sides[B], &ends[B], file)));
+            CHECK(done(sctp_channels_close(&ends[B], file)));
             mark_heap();
         }
 }
 
 static void take_channel_events(int side) {
     sctp_channels_event event;
-    while (done(sctp_channels_poll_event(&sides[side], &ends[side], &event))) {
+    while (done(sctp_channels_poll_event(&ends[side], &event))) {
         channel_told[side][event.kind]++;
         if (event.kind == SCTP_CHANNELS_EVENT_MESSAGE && side == B)
             receive_all(event.id);
@@ -192,30 +188,24 @@ static void take_channel_events(int side) {
 static const struct run channel_run = {take_channel_events, send_in_network, account};
 
 static void open_channel(uint16_t *id) {
-    CHECK(done(sctp_channels_open(&sides[A], &ends[A], &reliable, (const uint8_t *)"channel", 7, NULL, 0, id)));
+    CHECK(done(sctp_channels_open(&ends[A], &reliable, (const uint8_t *)"channel", 7, NULL, 0, id)));
     turn(A);
 }
 
 static void send_on(uint16_t channel, size_t length) {
     memset(bytes, 7, length);
-    CHECK(done(sctp_channels_send(&sides[A], &ends[A], channel, false, bytes, length)));
+    CHECK(done(sctp_channels_send(&ends[A], channel, false, bytes, length)));
     turn(A);
 }
 
 static void begin_sides(uint32_t profile, enum network chosen) {
-    CHECK(done(sctp_channels_begin(&sides[A], SCTP_CHANNELS_CLIENT)));
-    CHECK(done(sctp_channels_begin(&sides[B], SCTP_CHANNELS_SERVER)));
+    CHECK(done(sctp_channels_begin(&ends[A], SCTP_CHANNELS_CLIENT)));
+    CHECK(done(sctp_channels_begin(&ends[B], SCTP_CHANNELS_SERVER)));
     begin(profile, chosen, &channel_run);
     memset(channel_told, 0, sizeof channel_told);
     memset(received, 0, sizeof received);
     lost_reason = SCTP_ASSOC_REASON_NONE;
     turn_both();
-}
-
-static void end_sides(void) {
-    for (int side = 0; side < 2; side++)
-        CHECK(sctp_channels_free(&sides[side]) == SCTP_ASSOC_DONE);
-    end_pair();
 }
 
 /* A sends a file on a channel that B closes behind the first message, and a line on another one. */
@@ -231,7 +221,7 @@ static void closes_under_way(uint32_t profile, enum network chosen) {
     CHECK(received[0] == 1);
     if (profile == SCTP_ASSOC_PROFILE_PORT) {
         CHECK(lost_reason == SCTP_ASSOC_REASON_BUFFER_EXHAUSTED && watches[A].end == SCTP_ASSOC_END_ABORT_CAME);
-        end_sides();
+        end_pair();
         return;
     }
     CHECK(goes_on() && lost_reason == SCTP_ASSOC_REASON_NONE && has_grown_little());
@@ -239,7 +229,7 @@ static void closes_under_way(uint32_t profile, enum network chosen) {
     send_on(chat, 100);
     pass(10000);
     CHECK(received[1] == 1 && goes_on());
-    end_sides();
+    end_pair();
 }
 
 int main(void) {

@@ -158,8 +158,7 @@ static inline void shake_hands(sctp_assoc ends[2], const sctp_assoc_config *conf
     for (int end = 0; end < 2; end++) {
         sctp_assoc_event event;
         CHECK(done(sctp_assoc_poll_event(&ends[end], &event)) && event.kind == SCTP_ASSOC_EVENT_CONNECTED);
-        bool answer = false;
-        CHECK(done(sctp_assoc_is_established(&ends[end], &answer)) && answer);
+        CHECK(sctp_assoc_is_established(&ends[end]));
     }
 }
 

@@ -145,15 +145,9 @@ static void counts_no_other(void) {
 
 /* ---- Why it ended ---- */
 
-static bool is_drained(int end) {
-    bool answer;
-    CHECK(done(sctp_assoc_is_drained(&ends[end], &answer)));
-    return answer;
-}
-
 /* An end is noted, stays so whatever is asked for after it, and the application is told it as LOST. */
 static void ended(int end, uint32_t kind) {
-    CHECK(is_drained(end) && watches[end].end == kind);
+    CHECK(sctp_assoc_is_drained(&ends[end]) && watches[end].end == kind);
     CHECK(done(sctp_assoc_watched_close(&ends[end], &watches[end])));
     CHECK(done(sctp_assoc_watched_abort(&ends[end], &watches[end], NULL, 0)));
     CHECK(is_told(end, SCTP_ASSOC_EVENT_LOST) && event.reason == SCTP_ASSOC_REASON_CLOSED);
@@ -166,7 +160,7 @@ static void by_close(void) {
     CHECK(done(sctp_assoc_watched_close(&ends[0], &watches[0])));
     carry();
     ended(0, SCTP_ASSOC_END_CLOSED);
-    CHECK(watches[1].end == SCTP_ASSOC_END_NONE && !is_drained(1));
+    CHECK(watches[1].end == SCTP_ASSOC_END_NONE && !sctp_assoc_is_drained(&ends[1]));
     free_both(ends);
 }
 
@@ -255,7 +249,7 @@ static void by_faults(void) {
  * 3.3.10.4). */
 static void ended_exhausted(bool is_noted_at_once) {
     uint32_t noted_first = is_noted_at_once ? SCTP_ASSOC_END_BUFFER_EXHAUSTED : SCTP_ASSOC_END_NONE;
-    CHECK(is_drained(1) && watches[1].end == noted_first);
+    CHECK(sctp_assoc_is_drained(&ends[1]) && watches[1].end == noted_first);
     CHECK(is_told(1, SCTP_ASSOC_EVENT_LOST) && event.reason == SCTP_ASSOC_REASON_BUFFER_EXHAUSTED);
     CHECK(watches[1].end == SCTP_ASSOC_END_BUFFER_EXHAUSTED);
     CHECK(watches[1].cause == 0 && watches[1].reason_length == 0);
@@ -270,7 +264,7 @@ static void by_exhaustion(void) {
     config.max_receive_buffer_size = 1500;
     begin();
     write_bytes(6000);
-    for (int turn = 0; turn < 100 && !is_drained(1); turn++) {
+    for (int turn = 0; turn < 100 && !sctp_assoc_is_drained(&ends[1]); turn++) {
         carry();
         wait(1000);
     }
@@ -288,7 +282,7 @@ static void by_exhaustion_behind(bool is_stop) {
     CHECK(done(sctp_assoc_write(&ends[0], STREAM + 1, SCTP_ASSOC_PPID_OF_STREAM, bytes, 6000)));
     carry();
     wait(5000);
-    CHECK(!is_drained(1) && watches[1].end == SCTP_ASSOC_END_NONE);
+    CHECK(!sctp_assoc_is_drained(&ends[1]) && watches[1].end == SCTP_ASSOC_END_NONE);
     if (is_stop)
         CHECK(done(sctp_assoc_stop(&ends[1], STREAM)));
     else
@@ -304,7 +298,7 @@ static unsigned expires(int end, unsigned most) {
     for (unsigned count = 0; count < most; count++) {
         while (sends(end))
             ;
-        if (is_drained(end) || !done(sctp_assoc_poll_timeout(&ends[end], &moment)))
+        if (sctp_assoc_is_drained(&ends[end]) || !done(sctp_assoc_poll_timeout(&ends[end], &moment)))
             return count;
         CHECK(watches[end].end == SCTP_ASSOC_END_NONE);
         now = moment;
@@ -315,11 +309,11 @@ static unsigned expires(int end, unsigned most) {
 
 /* An end whose peer is silent ends by it and is told so, or neither. */
 static void ended_silent(int end, bool is_told) {
-    CHECK(is_drained(end) == is_told);
+    CHECK(sctp_assoc_is_drained(&ends[end]) == is_told);
     if (is_told)
         ended(end, SCTP_ASSOC_END_SILENT);
     CHECK(is_told || watches[end].end == SCTP_ASSOC_END_NONE);
-    CHECK(!is_drained(!end) && watches[!end].end == SCTP_ASSOC_END_NONE);
+    CHECK(!sctp_assoc_is_drained(&ends[!end]) && watches[!end].end == SCTP_ASSOC_END_NONE);
     free_both(ends);
     config = default_config();
 }
@@ -415,16 +409,16 @@ static void refused_abort(void) {
     refused_from = growths + 1, refused_to = UINT64_MAX;
     CHECK(sctp_assoc_watched_abort(&ends[0], &watches[0], bytes, 5) == SCTP_ASSOC_NO_MEMORY);
     refused_from = refused_to = 0;
-    CHECK(!is_drained(0) && watches[0].end == SCTP_ASSOC_END_NONE);
+    CHECK(!sctp_assoc_is_drained(&ends[0]) && watches[0].end == SCTP_ASSOC_END_NONE);
     write_bytes(1);
-    CHECK(sctp_assoc_abort(&ends[0], bytes, 65527) == SCTP_ASSOC_DONE && is_drained(0));
+    CHECK(sctp_assoc_abort(&ends[0], bytes, 65527) == SCTP_ASSOC_DONE && sctp_assoc_is_drained(&ends[0]));
     CHECK(sends(0) && length == SCTP_ASSOC_MAX_DATAGRAM && !sends(0));
     CHECK(watches[0].end == SCTP_ASSOC_END_NONE); /* the watch was not asked */
     free_both(ends);
 
     sctp_assoc_identity client = identity(1);
     CHECK(done(sctp_assoc_client(&ends[0], &config, PAYLOAD_SIZE, &client, 0)));
-    CHECK(done(sctp_assoc_abort(&ends[0], NULL, 0)) && is_drained(0) && !sends(0));
+    CHECK(done(sctp_assoc_abort(&ends[0], NULL, 0)) && sctp_assoc_is_drained(&ends[0]) && !sends(0));
     CHECK(done(sctp_assoc_abort(&ends[0], NULL, 0)) && !sends(0));
     CHECK(sctp_assoc_watched_handle_datagram(&ends[0], &watches[0], 0, NULL, 0, &fate) == SCTP_ASSOC_DONE);
     CHECK(fate == SCTP_ASSOC_NO_PACKET);

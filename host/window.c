@@ -13,7 +13,7 @@ static size_t length;
 
 /* Whether B has a datagram to send. */
 static bool sends(void) {
-    return done(sctp_assoc_watched_poll_transmit(&ends[B], &watches[B], now, datagram, sizeof datagram, &length));
+    return done(sctp_assoc_watched_poll_transmit(&ends[B].assoc, &watches[B], now, datagram, sizeof datagram, &length));
 }
 
 /* B has a SACK with this window to send (RFC 4960 section 3.3.4), which goes to A, and nothing else. */
@@ -67,7 +67,7 @@ static void goes_on_behind(const struct pause *pause, uint32_t profile) {
     begin(profile, pause->buffer);
     CHECK(writes_many(A, STREAM, pause->length, pause->count));
     pass(pause->ms);
-    CHECK(done(sctp_assoc_path(&ends[A], &path)) && path.peer_window == 0 && !is_acknowledged(A, STREAM));
+    CHECK(done(sctp_assoc_path(&ends[A].assoc, &path)) && path.peer_window == 0 && !is_acknowledged(A, STREAM));
     CHECK(!sends());
     is_reading[B] = true;
     read_all(B);
@@ -88,10 +88,10 @@ static void probes_are_answered(uint32_t profile) {
     begin_limited(profile, 20000, 3);
     CHECK(writes_many(A, STREAM, 1000, 60));
     pass(500);
-    CHECK(done(sctp_assoc_path(&ends[A], &path)) && path.peer_window == 0);
+    CHECK(done(sctp_assoc_path(&ends[A].assoc, &path)) && path.peer_window == 0);
     uint32_t window = path.congestion_window;
     pass(100000);
-    CHECK(done(sctp_assoc_path(&ends[A], &path)) && path.peer_window == 0 && window > 4000);
+    CHECK(done(sctp_assoc_path(&ends[A].assoc, &path)) && path.peer_window == 0 && window > 4000);
     CHECK(path.congestion_window == (profile == SCTP_ASSOC_PROFILE_RFC ? window : path.mtu));
     is_reading[B] = true;
     turn(B);
@@ -137,7 +137,7 @@ static void opens_by_a_read(const struct opening *opening, uint32_t profile, boo
     CHECK(is_acknowledged(A, STREAM) && !sends());
     for (int read = is_short_first ? 0 : 1; read < 2; read++) {
         sctp_assoc_code expected = read == 0 ? SCTP_ASSOC_NO_ROOM : SCTP_ASSOC_DONE;
-        CHECK(sctp_assoc_read(&ends[B], STREAM, bytes, read == 0 ? 0 : sizeof bytes, &count, &type) == expected);
+        CHECK(sctp_assoc_read(&ends[B].assoc, STREAM, bytes, read == 0 ? 0 : sizeof bytes, &count, &type) == expected);
         CHECK(count == opening->first);
         if (is_told && (read == 0) == is_short_first)
             tells_window((uint32_t)(opening->buffer - opening->second));
@@ -156,12 +156,12 @@ static void drops_by_a_stop(size_t unread, bool opens_window, uint32_t profile) 
     CHECK(writes(A, STREAM, unread));
     pass(1000);
     CHECK(is_acknowledged(A, STREAM) && !sends());
-    CHECK(done(sctp_assoc_stop(&ends[B], STREAM)));
+    CHECK(done(sctp_assoc_stop(&ends[B].assoc, STREAM)));
     CHECK(sends() && first_chunk(datagram) == RE_CONFIG);
     if (opens_window && profile == SCTP_ASSOC_PROFILE_RFC)
         tells_window(10000);
     CHECK(!sends());
-    CHECK(done(sctp_assoc_stop(&ends[B], STREAM)) && !sends());
+    CHECK(done(sctp_assoc_stop(&ends[B].assoc, STREAM)) && !sends());
     end_pair();
 }
 
@@ -173,7 +173,7 @@ static void a_stop_tells_what_it_opens(uint32_t profile) {
     CHECK(is_acknowledged(A, STREAM) && closes(A, STREAM));
     pass(1000);
     CHECK(!sends());
-    CHECK(done(sctp_assoc_stop(&ends[B], STREAM)));
+    CHECK(done(sctp_assoc_stop(&ends[B].assoc, STREAM)));
     if (profile == SCTP_ASSOC_PROFILE_RFC)
         tells_window(10000);
     CHECK(!sends());

@@ -27,8 +27,9 @@
  * that C owes this:
  * - A slot begins with all its bytes 0 and is changed by these calls alone. It isn't copied while it holds an
  *   association (moving it is fine). One call at a time; it may go from one thread to another between calls.
- * - No pointer is NULL, except for bytes or identifiers of which there are 0. What a call writes to doesn't overlap
- *   anything else that it gets, and needs no value before, but for a watch (sctp_assoc_watch).
+ * - No pointer is NULL, except for bytes or identifiers of which there are 0, and what sctp_assoc_free gets. What a
+ *   call writes to doesn't overlap anything else that it gets, and needs no value before, but for a watch
+ *   (sctp_assoc_watch).
  * - A `bool` is 0 or 1. Nothing here is called from a signal handler, or from the child of a fork of a process with
  *   threads.
  * - The library takes memory by malloc and realloc and gives it back by free. A program that defines rattle_alloc,
@@ -77,8 +78,8 @@ typedef struct sctp_assoc {
 
 /* ---- Codes ----
  *
- * Each call answers one of these. What it gives is written if it answers SCTP_ASSOC_DONE, and a length or a count also
- * at SCTP_ASSOC_NO_ROOM. At every other code what the pointers lead to stays as it was.
+ * A call of this type answers one of these. What it gives is written if it answers SCTP_ASSOC_DONE, and a length or a
+ * count also at SCTP_ASSOC_NO_ROOM. At every other code what the pointers lead to stays as it was.
  */
 typedef uint32_t sctp_assoc_code;
 
@@ -228,8 +229,8 @@ sctp_assoc_code sctp_assoc_server(sctp_assoc *slot, const sctp_assoc_config *con
 sctp_assoc_code sctp_assoc_joined(sctp_assoc *slot, const sctp_assoc_config *config, uint32_t max_payload_size,
                                   const sctp_assoc_token *local, const sctp_assoc_token *remote);
 
-/* Frees the association and all that waits in it, and leaves the slot empty. The peer is told nothing. Codes: DONE,
- * EMPTY_SLOT. */
+/* Frees the association and all that waits in it, and leaves the slot empty. The peer is told nothing. NULL counts as
+ * an empty slot. Codes: DONE, EMPTY_SLOT. */
 sctp_assoc_code sctp_assoc_free(sctp_assoc *slot);
 
 /* Begins to end the association gracefully (RFC 4960 section 9.2), and returns at once. From now on nothing is accepted
@@ -367,21 +368,24 @@ sctp_assoc_code sctp_assoc_poll_endpoint_event(sctp_assoc *slot);
 
 /* ---- Questions ----
  *
- * Each writes its answer and changes nothing. Codes: DONE, EMPTY_SLOT.
+ * None of them changes anything. Two answer by themselves, of an empty slot too: it is not established, and it is
+ * drained, so that a loop ends which goes on until then. `const` doesn't mean that two threads may ask at a time.
+ * The others write their answer. Their codes: DONE, EMPTY_SLOT.
  */
 
-/* Whether the state is Established (RFC 4960 section 4): messages can be written. */
-sctp_assoc_code sctp_assoc_is_established(sctp_assoc *slot, bool *answer);
+/* Whether the state is Established (RFC 4960 section 4): messages can be written. False of an empty slot. */
+bool sctp_assoc_is_established(const sctp_assoc *slot);
+
+/* Whether the association was lost: by a fault, by sctp_assoc_close or _abort, or at the end of a shutdown. Nothing is
+ * left then but the datagrams, events and messages that wait at the slot. True of an empty slot. One that has failed
+ * (SCTP_ASSOC_FAILED) may never be drained. */
+bool sctp_assoc_is_drained(const sctp_assoc *slot);
 
 /* Whether a shutdown has begun, at either side, and the association isn't closed yet (RFC 4960 section 9.2). */
 sctp_assoc_code sctp_assoc_is_closing(sctp_assoc *slot, bool *answer);
 
 /* Whether the state is Closed: that of a server before its handshake, and of any side after a loss. */
 sctp_assoc_code sctp_assoc_is_closed(sctp_assoc *slot, bool *answer);
-
-/* Whether the association was lost: by a fault, by sctp_assoc_close or _abort, or at the end of a shutdown. Nothing is
- * left then but the datagrams, events and messages that wait at the slot. */
-sctp_assoc_code sctp_assoc_is_drained(sctp_assoc *slot, bool *answer);
 
 /* Whether an earlier call found no memory in its middle. Then the association is over. */
 sctp_assoc_code sctp_assoc_is_failed(sctp_assoc *slot, bool *answer);

@@ -1,8 +1,18 @@
 /*
  * sctp_channels: data channels (RFC 8831, RFC 8832) over one association of sctp_assoc, for C and C++.
  *
- * The channels of one side lie in a slot beside that of the association, and most calls are handed both. `./library
- * channels` builds the archive to link with, in place of the other: it has the calls of sctp_assoc.h, too.
+ * A `sctp_peer` is one side, with its association and the channels over it:
+ *
+ *     sctp_peer peer = SCTP_PEER_EMPTY;
+ *     sctp_assoc_client(&peer.assoc, &config, max_payload_size, &identity, now);
+ *     sctp_channels_begin(&peer, SCTP_CHANNELS_CLIENT);
+ *     sctp_channels_open(&peer, &options, label, label_length, NULL, 0, &id);
+ *     ... the loop ...
+ *     sctp_peer_free(&peer);
+ *
+ * The calls below take `&peer`, and those of sctp_assoc.h take `&peer.assoc`. "The peer" in a comment is the other
+ * side, as in sctp_assoc.h. `./library channels` builds the archive to link with, in place of the other: it has the
+ * calls of sctp_assoc.h, too.
  *
  * The loop is that of sctp_assoc.h but for the events that its step 3 takes: call sctp_channels_poll_event until it
  * answers SCTP_ASSOC_NOTHING, in place of sctp_assoc_poll_event and sctp_assoc_accept_stream. At
@@ -11,10 +21,11 @@
  * may open the receive window as sctp_assoc_read does. So do that step after them, too: take events and poll for
  * datagrams until neither brings anything.
  *
- * What C owes is what the head of sctp_assoc.h says, for both slots. Besides, a slot of channels stays with one
- * association from the first call that gets both, and streams of that association which have a channel are left to
- * these calls: on them sctp_assoc_write, _read, _finish, _stop and _close_stream are not called. Other calls of
- * sctp_assoc.h may be made as ever.
+ * What C owes is what the head of sctp_assoc.h says of a slot, for the whole `sctp_peer`: one call at a time on it and
+ * on its association. For sctp_peer_free alone it may be NULL. Besides, channels stay with the association that they
+ * were first used with: where `peer.assoc` gets another one, begin the channels anew, too. And streams that have a
+ * channel are left to these calls: on them sctp_assoc_write, _read, _finish, _stop and _close_stream are not called.
+ * Other calls of sctp_assoc.h may be made as ever.
  *
  * sctp_channels_code_name gives the name of a code to print, and two calls beside it those of events and states.
  */
@@ -27,23 +38,32 @@
 extern "C" {
 #endif
 
-/* ---- The slot ---- */
+/* ---- One side ---- */
 
-/* Room for the channels of one side, 16 bytes. All bytes 0 is the empty slot. Don't touch its fields. */
+/* What the channels of a side lie in, 16 bytes. It is a part of sctp_peer; don't touch its fields. */
 typedef struct sctp_channels {
     void *at;
     bool live;
 } sctp_channels;
 
-/* sctp_channels slot = SCTP_CHANNELS_EMPTY; */
-#define SCTP_CHANNELS_EMPTY {0, 0}
+/* Room for one side: an association, and the channels over it, 32 bytes. All bytes 0 is the empty one. The calls of
+ * sctp_assoc.h take `&peer.assoc`; don't touch `channels`. */
+typedef struct sctp_peer {
+    sctp_assoc assoc;
+    sctp_channels channels;
+} sctp_peer;
+
+/* sctp_peer peer = SCTP_PEER_EMPTY; */
+#define SCTP_PEER_EMPTY {SCTP_ASSOC_EMPTY, {0, 0}}
 
 /* ---- Codes ----
  *
  * Each call answers a code of sctp_assoc.h, or one of those below. What it gives is written if it answers
  * SCTP_ASSOC_DONE, and a length also at SCTP_ASSOC_NO_ROOM and SCTP_CHANNELS_OTHER. At every other code what the
- * pointers lead to stays as it was, but for the buffer of sctp_channels_receive. SCTP_ASSOC_EMPTY_SLOT: either slot is
- * empty; nothing changed.
+ * pointers lead to stays as it was, but for the buffer of sctp_channels_receive.
+ * SCTP_ASSOC_EMPTY_SLOT: there is no association, or no channels were begun; nothing changed. Of the two the calls
+ * sctp_channels_get_info, _label and _protocol need the channels alone, and sctp_channels_set_max_message_size the
+ * association alone.
  * SCTP_ASSOC_NO_MEMORY: memory was refused. What that leaves:
  *   sctp_channels_poll_event               it can be called again and goes on where it was, or the association has
  *                                          failed
@@ -67,13 +87,14 @@ typedef struct sctp_channels {
 #define SCTP_CHANNELS_CLIENT 0
 #define SCTP_CHANNELS_SERVER 1
 
-/* Puts a side without a channel into the slot; the channels that it held before are freed then. Codes: DONE, BAD_ROLE,
- * NO_MEMORY; at all but DONE the slot stays as it was. */
-sctp_assoc_code sctp_channels_begin(sctp_channels *slot, uint32_t role);
+/* Begins the channels of a side, which has none at first; those that it had before are freed then. It may come before
+ * the association is made, or after. Codes: DONE, BAD_ROLE, NO_MEMORY; at all but DONE all stays as it was. */
+sctp_assoc_code sctp_channels_begin(sctp_peer *peer, uint32_t role);
 
-/* Frees the channels, and leaves the slot empty. The association and the peer are told nothing. Codes: DONE,
- * EMPTY_SLOT. */
-sctp_assoc_code sctp_channels_free(sctp_channels *slot);
+/* Frees the channels and the association with all that waits in it, and leaves both empty; sctp_assoc_free leaves the
+ * channels. The other side is told nothing. NULL counts as an empty one. Codes: DONE, EMPTY_SLOT (there was neither).
+ */
+sctp_assoc_code sctp_peer_free(sctp_peer *peer);
 
 /* ---- Channels ----
  *
@@ -103,9 +124,8 @@ typedef struct sctp_channels_options {
  * whose identifier lies past those that were agreed on SCTP_CHANNELS_EVENT_FAILED tells. Codes, refusals in this order
  * and with nothing changed: DONE, BAD_RELIABILITY, EMPTY_SLOT, LABEL_TOO_LONG, FAILED, LOST, IDENTIFIER_TAKEN,
  * IDENTIFIER_PAST_STREAMS, NO_IDENTIFIER_LEFT, NO_MEMORY. */
-sctp_assoc_code sctp_channels_open(sctp_channels *slot, sctp_assoc *assoc, const sctp_channels_options *options,
-                                   const uint8_t *label, size_t label_length, const uint8_t *protocol,
-                                   size_t protocol_length, uint16_t *id);
+sctp_assoc_code sctp_channels_open(sctp_peer *peer, const sctp_channels_options *options, const uint8_t *label,
+                                   size_t label_length, const uint8_t *protocol, size_t protocol_length, uint16_t *id);
 
 /* Ends a channel: its stream is reset (RFC 8831 section 6.7) after what was accepted went out, and messages that came
  * are not received any more, nor is what the peer still sends: by SCTP_ASSOC_PROFILE_RFC it is dropped and takes no
@@ -113,7 +133,7 @@ sctp_assoc_code sctp_channels_open(sctp_channels *slot, sctp_assoc *assoc, const
  * was not written yet is gone at once, and nothing is told; one that ends goes on to. Codes: DONE, EMPTY_SLOT,
  * NO_CHANNEL, and as of sctp_assoc_close_stream FAILED, NO_STREAM, CANNOT_RESET, NO_MEMORY (the association has
  * failed). */
-sctp_assoc_code sctp_channels_close(sctp_channels *slot, sctp_assoc *assoc, uint16_t id);
+sctp_assoc_code sctp_channels_close(sctp_peer *peer, uint16_t id);
 
 /* ---- Events ---- */
 
@@ -147,22 +167,21 @@ typedef struct sctp_channels_event {
 /* Takes out the next event. It takes the events of the association, and on the way it writes the OPENs that wait, reads
  * the first messages of streams and writes ACKs. Codes: DONE, EMPTY_SLOT, NOTHING, FAILED, NO_MEMORY (call it again, or
  * the association has failed). */
-sctp_assoc_code sctp_channels_poll_event(sctp_channels *slot, sctp_assoc *assoc, sctp_channels_event *event);
+sctp_assoc_code sctp_channels_poll_event(sctp_peer *peer, sctp_channels_event *event);
 
 /* ---- Messages ---- */
 
 /* From now on all channels of an association send messages of up to `bytes` bytes, by the attribute max-message-size of
  * the peer's session description: 0 is any length, and without the attribute it is 65,536 (RFC 8841 section 6). Codes:
  * DONE (also if the association has failed, and then nothing changes), EMPTY_SLOT. */
-sctp_assoc_code sctp_channels_set_max_message_size(sctp_assoc *assoc, uint32_t bytes);
+sctp_assoc_code sctp_channels_set_max_message_size(sctp_peer *peer, uint32_t bytes);
 
 /* Accepts one message, a text or a binary one, which goes out with sctp_assoc_poll_transmit as the windows allow. A
  * text is UTF-8 by RFC 8831 section 6.6, and nothing here looks at that. It may be empty. Before the peer answered the
  * OPEN it goes in order. Codes, refusals in this order and with nothing changed: DONE, EMPTY_SLOT, NO_CHANNEL,
  * NOT_OPEN, and as of sctp_assoc_write FAILED, NO_STREAM, STREAM_CLOSED, NOT_ESTABLISHED, RESET_PENDING,
  * MESSAGE_TOO_LONG, NO_MEMORY. */
-sctp_assoc_code sctp_channels_send(sctp_channels *slot, sctp_assoc *assoc, uint16_t id, bool is_text,
-                                   const uint8_t *message, size_t length);
+sctp_assoc_code sctp_channels_send(sctp_peer *peer, uint16_t id, bool is_text, const uint8_t *message, size_t length);
 
 /* Copies the next message of a channel, whole, to the front of the buffer, and writes its length, which may be 0, and
  * whether it is a text. At NO_ROOM the message stays, and `length` says how long it is. NOTHING also on a channel that
@@ -171,8 +190,8 @@ sctp_assoc_code sctp_channels_send(sctp_channels *slot, sctp_assoc *assoc, uint1
  * messages are dropped on the way; they may be told as NO_ROOM, too, and may have changed the buffer at any code but
  * EMPTY_SLOT and NO_CHANNEL. A second OPEN of the peer ends the channel. Codes: DONE, EMPTY_SLOT, NOTHING, NO_ROOM,
  * OTHER, NO_CHANNEL, FAILED, NO_MEMORY, and as of sctp_channels_close where a second OPEN came. */
-sctp_assoc_code sctp_channels_receive(sctp_channels *slot, sctp_assoc *assoc, uint16_t id, uint8_t *buffer,
-                                      size_t room, size_t *length, bool *is_text);
+sctp_assoc_code sctp_channels_receive(sctp_peer *peer, uint16_t id, uint8_t *buffer, size_t room, size_t *length,
+                                      bool *is_text);
 
 /* ---- Questions ---- */
 
@@ -196,22 +215,22 @@ typedef struct sctp_channels_info {
 /* Each of the calls below is about one channel. Those that write a value change nothing. */
 
 /* Writes what the channel is. Codes: DONE, EMPTY_SLOT, NO_CHANNEL. */
-sctp_assoc_code sctp_channels_get_info(sctp_channels *slot, uint16_t id, sctp_channels_info *info);
+sctp_assoc_code sctp_channels_get_info(sctp_peer *peer, uint16_t id, sctp_channels_info *info);
 
 /* Copies the label, or the protocol, to the front of the buffer, and writes its length. At NO_ROOM the buffer stays as
  * it was, and `length` says how long it is. Codes: DONE, EMPTY_SLOT, NO_ROOM, NO_CHANNEL. */
-sctp_assoc_code sctp_channels_label(sctp_channels *slot, uint16_t id, uint8_t *buffer, size_t room, size_t *length);
-sctp_assoc_code sctp_channels_protocol(sctp_channels *slot, uint16_t id, uint8_t *buffer, size_t room, size_t *length);
+sctp_assoc_code sctp_channels_label(sctp_peer *peer, uint16_t id, uint8_t *buffer, size_t room, size_t *length);
+sctp_assoc_code sctp_channels_protocol(sctp_peer *peer, uint16_t id, uint8_t *buffer, size_t room, size_t *length);
 
 /* Writes the buffered amount: how many bytes were accepted on the channel's stream, those of DCEP too, and are neither
  * acknowledged nor given up. Codes of this and the next two: DONE, EMPTY_SLOT, NO_CHANNEL, FAILED, NO_STREAM (its
  * stream is not opened yet). */
-sctp_assoc_code sctp_channels_buffered_amount(sctp_channels *slot, sctp_assoc *assoc, uint16_t id, size_t *bytes);
+sctp_assoc_code sctp_channels_buffered_amount(sctp_peer *peer, uint16_t id, size_t *bytes);
 
 /* Writes, or sets, the low threshold of the buffered amount, in bytes, at first 0: SCTP_CHANNELS_EVENT_BUFFERED_LOW
  * tells when it falls to that. Setting it tells nothing. */
-sctp_assoc_code sctp_channels_low_threshold(sctp_channels *slot, sctp_assoc *assoc, uint16_t id, size_t *bytes);
-sctp_assoc_code sctp_channels_set_low_threshold(sctp_channels *slot, sctp_assoc *assoc, uint16_t id, size_t bytes);
+sctp_assoc_code sctp_channels_low_threshold(sctp_peer *peer, uint16_t id, size_t *bytes);
+sctp_assoc_code sctp_channels_set_low_threshold(sctp_peer *peer, uint16_t id, size_t bytes);
 
 /* ---- Names to print ----
  *
