@@ -1,12 +1,11 @@
 //! The Rust code of docs/GUIDE.md on data channels: a client and a server shake hands, the client opens a channel, both
 //! say hello on it, and it is closed.
-use sctp_assoc::channels::{Channels, Error, Event, Kind, Message, Role};
+use sctp_assoc::channels::{Connection, Error, Event, Kind, Message, Role};
 use sctp_assoc::{Association, Config, Identity, Reliability, MAX_DATAGRAM};
 use std::time::{Duration, Instant};
 
 struct End {
-    association: Association,
-    channels: Channels,
+    connection: Connection,
     /// The messages that came.
     messages: Vec<(u16, Message<Vec<u8>>)>,
     /// The channels that ended.
@@ -26,17 +25,17 @@ include!(concat!(env!("OUT_DIR"), "/channels.rs"));
 fn end(is_client: bool, now: Instant) -> Result<End, Error> {
     let made = if is_client { Association::client } else { Association::server };
     let association = made(&Config::default(), &Identity::from_random([1 + u8::from(is_client); 40]), now)?;
-    let channels = begin_channels(&association, is_client)?;
-    Ok(End { association, channels, messages: Vec::new(), forgotten: Vec::new() })
+    let connection = begin_channels(association, is_client)?;
+    Ok(End { connection, messages: Vec::new(), forgotten: Vec::new() })
 }
 
 /// What is due at an end is done, and what it has to send is handed over.
 fn turn(from: &mut End, to: &mut End, now: Instant) -> Result<(), Error> {
-    from.association.handle_timeout(now)?;
+    from.connection.handle_timeout(now)?;
     take_channel_events(from)?;
     let mut datagram = [0; MAX_DATAGRAM];
-    while let Some(bytes) = from.association.poll_transmit(now, &mut datagram)? {
-        to.association.handle_datagram(now, bytes)?;
+    while let Some(bytes) = from.connection.poll_transmit(now, &mut datagram)? {
+        to.connection.handle_datagram(now, bytes)?;
     }
     Ok(())
 }
@@ -56,17 +55,17 @@ fn the_guide_opens_a_channel_and_says_hello() -> Result<(), Error> {
     let began = Instant::now();
     let mut ends = [end(true, began)?, end(false, began)?];
     go_on(&mut ends, began)?;
-    for end in &ends {
+    for end in &mut ends {
         assert_eq!(end.messages, [(0, Message::Text(b"hello".to_vec()))]);
-        let info = end.channels.info(0)?;
+        let channel = end.connection.channel(0);
+        let info = channel.info()?;
         assert_eq!((info.ordered, info.reliability), (false, Reliability::Retransmissions(2)));
-        assert_eq!(end.channels.label(0)?, b"moves");
+        assert_eq!(channel.label()?, "moves");
     }
     for tenths in 1..=10 {
         go_on(&mut ends, began + Duration::from_millis(100 * tenths))?; // what was delayed is acknowledged
     }
-    let [client, _] = &mut ends;
-    client.channels.close(&mut client.association, 0)?;
+    ends[0].connection.channel(0).close()?;
     go_on(&mut ends, began + Duration::from_millis(1100))?;
     for end in &ends {
         assert_eq!((end.forgotten.len(), end.messages.len()), (1, 1));

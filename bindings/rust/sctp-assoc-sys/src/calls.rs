@@ -53,7 +53,8 @@ extern "C" {
         local: *const sctp_assoc_token,
         remote: *const sctp_assoc_token,
     ) -> sctp_assoc_code;
-    /// Frees the association and leaves the slot empty. The peer is told nothing.
+    /// Frees the association and leaves the slot empty. The peer is told nothing. Of no slot it answers
+    /// [`SCTP_ASSOC_EMPTY_SLOT`](crate::SCTP_ASSOC_EMPTY_SLOT).
     pub fn sctp_assoc_free(slot: *mut sctp_assoc) -> sctp_assoc_code;
     /// Begins to end the association gracefully (RFC 4960 section 9.2).
     pub fn sctp_assoc_shutdown(slot: *mut sctp_assoc) -> sctp_assoc_code;
@@ -88,14 +89,14 @@ extern "C" {
     /// Whether a shutdown began here, once: [`SCTP_ASSOC_DONE`](crate::SCTP_ASSOC_DONE) tells it.
     pub fn sctp_assoc_poll_endpoint_event(slot: *mut sctp_assoc) -> sctp_assoc_code;
 
-    /// Whether the state is Established (RFC 4960 section 4).
-    pub fn sctp_assoc_is_established(slot: *mut sctp_assoc, answer: *mut bool) -> sctp_assoc_code;
+    /// Whether the state is Established (RFC 4960 section 4). That of an empty slot is not.
+    pub fn sctp_assoc_is_established(slot: *const sctp_assoc) -> bool;
     /// Whether a shutdown has begun, at either side, and the association is not closed yet.
     pub fn sctp_assoc_is_closing(slot: *mut sctp_assoc, answer: *mut bool) -> sctp_assoc_code;
     /// Whether the state is Closed.
     pub fn sctp_assoc_is_closed(slot: *mut sctp_assoc, answer: *mut bool) -> sctp_assoc_code;
-    /// Whether the association was lost.
-    pub fn sctp_assoc_is_drained(slot: *mut sctp_assoc, answer: *mut bool) -> sctp_assoc_code;
+    /// Whether the association was lost, or the slot is empty.
+    pub fn sctp_assoc_is_drained(slot: *const sctp_assoc) -> bool;
     /// Whether an earlier call found no memory in its middle.
     pub fn sctp_assoc_is_failed(slot: *mut sctp_assoc, answer: *mut bool) -> sctp_assoc_code;
     /// Writes what the association counted.

@@ -52,7 +52,7 @@ pub const SCTP_CHANNELS_STATE_OPEN: u32 = 1;
 /// The channel ends.
 pub const SCTP_CHANNELS_STATE_CLOSING: u32 = 2;
 
-/// The slot: room for the channels of one side. All bytes 0 is the empty slot. Nobody but the calls touches its fields.
+/// The channels of one side, a part of [`sctp_peer`]. Nobody but the calls touches its fields.
 #[repr(C)]
 #[derive(Debug)]
 pub struct sctp_channels {
@@ -62,9 +62,21 @@ pub struct sctp_channels {
     pub live: bool,
 }
 
-impl sctp_channels {
+/// The slot of an association with channels. All bytes 0 is the empty one. The calls of an association get `assoc`, and
+/// those of channels the whole; nobody else touches its fields.
+#[repr(C)]
+#[derive(Debug)]
+pub struct sctp_peer {
+    /// The association.
+    pub assoc: sctp_assoc,
+    /// Its channels.
+    pub channels: sctp_channels,
+}
+
+impl sctp_peer {
     /// The empty slot.
-    pub const EMPTY: sctp_channels = sctp_channels { at: ptr::null_mut(), live: false };
+    pub const EMPTY: sctp_peer =
+        sctp_peer { assoc: sctp_assoc::EMPTY, channels: sctp_channels { at: ptr::null_mut(), live: false } };
 }
 
 /// What a channel is asked to be, but for its label and protocol. The default is an ordered and reliable one.
@@ -120,15 +132,14 @@ pub struct sctp_channels_info {
 }
 
 extern "C" {
-    /// Puts a side without a channel into the slot. What the slot held is freed.
-    pub fn sctp_channels_begin(slot: *mut sctp_channels, role: u32) -> sctp_assoc_code;
-    /// Frees the channels and leaves the slot empty. The association and the peer are told nothing.
-    pub fn sctp_channels_free(slot: *mut sctp_channels) -> sctp_assoc_code;
+    /// Begins the channels of a side, of which there is none yet. Channels that the peer had before are freed.
+    pub fn sctp_channels_begin(peer: *mut sctp_peer, role: u32) -> sctp_assoc_code;
+    /// Frees the channels and the association, and leaves the slot empty. The other side is told nothing.
+    pub fn sctp_peer_free(peer: *mut sctp_peer) -> sctp_assoc_code;
 
     /// Makes a channel of this side, and writes its identifier.
     pub fn sctp_channels_open(
-        slot: *mut sctp_channels,
-        assoc: *mut sctp_assoc,
+        peer: *mut sctp_peer,
         options: *const sctp_channels_options,
         label: *const u8,
         label_length: usize,
@@ -137,22 +148,17 @@ extern "C" {
         id: *mut u16,
     ) -> sctp_assoc_code;
     /// Ends a channel: its stream is reset (RFC 8831 section 6.7).
-    pub fn sctp_channels_close(slot: *mut sctp_channels, assoc: *mut sctp_assoc, id: u16) -> sctp_assoc_code;
+    pub fn sctp_channels_close(peer: *mut sctp_peer, id: u16) -> sctp_assoc_code;
 
     /// Takes out the next event, in place of [`sctp_assoc_poll_event`](crate::sctp_assoc_poll_event) and
     /// [`sctp_assoc_accept_stream`](crate::sctp_assoc_accept_stream).
-    pub fn sctp_channels_poll_event(
-        slot: *mut sctp_channels,
-        assoc: *mut sctp_assoc,
-        event: *mut sctp_channels_event,
-    ) -> sctp_assoc_code;
+    pub fn sctp_channels_poll_event(peer: *mut sctp_peer, event: *mut sctp_channels_event) -> sctp_assoc_code;
 
-    /// Sets how long a message may be that is sent on a channel of this association, in bytes; 0 is any length.
-    pub fn sctp_channels_set_max_message_size(assoc: *mut sctp_assoc, bytes: u32) -> sctp_assoc_code;
+    /// Sets how long a message may be that is sent on a channel of this peer, in bytes; 0 is any length.
+    pub fn sctp_channels_set_max_message_size(peer: *mut sctp_peer, bytes: u32) -> sctp_assoc_code;
     /// Accepts one message, a text or a binary one.
     pub fn sctp_channels_send(
-        slot: *mut sctp_channels,
-        assoc: *mut sctp_assoc,
+        peer: *mut sctp_peer,
         id: u16,
         is_text: bool,
         message: *const u8,
@@ -160,8 +166,7 @@ extern "C" {
     ) -> sctp_assoc_code;
     /// Copies the next message, whole, to the front of the buffer, and writes its length and whether it is a text.
     pub fn sctp_channels_receive(
-        slot: *mut sctp_channels,
-        assoc: *mut sctp_assoc,
+        peer: *mut sctp_peer,
         id: u16,
         buffer: *mut u8,
         room: usize,
@@ -170,10 +175,10 @@ extern "C" {
     ) -> sctp_assoc_code;
 
     /// Writes what the channel is.
-    pub fn sctp_channels_get_info(slot: *mut sctp_channels, id: u16, info: *mut sctp_channels_info) -> sctp_assoc_code;
+    pub fn sctp_channels_get_info(peer: *mut sctp_peer, id: u16, info: *mut sctp_channels_info) -> sctp_assoc_code;
     /// Copies the label to the front of the buffer, and writes its length.
     pub fn sctp_channels_label(
-        slot: *mut sctp_channels,
+        peer: *mut sctp_peer,
         id: u16,
         buffer: *mut u8,
         room: usize,
@@ -181,33 +186,18 @@ extern "C" {
     ) -> sctp_assoc_code;
     /// Copies the protocol to the front of the buffer, and writes its length.
     pub fn sctp_channels_protocol(
-        slot: *mut sctp_channels,
+        peer: *mut sctp_peer,
         id: u16,
         buffer: *mut u8,
         room: usize,
         length: *mut usize,
     ) -> sctp_assoc_code;
     /// Writes the buffered amount, in bytes.
-    pub fn sctp_channels_buffered_amount(
-        slot: *mut sctp_channels,
-        assoc: *mut sctp_assoc,
-        id: u16,
-        bytes: *mut usize,
-    ) -> sctp_assoc_code;
+    pub fn sctp_channels_buffered_amount(peer: *mut sctp_peer, id: u16, bytes: *mut usize) -> sctp_assoc_code;
     /// Writes the low threshold of the buffered amount, in bytes.
-    pub fn sctp_channels_low_threshold(
-        slot: *mut sctp_channels,
-        assoc: *mut sctp_assoc,
-        id: u16,
-        bytes: *mut usize,
-    ) -> sctp_assoc_code;
+    pub fn sctp_channels_low_threshold(peer: *mut sctp_peer, id: u16, bytes: *mut usize) -> sctp_assoc_code;
     /// Sets the low threshold.
-    pub fn sctp_channels_set_low_threshold(
-        slot: *mut sctp_channels,
-        assoc: *mut sctp_assoc,
-        id: u16,
-        bytes: usize,
-    ) -> sctp_assoc_code;
+    pub fn sctp_channels_set_low_threshold(peer: *mut sctp_peer, id: u16, bytes: usize) -> sctp_assoc_code;
 
     /// The name of a code of these calls, without its prefix: constant text that ends with a byte 0.
     pub fn sctp_channels_code_name(code: sctp_assoc_code) -> *const c_char;

@@ -50,32 +50,61 @@ impl Declared {
         sorted(self.header.lines().filter_map(number_in))
     }
 
-    fn calls_of_header(&self) -> Vec<&str> {
-        let call_in = |line: &'static str| {
-            let types = ["sctp_assoc_code ", "uint32_t ", "const char *"];
-            let rest = types.iter().find_map(|answer| line.strip_prefix(answer))?;
-            rest.starts_with("sctp_").then(|| name_at(rest))
+    /// The calls that the header declares, in the words of Rust.
+    fn calls_of_header(&self) -> Vec<String> {
+        let call_at = |line: &'static str| {
+            let (head, arguments) = line.split_once(';')?.0.strip_suffix(')')?.split_once('(')?;
+            let (name, answer) = declared(head);
+            let types = arguments.split(',').map(|argument| declared(argument.trim()).1).filter(|of| of != "void");
+            (line.starts_with(char::is_alphabetic) && name.starts_with("sctp_")).then(|| call(name, types, &answer))
         };
-        sorted(self.header.lines().filter_map(call_in))
+        sorted(self.header.match_indices('\n').filter_map(|(end, _)| call_at(&self.header[end + 1..])))
     }
 
-    /// Each number that the header names has the same name here, each call that it declares is declared here, and no
-    /// others are.
+    /// Those that are declared here.
+    fn calls_here(&self) -> Vec<String> {
+        let call_at = |text: &'static str| {
+            let (name, rest) = text.split_once('(')?;
+            let (arguments, answer) = rest.split_once(';')?.0.split_once(") -> ")?;
+            let types = arguments.split(',').filter_map(|argument| argument.split_once(": ")).map(|(_, of)| of.into());
+            Some(call(name, types, answer))
+        };
+        sorted(self.calls.split("pub fn ").skip(1).filter_map(call_at))
+    }
+
+    /// Each number that the header names has the same name here, each call that it declares is declared here with the
+    /// same types, and no others are.
     fn assert_same(&self) {
         assert_eq!(sorted(self.numbers.lines().filter_map(number_of)), self.numbers_of_header());
-        let calls = self.calls.lines().filter_map(|line| line.trim().strip_prefix("pub fn ")).map(name_at);
-        assert_eq!(sorted(calls), self.calls_of_header());
+        assert_eq!(self.calls_here(), self.calls_of_header());
     }
+}
+
+/// A call without the names of what it gets.
+fn call(name: &str, types: impl Iterator<Item = String>, answer: &str) -> String {
+    format!("{name}({}) -> {answer}", types.collect::<Vec<_>>().join(", "))
+}
+
+/// The name that C declares, if it has one, and its type in the words of Rust.
+fn declared(in_c: &str) -> (&str, String) {
+    let (to, rest) = in_c.strip_prefix("const ").map_or(("*mut", in_c), |rest| ("*const", rest));
+    let (of, name) = rest.split_once(' ').unwrap_or((rest, ""));
+    let of = match of {
+        "uint8_t" => "u8",
+        "uint16_t" => "u16",
+        "uint32_t" => "u32",
+        "uint64_t" => "u64",
+        "size_t" => "usize",
+        "char" => "c_char",
+        same => same,
+    };
+    name.strip_prefix('*').map_or((name, of.into()), |name| (name, format!("{to} {of}")))
 }
 
 fn sorted<T: Ord>(items: impl Iterator<Item = T>) -> Vec<T> {
     let mut items: Vec<T> = items.collect();
     items.sort();
     items
-}
-
-fn name_at(text: &str) -> &str {
-    text.split('(').next().unwrap_or(text)
 }
 
 /// The number of a name here, in the words of C.
@@ -172,6 +201,7 @@ fn structs_are_laid_out_as_in_the_header() {
 fn structs_of_channels_are_laid_out_as_in_the_header() {
     let mut listed = String::new();
     layout!(listed, sctp_channels, at, live);
+    layout!(listed, sctp_peer, assoc, channels);
     layout!(listed, sctp_channels_options, reliability, value, priority, id, unordered, negotiated);
     layout!(listed, sctp_channels_event, kind, reason, id);
     layout!(
@@ -186,5 +216,6 @@ fn structs_of_channels_are_laid_out_as_in_the_header() {
         unordered,
         negotiated
     );
-    assert_eq!(listed, include_str!("../../../../host/layout_channels.txt"));
+    let of_header = include_str!("../../../../host/layout_channels.txt");
+    assert_eq!(sorted(listed.lines()), sorted(of_header.lines()));
 }

@@ -4,7 +4,7 @@
 //!
 //!     cargo run --features channels --example chat -- serve             takes a free port, and prints which
 //!     cargo run --features channels --example chat -- connect 9899
-use sctp_assoc::channels::{Channels, Event, Kind, Role};
+use sctp_assoc::channels::{Connection, Event, Kind, Role};
 use sctp_assoc::{Association, Config, End, Fate, Identity, MAX_DATAGRAM};
 use std::error::Error;
 use std::io::{stdin, stdout, BufRead, Write};
@@ -35,8 +35,7 @@ struct Chat {
     /// Of a server, once a client came.
     peer: Option<SocketAddr>,
     is_up: bool,
-    association: Association,
-    channels: Channels,
+    connection: Connection,
     /// Where it is open.
     channel: Option<u16>,
     ends_until: Option<Instant>,
@@ -83,9 +82,9 @@ impl Chat {
             None => (Association::server, Role::Server),
         };
         let association = make(&Config::default(), &Identity::random()?, Instant::now())?;
-        let mut channels = Channels::new(role)?;
+        let mut connection = Connection::new(association, role)?;
         if peer.is_some() {
-            channels.open(&association, "chat", "", &Kind::default())?;
+            connection.open("chat", "", &Kind::default())?;
         }
         let (datagrams, inputs) = sync_channel(100);
         let (lines, asked) = channel();
@@ -97,8 +96,7 @@ impl Chat {
             udp,
             peer,
             is_up: false,
-            association,
-            channels,
+            connection,
             channel: None,
             ends_until: None,
             inputs,
@@ -110,7 +108,7 @@ impl Chat {
 
     fn print_all(&mut self, id: u16) -> Result<()> {
         let mut output = stdout().lock();
-        while let Some(message) = self.channels.receive_vec(&mut self.association, id)? {
+        while let Some(message) = self.connection.channel(id).receive_vec()? {
             output.write_all(&message.into_bytes())?;
             output.write_all(b"\n")?;
         }
@@ -120,7 +118,7 @@ impl Chat {
     /// Ends the association, once all that either side accepted is acknowledged. If the peer has begun to, that goes
     /// on.
     fn end(&mut self) {
-        if self.association.shutdown().is_ok() {
+        if self.connection.shutdown().is_ok() {
             self.ends_until = Some(Instant::now() + END_WITHIN);
         }
     }
@@ -142,7 +140,7 @@ impl Chat {
     /// Answers whether there was any.
     fn take_events(&mut self) -> Result<bool> {
         let mut any = false;
-        while let Some(event) = self.channels.poll_event(&mut self.association)? {
+        while let Some(event) = self.connection.poll_event()? {
             self.on_event(event)?;
             any = true;
         }
@@ -151,7 +149,7 @@ impl Chat {
 
     /// Sends what is due.
     fn send_all(&mut self) -> Result<()> {
-        while let Some(datagram) = self.association.poll_transmit(Instant::now(), &mut self.buffer)? {
+        while let Some(datagram) = self.connection.poll_transmit(Instant::now(), &mut self.buffer)? {
             if let Some(peer) = self.peer {
                 let _ = self.udp.send_to(datagram, peer); // what the socket does not take is lost, as on the way
             }
@@ -174,7 +172,7 @@ impl Chat {
         if self.peer != Some(from) && (self.is_client || self.is_up) {
             return Ok(());
         }
-        if self.association.handle_datagram(Instant::now(), datagram)? == Fate::Taken {
+        if self.connection.handle_datagram(Instant::now(), datagram)? == Fate::Taken {
             self.peer = Some(from);
         }
         Ok(())
@@ -182,7 +180,7 @@ impl Chat {
 
     /// The channel, while messages can be sent: neither side has begun to end.
     fn open_channel(&self) -> Option<u16> {
-        self.channel.filter(|_| self.association.is_established())
+        self.channel.filter(|_| self.connection.is_established())
     }
 
     /// Says a line; at the end of the input the chat ends. What is read once the peer ended is not said.
@@ -190,7 +188,7 @@ impl Chat {
         self.awaits_line = false;
         let Some(id) = self.open_channel() else { return Ok(()) };
         match line {
-            Some(text) => self.channels.send_text(&mut self.association, id, text)?,
+            Some(text) => self.connection.channel(id).send_text(text)?,
             None => self.end(),
         }
         Ok(())
@@ -199,7 +197,7 @@ impl Chat {
     /// Has a line read if one can be said: not before the channel is open, nor while much waits to be acknowledged.
     fn ask_for_line(&mut self) -> Result<()> {
         let Some(id) = self.open_channel() else { return Ok(()) };
-        if !self.awaits_line && self.channels.buffered_amount(&self.association, id)? < MAX_BUFFERED {
+        if !self.awaits_line && self.connection.channel(id).buffered_amount()? < MAX_BUFFERED {
             self.awaits_line = true;
             self.lines.send(())?;
         }
@@ -208,7 +206,7 @@ impl Chat {
 
     /// Until a datagram or a line comes, which is taken, or a timer expires.
     fn wait(&mut self) -> Result<()> {
-        let input = match self.association.poll_timeout() {
+        let input = match self.connection.poll_timeout() {
             Some(due) => self.inputs.recv_timeout(due.saturating_duration_since(Instant::now())),
             None => self.inputs.recv().map_err(RecvTimeoutError::from),
         };
@@ -222,8 +220,8 @@ impl Chat {
 
     fn meet_timer(&mut self) -> Result<()> {
         let now = Instant::now();
-        if self.association.poll_timeout().is_some_and(|due| due <= now) {
-            self.association.handle_timeout(now)?;
+        if self.connection.poll_timeout().is_some_and(|due| due <= now) {
+            self.connection.handle_timeout(now)?;
         }
         Ok(())
     }
@@ -231,7 +229,7 @@ impl Chat {
     /// Until the association has ended, but not for ever.
     fn run(&mut self) -> Result<()> {
         self.serve()?;
-        while !self.association.is_drained() {
+        while !self.connection.is_drained() {
             if self.ends_until.is_some_and(|until| until < Instant::now()) {
                 return Err("the end was not answered".into());
             }
@@ -240,7 +238,7 @@ impl Chat {
             self.meet_timer()?;
             self.serve()?;
         }
-        match self.association.end() {
+        match self.connection.end() {
             Some(End::ShutDown) => Ok(()),
             end => Err(format!("the association ended: {end:?}").into()),
         }

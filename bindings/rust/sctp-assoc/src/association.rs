@@ -53,8 +53,9 @@ pub struct Totals {
 impl Association {
     /// Makes a client, whose INIT waits for [`poll_transmit`](Association::poll_transmit).
     ///
-    /// Errors: `BadPort`, `BadStreams`, `BadWindow`, `BadTag`, `BadTimeout`, `BadPayloadSize`, `BadInitialTsn`,
-    /// `NoMemory`.
+    /// # Errors
+    ///
+    /// `BadPort`, `BadStreams`, `BadWindow`, `BadTag`, `BadTimeout`, `BadPayloadSize`, `BadInitialTsn`, `NoMemory`.
     pub fn client(config: &Config, identity: &Identity, now: Instant) -> Result<Association, Error> {
         let slot = Slot::client(&config.raw(), config.max_payload_size, &identity.raw())?;
         Ok(Association { slot, began: now, observer: None })
@@ -62,8 +63,9 @@ impl Association {
 
     /// Makes a server, which waits for an INIT.
     ///
-    /// Errors: `BadPort`, `BadStreams`, `BadWindow`, `BadTag`, `BadTimeout`, `BadPayloadSize`, `BadInitialTsn`,
-    /// `NoMemory`.
+    /// # Errors
+    ///
+    /// `BadPort`, `BadStreams`, `BadWindow`, `BadTag`, `BadTimeout`, `BadPayloadSize`, `BadInitialTsn`, `NoMemory`.
     pub fn server(config: &Config, identity: &Identity, now: Instant) -> Result<Association, Error> {
         let slot = Slot::server(&config.raw(), config.max_payload_size, &identity.raw())?;
         Ok(Association { slot, began: now, observer: None })
@@ -71,7 +73,9 @@ impl Association {
 
     /// Makes a side that is established at once, by both sides' tokens. [`Event::Connected`] waits.
     ///
-    /// Errors: `BadPort`, `BadStreams`, `BadWindow`, `BadTimeout`, `BadPayloadSize`, `BadToken`, `NoMemory`.
+    /// # Errors
+    ///
+    /// `BadPort`, `BadStreams`, `BadWindow`, `BadTimeout`, `BadPayloadSize`, `BadToken`, `NoMemory`.
     pub fn joined(config: &Config, local: &Token, remote: &Token, now: Instant) -> Result<Association, Error> {
         let slot = Slot::joined(&config.raw(), config.max_payload_size, &local.raw(), &remote.raw())?;
         Ok(Association { slot, began: now, observer: None })
@@ -84,7 +88,9 @@ impl Association {
 
     /// Takes in one datagram that came at `now`: an SCTP packet from its common header on.
     ///
-    /// Errors: `Failed`; `NoMemory`: all is as before, or the association failed.
+    /// # Errors
+    ///
+    /// `Failed`; `NoMemory`: all is as before, or the association failed.
     pub fn handle_datagram(&mut self, now: Instant, datagram: &[u8]) -> Result<Fate, Error> {
         Ok(match self.slot.handle_datagram(self.nanos(now), datagram)? {
             sys::SCTP_ASSOC_TAKEN => {
@@ -117,8 +123,10 @@ impl Association {
     /// in fragments if that is more than the path takes; if it may not, close streams in groups, and wait for
     /// [`Event::ResetComplete`] of one group before the next. What cannot be sent counts as lost.
     ///
-    /// Errors: `NoRoom` if the buffer is shorter than the datagram, which stays, with those after it; `Failed`;
-    /// `NoMemory`: the association failed, and what was due is lost.
+    /// # Errors
+    ///
+    /// `NoRoom` if the buffer is shorter than the datagram, which stays, with those after it; `Failed`; `NoMemory`: the
+    /// association failed, and what was due is lost.
     pub fn poll_transmit<'b>(&mut self, now: Instant, buffer: &'b mut [u8]) -> Result<Option<&'b [u8]>, Error> {
         let Some(length) = self.slot.poll_transmit(self.nanos(now), buffer)? else { return Ok(None) };
         let datagram = &buffer[..length];
@@ -149,14 +157,18 @@ impl Association {
     /// [`Profile::Rfc`](crate::Profile::Rfc) a peer that is silent for good ends the association here:
     /// [`Event::Lost`] tells it, and [`end`](Association::end) says [`End::Silent`](crate::End::Silent).
     ///
-    /// Errors: `Failed`; `NoMemory`: the association failed.
+    /// # Errors
+    ///
+    /// `Failed`; `NoMemory`: the association failed.
     pub fn handle_timeout(&mut self, now: Instant) -> Result<(), Error> {
         self.slot.handle_timeout(self.nanos(now))
     }
 
     /// Takes out the oldest event. None if none waits.
     ///
-    /// Errors: `Failed`.
+    /// # Errors
+    ///
+    /// `Failed`.
     pub fn poll_event(&mut self) -> Result<Option<Event>, Error> {
         Ok(self.slot.poll_event()?.map(|told| Event::of(&told)))
     }
@@ -178,7 +190,9 @@ impl Association {
     /// nothing any more, even if the last datagram that it sent is lost. So wait for a bounded time, and
     /// [`close`](Association::close) then.
     ///
-    /// Errors: `Failed`; `ShutdownNotEstablished`, also if either side has begun a shutdown.
+    /// # Errors
+    ///
+    /// `Failed`; `ShutdownNotEstablished`, also if either side has begun a shutdown.
     pub fn shutdown(&mut self) -> Result<(), Error> {
         self.slot.shutdown()
     }
@@ -186,7 +200,9 @@ impl Association {
     /// Closes the association at once. The peer is told nothing, and each stream ends. A datagram that waits, and a
     /// message that did not fit a buffer, can still be taken.
     ///
-    /// Errors: `Failed`; `NoMemory`: the association failed.
+    /// # Errors
+    ///
+    /// `Failed`; `NoMemory`: the association failed.
     pub fn close(&mut self) -> Result<(), Error> {
         self.slot.close()
     }
@@ -197,7 +213,9 @@ impl Association {
     /// so short that the path takes it. A closed association stays as it is, and before the peer has answered the
     /// handshake nobody is told. The ABORT is not repeated: if it is lost, the peer learns nothing of the end.
     ///
-    /// Errors: `Failed`; `MessageTooLong`; `NoMemory`: nothing changed, or the association failed.
+    /// # Errors
+    ///
+    /// `Failed`; `MessageTooLong`; `NoMemory`: nothing changed, or the association failed.
     pub fn abort(&mut self, reason: &[u8]) -> Result<(), Error> {
         self.slot.abort(reason)
     }
@@ -264,7 +282,9 @@ impl Association {
 
     /// The identifiers of the streams, ascending: those that this side opened, and those that the peer did.
     ///
-    /// Errors: `Failed`, `NoMemory`.
+    /// # Errors
+    ///
+    /// `Failed`, `NoMemory`.
     pub fn stream_ids(&self) -> Result<Vec<u16>, Error> {
         let mut ids = Vec::new();
         match self.slot.stream_ids(&mut ids) {
@@ -286,7 +306,9 @@ impl Association {
     /// Makes a stream on this side. What is written on it carries this payload type unless a write names one. Nothing
     /// is sent for it: the peer sees the stream by its first message, as [`Event::Opened`] says.
     ///
-    /// Errors: `Failed`, `StreamExists` (also if the peer opened it), `ResetPending`, `NoStreamLeft`, `NoMemory`.
+    /// # Errors
+    ///
+    /// `Failed`, `StreamExists` (also if the peer opened it), `ResetPending`, `NoStreamLeft`, `NoMemory`.
     pub fn open_stream(&mut self, id: u16, payload_type: PayloadType) -> Result<Stream<'_>, Error> {
         self.slot.open_stream(id, payload_type.number())?;
         Ok(self.stream(id))

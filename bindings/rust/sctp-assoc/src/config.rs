@@ -135,7 +135,9 @@ pub struct Identity {
 impl Identity {
     /// Draws an identity from the system's random source. No other call asks the system for anything but memory.
     ///
-    /// Errors: `NoRandom`.
+    /// # Errors
+    ///
+    /// `NoRandom`.
     pub fn random() -> Result<Identity, Error> {
         let raw = slot::random_identity()?;
         Ok(Identity { tag: raw.tag, initial_tsn: raw.initial_tsn, cookie: raw.cookie })
@@ -180,7 +182,9 @@ impl Token {
 
     /// The INIT chunk with these values (RFC 4960 section 3.3.2), as a client would send it, with its padding.
     ///
-    /// Errors: `BadToken`.
+    /// # Errors
+    ///
+    /// `BadToken`.
     pub fn to_init(&self) -> Result<Vec<u8>, Error> {
         slot::token_to_init(&self.raw())
     }
@@ -189,7 +193,9 @@ impl Token {
     /// Extensions count alone; one that RFC 4960 doesn't know is passed over, or ends the reading, as its type says
     /// (section 3.2.1).
     ///
-    /// Errors: `BadInit`, `BadToken`.
+    /// # Errors
+    ///
+    /// `BadInit`, `BadToken`.
     pub fn from_init(init: &[u8]) -> Result<Token, Error> {
         Ok(Token::of(&slot::token_from_init(init)?))
     }

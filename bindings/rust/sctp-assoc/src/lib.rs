@@ -10,8 +10,9 @@
 //! 2. If a datagram came, hand it to [`handle_datagram`](Association::handle_datagram).
 //! 3. Take events and poll for datagrams until neither brings anything: a poll for datagrams can queue events, and what
 //!    is written or read at an event leaves datagrams.
-//!    - Call [`poll_event`](Association::poll_event) until it gives None; at [`Event::Readable`] call
-//!      [`read`](Stream::read) until it does so too, or the stream is gone.
+//!    - Call [`poll_event`](Association::poll_event) until it gives None; at [`Event::Opened`] call
+//!      [`accept_stream`](Association::accept_stream), and at [`Event::Readable`] [`read`](Stream::read) until it gives
+//!      None, too, or the stream is gone.
 //!    - Call [`poll_transmit`](Association::poll_transmit) until it gives None, and send each datagram.
 //! 4. Sleep until the moment of `poll_timeout`, or until a datagram comes.
 //!
@@ -47,14 +48,17 @@
 //! client.open_stream(1, PayloadType::String)?.write(b"hello")?;
 //! pass_on(&mut client, &mut server, now)?;
 //!
+//! let mut stream = server.accept_stream().expect("the client opened one");
+//! assert_eq!(stream.id(), 1);
 //! let mut buffer = [0; 100];
-//! let message = server.stream(1).read(&mut buffer)?.expect("the message came");
+//! let message = stream.read(&mut buffer)?.expect("the message came");
 //! assert_eq!(message.bytes, b"hello");
 //! assert_eq!(message.payload_type, PayloadType::String);
 //! # Ok::<(), Error>(())
 //! ```
 //!
-//! Data channels (RFC 8832) are in the module `channels`, with the cargo feature of that name.
+//! Data channels (RFC 8832) are in the module `channels`, with the cargo feature of that name: a `Connection` there owns
+//! an association and its channels.
 //!
 //! Moments are of `std::time::Instant`, so the crate needs `std`; `sctp-assoc-sys` does not.
 #![deny(missing_docs, unsafe_op_in_unsafe_fn, unsafe_code)]

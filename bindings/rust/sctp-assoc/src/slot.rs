@@ -1,18 +1,26 @@
-//! The C calls as safe ones. No other file of this crate has unsafe code, but that of the slot of channels.
+//! The C calls as safe ones. No other file of this crate has unsafe code, but that of the calls of channels.
 //!
 //! What the C calls ask for holds of each call here. Pointers are made of references, so that they lead to what their
 //! types say; with slices go their lengths. A slot that is made holds an association, until it is dropped. Calls that
-//! ask a question write to the slot, too: `Slot` is not `Sync`, so no two calls on it run at a time.
+//! ask a question may write to the slot, too: `Slot` is not `Sync`, so no two calls on it run at a time.
+//!
+//! With the feature `channels` a slot has room for channels beside the association: none, until they are begun.
 use crate::error::{done, done_or_nothing, Error};
 use sctp_assoc_sys as sys;
 use std::cell::UnsafeCell;
 use sys::{sctp_assoc, sctp_assoc_code, sctp_assoc_watch};
 
+// What a slot holds, and the call that frees it.
+#[cfg(not(feature = "channels"))]
+use sys::{sctp_assoc as Held, sctp_assoc_free as free};
+#[cfg(feature = "channels")]
+use sys::{sctp_peer as Held, sctp_peer_free as free};
+
 type Made = Result<Slot, Error>;
 
 /// A slot with an association, and its watch.
 pub(crate) struct Slot {
-    raw: UnsafeCell<sctp_assoc>,
+    held: UnsafeCell<Held>,
     watch: sctp_assoc_watch,
 }
 
@@ -21,8 +29,9 @@ unsafe impl Send for Slot {}
 
 impl Drop for Slot {
     fn drop(&mut self) {
-        // SAFETY: as the file's head says; nobody uses the slot any more.
-        unsafe { sys::sctp_assoc_free(self.raw.get()) };
+        // SAFETY: as the file's head says; nobody uses the slot any more. One that was not made is empty, which is
+        // answered.
+        unsafe { free(self.held.get()) };
     }
 }
 
@@ -86,9 +95,20 @@ impl Slot {
     }
 
     fn made(make: impl FnOnce(*mut sctp_assoc) -> sctp_assoc_code) -> Made {
-        let mut raw = sctp_assoc::EMPTY;
-        done(make(&mut raw))?;
-        Ok(Slot { raw: UnsafeCell::new(raw), watch: sctp_assoc_watch::NEW })
+        let slot = Slot { held: UnsafeCell::new(Held::EMPTY), watch: sctp_assoc_watch::NEW };
+        done(make(slot.raw()))?;
+        Ok(slot)
+    }
+
+    // The association. It is all that is held, or its first part, whose place is that of the whole.
+    fn raw(&self) -> *mut sctp_assoc {
+        self.held.get().cast()
+    }
+
+    /// The association and its channels.
+    #[cfg(feature = "channels")]
+    pub(crate) fn peer(&self) -> *mut sys::sctp_peer {
+        self.held.get()
     }
 }
 
@@ -117,7 +137,7 @@ impl Slot {
     pub(crate) fn poll_timeout(&self) -> Option<u64> {
         let mut moment = 0;
         // SAFETY: as the file's head says.
-        let code = unsafe { sys::sctp_assoc_poll_timeout(self.raw.get(), &mut moment) };
+        let code = unsafe { sys::sctp_assoc_poll_timeout(self.raw(), &mut moment) };
         (code == sys::SCTP_ASSOC_DONE).then_some(moment)
     }
 
@@ -138,12 +158,12 @@ impl Slot {
     /// Whether a shutdown began here, once.
     pub(crate) fn poll_endpoint_event(&mut self) -> bool {
         // SAFETY: as the file's head says.
-        unsafe { sys::sctp_assoc_poll_endpoint_event(self.raw.get()) == sys::SCTP_ASSOC_DONE }
+        unsafe { sys::sctp_assoc_poll_endpoint_event(self.raw()) == sys::SCTP_ASSOC_DONE }
     }
 
     pub(crate) fn shutdown(&mut self) -> Result<(), Error> {
         // SAFETY: as the file's head says.
-        done(unsafe { sys::sctp_assoc_shutdown(self.raw.get()) })
+        done(unsafe { sys::sctp_assoc_shutdown(self.raw()) })
     }
 
     pub(crate) fn close(&mut self) -> Result<(), Error> {
@@ -163,12 +183,6 @@ impl Slot {
         &self.watch
     }
 
-    /// The slot, for the calls of channels.
-    #[cfg(feature = "channels")]
-    pub(crate) fn raw(&self) -> *mut sctp_assoc {
-        self.raw.get()
-    }
-
     /// Notes that the receive buffer was exhausted, which an event told that no watched call took.
     #[cfg(feature = "channels")]
     pub(crate) fn note_exhausted(&mut self) {
@@ -177,14 +191,15 @@ impl Slot {
 
     // What the watched calls want.
     fn watched(&mut self) -> (*mut sctp_assoc, *mut sctp_assoc_watch) {
-        (self.raw.get(), &mut self.watch)
+        (self.raw(), &mut self.watch)
     }
 }
 
 /// Questions about the association.
 impl Slot {
     pub(crate) fn is_established(&self) -> bool {
-        self.asked(sys::sctp_assoc_is_established)
+        // SAFETY: as the file's head says.
+        unsafe { sys::sctp_assoc_is_established(self.raw()) }
     }
 
     pub(crate) fn is_closing(&self) -> bool {
@@ -196,7 +211,8 @@ impl Slot {
     }
 
     pub(crate) fn is_drained(&self) -> bool {
-        self.asked(sys::sctp_assoc_is_drained)
+        // SAFETY: as the file's head says.
+        unsafe { sys::sctp_assoc_is_drained(self.raw()) }
     }
 
     pub(crate) fn is_failed(&self) -> bool {
@@ -220,7 +236,7 @@ impl Slot {
     pub(crate) fn stream_ids(&self, ids: &mut [u16]) -> Result<usize, Error> {
         let mut count = 0;
         // SAFETY: as the file's head says.
-        let code = unsafe { sys::sctp_assoc_stream_ids(self.raw.get(), ids.as_mut_ptr(), ids.len(), &mut count) };
+        let code = unsafe { sys::sctp_assoc_stream_ids(self.raw(), ids.as_mut_ptr(), ids.len(), &mut count) };
         match code {
             sys::SCTP_ASSOC_DONE => Ok(count),
             refused => Err(Error::of(refused, count)),
@@ -231,7 +247,7 @@ impl Slot {
     fn asked<T: Default>(&self, question: unsafe extern "C" fn(*mut sctp_assoc, *mut T) -> sctp_assoc_code) -> T {
         let mut answer = T::default();
         // SAFETY: as the file's head says; the questions above are calls of the library.
-        unsafe { question(self.raw.get(), &mut answer) };
+        unsafe { question(self.raw(), &mut answer) };
         answer
     }
 }
@@ -240,25 +256,25 @@ impl Slot {
 impl Slot {
     pub(crate) fn set_max_send_message_size(&mut self, bytes: u32) {
         // SAFETY: as the file's head says.
-        unsafe { sys::sctp_assoc_set_max_send_message_size(self.raw.get(), bytes) };
+        unsafe { sys::sctp_assoc_set_max_send_message_size(self.raw(), bytes) };
     }
 
     pub(crate) fn open_stream(&mut self, stream: u16, payload_type: u32) -> Result<(), Error> {
         // SAFETY: as the file's head says.
-        done(unsafe { sys::sctp_assoc_open_stream(self.raw.get(), stream, payload_type) })
+        done(unsafe { sys::sctp_assoc_open_stream(self.raw(), stream, payload_type) })
     }
 
     pub(crate) fn accept_stream(&mut self) -> Option<u16> {
         let mut stream = 0;
         // SAFETY: as the file's head says.
-        let code = unsafe { sys::sctp_assoc_accept_stream(self.raw.get(), &mut stream) };
+        let code = unsafe { sys::sctp_assoc_accept_stream(self.raw(), &mut stream) };
         (code == sys::SCTP_ASSOC_DONE).then_some(stream)
     }
 
     pub(crate) fn write(&mut self, stream: u16, payload_type: u32, message: &[u8]) -> Result<(), Error> {
         let (at, length) = (message.as_ptr(), message.len());
         // SAFETY: as the file's head says.
-        done(unsafe { sys::sctp_assoc_write(self.raw.get(), stream, payload_type, at, length) })
+        done(unsafe { sys::sctp_assoc_write(self.raw(), stream, payload_type, at, length) })
     }
 
     /// The length and the payload type of the message, which stands at the front of the buffer.
@@ -266,28 +282,28 @@ impl Slot {
         let (mut length, mut number) = (0, 0);
         let (at, room) = (buffer.as_mut_ptr(), buffer.len());
         // SAFETY: as the file's head says.
-        let code = unsafe { sys::sctp_assoc_read(self.raw.get(), stream, at, room, &mut length, &mut number) };
+        let code = unsafe { sys::sctp_assoc_read(self.raw(), stream, at, room, &mut length, &mut number) };
         Ok(done_or_nothing(code, length)?.then_some((length, number)))
     }
 
     pub(crate) fn finish(&mut self, stream: u16) -> Result<(), Error> {
         // SAFETY: as the file's head says.
-        done(unsafe { sys::sctp_assoc_finish(self.raw.get(), stream) })
+        done(unsafe { sys::sctp_assoc_finish(self.raw(), stream) })
     }
 
     pub(crate) fn stop(&mut self, stream: u16) -> Result<(), Error> {
         // SAFETY: as the file's head says.
-        done(unsafe { sys::sctp_assoc_stop(self.raw.get(), stream) })
+        done(unsafe { sys::sctp_assoc_stop(self.raw(), stream) })
     }
 
     pub(crate) fn close_stream(&mut self, stream: u16) -> Result<(), Error> {
         // SAFETY: as the file's head says.
-        done(unsafe { sys::sctp_assoc_close_stream(self.raw.get(), stream) })
+        done(unsafe { sys::sctp_assoc_close_stream(self.raw(), stream) })
     }
 
     pub(crate) fn set_reliability(&mut self, stream: u16, unordered: bool, kind: u32, value: u32) -> Result<(), Error> {
         // SAFETY: as the file's head says.
-        done(unsafe { sys::sctp_assoc_set_reliability(self.raw.get(), stream, unordered, kind, value) })
+        done(unsafe { sys::sctp_assoc_set_reliability(self.raw(), stream, unordered, kind, value) })
     }
 }
 
@@ -299,7 +315,7 @@ impl Slot {
 
     pub(crate) fn set_payload_type(&mut self, stream: u16, payload_type: u32) -> Result<(), Error> {
         // SAFETY: as the file's head says.
-        done(unsafe { sys::sctp_assoc_set_payload_type(self.raw.get(), stream, payload_type) })
+        done(unsafe { sys::sctp_assoc_set_payload_type(self.raw(), stream, payload_type) })
     }
 
     pub(crate) fn stream_stats(&self, stream: u16) -> Result<sys::sctp_assoc_counters, Error> {
@@ -316,7 +332,7 @@ impl Slot {
 
     pub(crate) fn set_low_mark(&mut self, stream: u16, bytes: usize) -> Result<(), Error> {
         // SAFETY: as the file's head says.
-        done(unsafe { sys::sctp_assoc_set_low_mark(self.raw.get(), stream, bytes) })
+        done(unsafe { sys::sctp_assoc_set_low_mark(self.raw(), stream, bytes) })
     }
 
     pub(crate) fn high_mark(&self, stream: u16) -> Result<usize, Error> {
@@ -325,7 +341,7 @@ impl Slot {
 
     pub(crate) fn set_high_mark(&mut self, stream: u16, bytes: usize) -> Result<(), Error> {
         // SAFETY: as the file's head says.
-        done(unsafe { sys::sctp_assoc_set_high_mark(self.raw.get(), stream, bytes) })
+        done(unsafe { sys::sctp_assoc_set_high_mark(self.raw(), stream, bytes) })
     }
 
     // What a question about a stream writes.
@@ -336,7 +352,7 @@ impl Slot {
     ) -> Result<T, Error> {
         let mut answer = T::default();
         // SAFETY: as the file's head says; the questions above are calls of the library.
-        done(unsafe { question(self.raw.get(), stream, &mut answer) })?;
+        done(unsafe { question(self.raw(), stream, &mut answer) })?;
         Ok(answer)
     }
 }

@@ -27,13 +27,19 @@ impl Stream<'_> {
     /// Accepts one message under the payload type that the stream was opened with. It goes out with
     /// [`poll_transmit`](Association::poll_transmit), as the windows allow.
     ///
-    /// Errors: `Failed`, `NoStream`, `StreamClosed`, `NotEstablished`, `ResetPending`, `EmptyMessage`,
-    /// `MessageTooLong`, `NoMemory`.
+    /// # Errors
+    ///
+    /// `Failed`, `NoStream`, `StreamClosed`, `NotEstablished`, `ResetPending`, `EmptyMessage`, `MessageTooLong`,
+    /// `NoMemory`.
     pub fn write(&mut self, message: &[u8]) -> Result<(), Error> {
         self.association.slot.write(self.id, sys::SCTP_ASSOC_PPID_OF_STREAM, message)
     }
 
     /// The same under another payload type.
+    ///
+    /// # Errors
+    ///
+    /// Those of [`write`](Stream::write).
     pub fn write_as(&mut self, payload_type: PayloadType, message: &[u8]) -> Result<(), Error> {
         self.association.slot.write(self.id, payload_type.number(), message)
     }
@@ -46,8 +52,10 @@ impl Stream<'_> {
     /// [`poll_transmit`](Association::poll_transmit) after reads. The window is open if 2 * (`max_payload_size` + 28)
     /// bytes may come, two packets, or half of `max_receive_buffer_size` if that is less.
     ///
-    /// Errors: `NoRoom` if the buffer is shorter than the message, which stays; `Failed`, `NoStream`,
-    /// `StreamClosed`; `NoMemory`: the message stays, or the association failed.
+    /// # Errors
+    ///
+    /// `NoRoom` if the buffer is shorter than the message, which stays; `Failed`, `NoStream`, `StreamClosed`;
+    /// `NoMemory`: the message stays, or the association failed.
     pub fn read<'b>(&mut self, buffer: &'b mut [u8]) -> Result<Option<Message<'b>>, Error> {
         let read = self.association.slot.read(self.id, buffer)?;
         Ok(read.map(|(length, number)| Message { payload_type: PayloadType::of(number), bytes: &buffer[..length] }))
@@ -55,7 +63,9 @@ impl Stream<'_> {
 
     /// The same into a vector of the message's length.
     ///
-    /// Errors: those of [`read`](Stream::read) but `NoRoom`.
+    /// # Errors
+    ///
+    /// Those of [`read`](Stream::read) but `NoRoom`.
     pub fn read_vec(&mut self) -> Result<Option<(PayloadType, Vec<u8>)>, Error> {
         let needed = match self.read(&mut []) {
             Err(Error::NoRoom { needed }) => needed,
@@ -69,7 +79,9 @@ impl Stream<'_> {
 
     /// Closes the write half. What was accepted goes out as before, and the peer is not told.
     ///
-    /// Errors: `Failed`, `NoStream`.
+    /// # Errors
+    ///
+    /// `Failed`, `NoStream`.
     pub fn finish(&mut self) -> Result<(), Error> {
         self.association.slot.finish(self.id)
     }
@@ -88,7 +100,9 @@ impl Stream<'_> {
     /// ended once more. By [`Profile::Port`](crate::Profile::Port) what is unread takes room until the stream ends, and
     /// may leave the buffer exhausted, which ends the association.
     ///
-    /// Errors: `Failed`, `NoStream`, `CannotReset`; `NoMemory`: the association failed.
+    /// # Errors
+    ///
+    /// `Failed`, `NoStream`, `CannotReset`; `NoMemory`: the association failed.
     pub fn stop(&mut self) -> Result<(), Error> {
         self.association.slot.stop(self.id)
     }
@@ -96,7 +110,9 @@ impl Stream<'_> {
     /// Closes both halves: first as [`finish`](Stream::finish), and then as [`stop`](Stream::stop) does, which says
     /// what becomes of what is unread or under way.
     ///
-    /// Errors: those of `stop`.
+    /// # Errors
+    ///
+    /// Those of `stop`.
     pub fn close(&mut self) -> Result<(), Error> {
         self.association.slot.close_stream(self.id)
     }
@@ -106,7 +122,9 @@ impl Stream<'_> {
     /// it or nothing; no timer runs for it. If the peer does not list FORWARD TSN (RFC 3758), none is given up, and
     /// messages under [`PayloadType::Dcep`] never are.
     ///
-    /// Errors: `Failed`, `NoStream`.
+    /// # Errors
+    ///
+    /// `Failed`, `NoStream`.
     pub fn set_reliability(&mut self, unordered: bool, reliability: Reliability) -> Result<(), Error> {
         let (kind, value) = reliability.raw();
         self.association.slot.set_reliability(self.id, unordered, kind, value)
@@ -115,28 +133,36 @@ impl Stream<'_> {
     /// The payload type of messages whose write names none: that with which the stream was opened, and `Unknown` if
     /// the peer opened it.
     ///
-    /// Errors: `Failed`, `NoStream`.
+    /// # Errors
+    ///
+    /// `Failed`, `NoStream`.
     pub fn payload_type(&self) -> Result<PayloadType, Error> {
         Ok(PayloadType::of(self.association.slot.payload_type(self.id)?))
     }
 
     /// Sets it for messages that are written from now on.
     ///
-    /// Errors: `Failed`, `NoStream`.
+    /// # Errors
+    ///
+    /// `Failed`, `NoStream`.
     pub fn set_payload_type(&mut self, payload_type: PayloadType) -> Result<(), Error> {
         self.association.slot.set_payload_type(self.id, payload_type.number())
     }
 
     /// What the stream counted since it was opened. A message that waits for a longer buffer counts as read.
     ///
-    /// Errors: `Failed`, `NoStream`.
+    /// # Errors
+    ///
+    /// `Failed`, `NoStream`.
     pub fn stats(&self) -> Result<Counters, Error> {
         Ok(Counters::of(&self.association.slot.stream_stats(self.id)?))
     }
 
     /// The buffered amount: bytes that were accepted and are neither acknowledged nor given up.
     ///
-    /// Errors: `Failed`, `NoStream`.
+    /// # Errors
+    ///
+    /// `Failed`, `NoStream`.
     pub fn buffered_amount(&self) -> Result<usize, Error> {
         self.association.slot.buffered_amount(self.id)
     }
@@ -145,14 +171,18 @@ impl Stream<'_> {
     /// from above it to it or below, that is told as
     /// [`Event::BufferedAmountLow`](crate::Event::BufferedAmountLow).
     ///
-    /// Errors: `Failed`, `NoStream`.
+    /// # Errors
+    ///
+    /// `Failed`, `NoStream`.
     pub fn low_mark(&self) -> Result<usize, Error> {
         self.association.slot.low_mark(self.id)
     }
 
     /// Sets the low mark. That by itself is not told.
     ///
-    /// Errors: `Failed`, `NoStream`.
+    /// # Errors
+    ///
+    /// `Failed`, `NoStream`.
     pub fn set_low_mark(&mut self, bytes: usize) -> Result<(), Error> {
         self.association.slot.set_low_mark(self.id, bytes)
     }
@@ -160,14 +190,18 @@ impl Stream<'_> {
     /// The high mark, in bytes, at first `usize::MAX`: a write that takes the buffered amount from below it to it or
     /// above is told as [`Event::BufferedAmountHigh`](crate::Event::BufferedAmountHigh).
     ///
-    /// Errors: `Failed`, `NoStream`.
+    /// # Errors
+    ///
+    /// `Failed`, `NoStream`.
     pub fn high_mark(&self) -> Result<usize, Error> {
         self.association.slot.high_mark(self.id)
     }
 
     /// Sets the high mark. That by itself is not told.
     ///
-    /// Errors: `Failed`, `NoStream`.
+    /// # Errors
+    ///
+    /// `Failed`, `NoStream`.
     pub fn set_high_mark(&mut self, bytes: usize) -> Result<(), Error> {
         self.association.slot.set_high_mark(self.id, bytes)
     }

@@ -188,19 +188,19 @@ fn handshakes() -> Result<(), Error> {
 /// Memory is refused to channels. Each call can be made again, and the association goes on.
 #[cfg(feature = "channels")]
 fn refused_channels() -> Result<(), sctp_assoc::channels::Error> {
-    use sctp_assoc::channels::{Channels, Error, Kind, Role};
-    let mut link = Link::established(&Config::default())?;
-    let end = &mut link.ends[0];
-    assert_eq!(refusing(|| Channels::new(Role::Client)).expect_err("it is refused"), Error::NoMemory);
-    let mut channels = Channels::new(Role::Client)?;
-    assert_eq!(refusing(|| channels.open(end, "chat", "", &Kind::default())), Err(Error::NoMemory));
-    let id = channels.open(end, "chat", "", &Kind::default())?;
-    assert_eq!(refusing(|| channels.poll_event(end)), Err(Error::NoMemory));
-    assert_eq!(channels.poll_event(end)?, None);
-    assert_eq!(refusing(|| channels.send_text(end, id, "hello")), Err(Error::NoMemory));
-    channels.send_text(end, id, "hello")?;
-    assert!(end.is_established() && !end.is_failed());
-    assert_eq!(end.stream(id).buffered_amount()?, 12 + "chat".len() + "hello".len());
+    use sctp_assoc::channels::{Connection, Error, Kind, Role};
+    let [client, server] = Link::established(&Config::default())?.ends;
+    assert_eq!(refusing(|| Connection::new(server, Role::Server)).expect_err("it is refused"), Error::NoMemory);
+    let mut connection = Connection::new(client, Role::Client)?;
+    assert_eq!(refusing(|| connection.open("chat", "", &Kind::default())), Err(Error::NoMemory));
+    let id = connection.open("chat", "", &Kind::default())?;
+    assert_eq!(refusing(|| connection.poll_event()), Err(Error::NoMemory));
+    assert_eq!(connection.poll_event()?, None);
+    assert_eq!(refusing(|| connection.channel(id).send_text("hello")), Err(Error::NoMemory));
+    connection.channel(id).send_text("hello")?;
+    assert!(connection.is_established() && !connection.association().is_failed());
+    let stream = connection.association_mut().stream(id);
+    assert_eq!(stream.buffered_amount()?, 12 + "chat".len() + "hello".len());
     Ok(())
 }
 

@@ -28,6 +28,8 @@ pub enum Error {
     NotOpen,
     /// The association was lost.
     Lost,
+    /// The peer's label or protocol is no UTF-8, which RFC 8832 section 5.1 asks for.
+    NotUtf8,
 }
 
 impl Error {
@@ -72,6 +74,7 @@ impl fmt::Display for Error {
             Error::NotOpen => f.write_str("the channel is not open"),
             Error::IdentifierPastStreams => f.write_str("this side may not send on so many streams"),
             Error::Lost => f.write_str("the association was lost"),
+            Error::NotUtf8 => f.write_str("the label or the protocol is no UTF-8"),
         }
     }
 }

@@ -1,7 +1,7 @@
 use crate::Reason;
 use sctp_assoc_sys as sys;
 
-/// What happened to the channels of an association, as [`poll_event`](super::Channels::poll_event) tells it.
+/// What happened to the channels of an association, as [`poll_event`](super::Connection::poll_event) tells it.
 #[derive(Clone, Copy, Debug, PartialEq, Eq)]
 #[non_exhaustive]
 pub enum Event {

@@ -1,5 +1,6 @@
 use crate::Reliability;
 use sctp_assoc_sys as sys;
+use std::time::Duration;
 
 /// The role of a side in the DTLS handshake. A client's own channels have even identifiers, a server's odd ones (RFC
 /// 8832 section 6).
@@ -20,8 +21,14 @@ impl Role {
     }
 }
 
-/// What a channel is asked to be, but for its label and protocol. `Kind::default()` is an ordered and reliable one; set
-/// the fields that are to have others.
+/// What a channel is asked to be, but for its label and protocol. [`Kind::ordered`], which is the default, and
+/// [`Kind::unordered`] are reliable ones; the other calls change one:
+///
+/// ```
+/// use sctp_assoc::channels::Kind;
+///
+/// let moves = Kind::unordered().max_retransmits(2).priority(256);
+/// ```
 #[derive(Clone, Copy, Debug, PartialEq, Eq)]
 #[non_exhaustive]
 pub struct Kind {
@@ -39,11 +46,49 @@ pub struct Kind {
 
 impl Default for Kind {
     fn default() -> Kind {
-        Kind { ordered: true, reliability: Reliability::Reliable, priority: 0, negotiated: None }
+        Kind::ordered()
     }
 }
 
 impl Kind {
+    /// An ordered and reliable channel.
+    #[must_use]
+    pub const fn ordered() -> Kind {
+        Kind { ordered: true, reliability: Reliability::Reliable, priority: 0, negotiated: None }
+    }
+
+    /// A reliable channel whose messages are delivered as they come.
+    #[must_use]
+    pub const fn unordered() -> Kind {
+        Kind { ordered: false, ..Kind::ordered() }
+    }
+
+    /// Each message is sent again so many times at most, which is the W3C's maxRetransmits. It takes the place of a
+    /// lifetime.
+    #[must_use]
+    pub const fn max_retransmits(self, times: u32) -> Kind {
+        Kind { reliability: Reliability::Retransmissions(times), ..self }
+    }
+
+    /// Each message is sent for so long at most, which is the W3C's maxPacketLifeTime, as [`Reliability::Lifetime`]
+    /// says. It takes the place of a limit of retransmissions.
+    #[must_use]
+    pub const fn max_lifetime(self, lifetime: Duration) -> Kind {
+        Kind { reliability: Reliability::Lifetime(lifetime), ..self }
+    }
+
+    /// With this [`priority`](Kind#structfield.priority).
+    #[must_use]
+    pub const fn priority(self, priority: u16) -> Kind {
+        Kind { priority, ..self }
+    }
+
+    /// With this [`negotiated`](Kind#structfield.negotiated) identifier.
+    #[must_use]
+    pub const fn negotiated(self, id: u16) -> Kind {
+        Kind { negotiated: Some(id), ..self }
+    }
+
     pub(super) fn raw(&self) -> sys::sctp_channels_options {
         let (reliability, value) = self.reliability.raw();
         sys::sctp_channels_options {
@@ -114,8 +159,8 @@ pub enum Message<B> {
     Text(B),
     /// A binary message.
     Binary(B),
-    /// A message of a payload type that RFC 8831 does not have, or that it has deprecated: of 52 and 54 each is a part of
-    /// a message. Most programs pass over it.
+    /// A message of a payload type that RFC 8831 does not have, or that it has deprecated: of 52 and 54 each is a part
+    /// of a message. Most programs pass over it.
     Other(B),
 }
 

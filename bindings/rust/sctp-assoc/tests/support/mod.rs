@@ -1,12 +1,46 @@
 //! Two ends in memory, and a clock of the test's own.
 #![allow(dead_code)] // each test uses a part of it
-use sctp_assoc::{Association, Config, Counters, Error, Event, Identity};
+use sctp_assoc::{Association, Config, Counters, Error, Event, Fate, Identity};
 use std::time::{Duration, Instant};
 
-pub struct Link {
-    pub ends: [Association; 2],
+/// Two associations, or two connections, which have channels besides.
+pub struct Link<E = Association> {
+    pub ends: [E; 2],
     pub now: Instant,
 }
+
+/// The calls of the loop, which both have under the same names.
+pub trait End {
+    type Error;
+    fn handle_datagram(&mut self, now: Instant, datagram: &[u8]) -> Result<Fate, Self::Error>;
+    fn poll_transmit<'b>(&mut self, now: Instant, buffer: &'b mut [u8]) -> Result<Option<&'b [u8]>, Self::Error>;
+    fn poll_timeout(&self) -> Option<Instant>;
+    fn handle_timeout(&mut self, now: Instant) -> Result<(), Self::Error>;
+}
+
+macro_rules! end {
+    ($type:ty, $error:ty) => {
+        impl End for $type {
+            type Error = $error;
+            fn handle_datagram(&mut self, now: Instant, datagram: &[u8]) -> Result<Fate, $error> {
+                <$type>::handle_datagram(self, now, datagram)
+            }
+            fn poll_transmit<'b>(&mut self, now: Instant, buffer: &'b mut [u8]) -> Result<Option<&'b [u8]>, $error> {
+                <$type>::poll_transmit(self, now, buffer)
+            }
+            fn poll_timeout(&self) -> Option<Instant> {
+                <$type>::poll_timeout(self)
+            }
+            fn handle_timeout(&mut self, now: Instant) -> Result<(), $error> {
+                <$type>::handle_timeout(self, now)
+            }
+        }
+    };
+}
+
+end!(Association, Error);
+#[cfg(feature = "channels")]
+end!(sctp_assoc::channels::Connection, sctp_assoc::channels::Error);
 
 pub fn identity(number: u8) -> Identity {
     Identity { tag: number.into(), initial_tsn: 100 * u32::from(number), cookie: [number; 32] }
@@ -21,7 +55,7 @@ pub fn counters(sent: (u64, u64), received: (u64, u64)) -> Counters {
 }
 
 /// Hands over all that is due at `from`. Answers whether there was any.
-pub fn pass_on(from: &mut Association, to: &mut Association, now: Instant) -> Result<bool, Error> {
+pub fn pass_on<E: End>(from: &mut E, to: &mut E, now: Instant) -> Result<bool, E::Error> {
     let mut buffer = [0; 1500];
     let mut any = false;
     while let Some(datagram) = from.poll_transmit(now, &mut buffer)? {
@@ -51,13 +85,15 @@ impl Link {
         }
         Ok(link)
     }
+}
 
+impl<E: End> Link<E> {
     /// Hands over what is due, and lets timers expire that do so within a second.
-    pub fn settle(&mut self) -> Result<(), Error> {
+    pub fn settle(&mut self) -> Result<(), E::Error> {
         for _ in 0..100 {
             let [client, server] = &mut self.ends;
             while pass_on(client, server, self.now)? | pass_on(server, client, self.now)? {}
-            let due = self.ends.iter().filter_map(Association::poll_timeout).min();
+            let due = self.ends.iter().filter_map(E::poll_timeout).min();
             match due {
                 Some(due) if due <= self.now + Duration::from_secs(1) => self.now = self.now.max(due),
                 _ => return Ok(()),
