@@ -33,6 +33,9 @@
 /* DATA of the message "abc" on stream 7 under the tag 2: TSN 100, SSN 0, of the type 51, and a byte of padding. */
 #define ABC "1388138800000002bb4627d00003001300000064000700000000003361626300\n"
 
+/* The same with the I bit (RFC 7053), as what goes again has it. */
+#define ABC_AGAIN "1388138800000002b68ca00b000b001300000064000700000000003361626300\n"
+
 static sctp_assoc end;
 
 static void write_message(const char *message) {
@@ -86,7 +89,7 @@ static void data_that_is_lost_goes_out_again(void) {
     CHECK(sctp_assoc_write(&end, STREAM, SCTP_ASSOC_PPID_OF_STREAM, long_message, 65537) ==
           SCTP_ASSOC_MESSAGE_TOO_LONG);
     CHECK(sends(&end, 0, ABC) && path_of(&end).peer_window == 1048573 && deadline(&end) == 3000);
-    CHECK(done(sctp_assoc_handle_timeout(&end, 3000 * MS)) && sends(&end, 3000 * MS, ABC));
+    CHECK(done(sctp_assoc_handle_timeout(&end, 3000 * MS)) && sends(&end, 3000 * MS, ABC_AGAIN));
     CHECK(done(sctp_assoc_stats(&end, &totals)) && totals.retransmission_timeouts == 1);
     release(&end);
 }
