@@ -28,8 +28,9 @@ pub(crate) enum Next {
 
 impl Channels {
     /// Copies the next message of a channel to the front of the buffer, whole. Where the buffer is shorter the message
-    /// stays, and `NoRoom` says how long it is. DCEP messages and those of payload types that RFC 8831 does not have
-    /// are dropped; they may be told as `NoRoom`, too, and may have changed the buffer. A second OPEN ends the channel.
+    /// stays, and `NoRoom` says how long it is. DCEP messages are dropped; they may be told as `NoRoom`, too, and may
+    /// have changed the buffer. A second OPEN ends the channel. Messages of payload types that RFC 8831 does not have
+    /// are received as `Other`.
     /// `Nothing` on a channel that is not open yet, and where its stream ended, but for a message that waited for a
     /// longer buffer before the peer ended it.
     ///

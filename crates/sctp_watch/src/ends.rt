@@ -74,7 +74,7 @@ pub enum End {
     /// What waited in the receive buffer left no room, and none of it could be read.
     BufferExhausted,
     /// The peer is silent for good: DATA went out again as often as it may and was not acknowledged, or so did SHUTDOWN
-    /// or SHUTDOWN ACK without an answer (RFC 4960 sections 8.1 and 9.2).
+    /// ACK without an answer (RFC 4960 sections 8.1 and 9.2).
     Silent,
 }
 

@@ -256,7 +256,8 @@ impl TransportConfig {
 
     /// How often the retransmission timer may expire in a row; None, by default, is no limit. An acknowledgement of
     /// something new ends the row, by the rules of the RFCs a SACK with a window of 0, too (RFC 4960 section 6.1 A).
-    /// Past the limit the timer stops, DATA stays in flight, and no event tells of it so far.
+    /// Past the limit the timer stops and DATA stays in flight; a driver closes the association then, by the rules of
+    /// the RFCs (section 8.1).
     pub fn max_data_retransmits(&self) -> Option<usize>
         ensures { result ≡ self.now.max_data_retransmits }
     {
