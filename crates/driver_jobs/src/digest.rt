@@ -86,6 +86,7 @@ impl Digest {
             DatagramAnswer::NoPacket => 2,
             DatagramAnswer::OtherTag => 3,
             DatagramAnswer::RepeatedInit => 4,
+            DatagramAnswer::OtherInit => 5,
         });
     }
 

@@ -47,7 +47,8 @@ abbrev pub fate_of : ℕ → DatagramAnswer
 fate_of fate =
     if fate == 0 then fates.Taken else
     if fate == 1 then fates.NoPacket else
-    if fate == 2 then fates.OtherTag else fates.RepeatedInit
+    if fate == 2 then fates.OtherTag else
+    if fate == 3 then fates.RepeatedInit else fates.OtherInit
 
 abbrev pub received_by : ℕ → ℕ → Option DatagramAnswer
 received_by code fate = if code == 0 then Some (fate_of fate) else None

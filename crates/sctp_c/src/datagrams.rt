@@ -24,6 +24,7 @@ fn fate_of(received: DatagramAnswer) -> u32
         DatagramAnswer::NoPacket => 1,
         DatagramAnswer::OtherTag => 2,
         DatagramAnswer::RepeatedInit => 3,
+        DatagramAnswer::OtherInit => 4,
     }
 }
 

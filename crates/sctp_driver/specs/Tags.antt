@@ -1,9 +1,10 @@
 -- Which packets are taken, by their verification tag (RFC 4960 section 8.5).
-use Rattle.std.specs.Prelude.{ℕ, Bool, ◌==◌, ◌&&◌, ◌%◌, if◌then◌else◌, not, List, length, nat_lt}
+use Rattle.std.specs.Prelude.{ℕ, Bool, false, ◌==◌, ◌&&◌, ◌%◌, if◌then◌else◌, not, List, length, nat_lt}
 use Rattle.std.specs.Prelude.{slice_index, Option, Result, Ok, Err}
 use Rattle.sctp_wire_types.specs.declared.error.Fault.{Fault}
 use Rattle.sctp_wire.specs.declared.packet.Packet.{Packet}
 use Rattle.sctp_wire.specs.declared.partial.PartialDecode.{PartialDecode}
+use Rattle.sctp_wire.specs.Numbers.{u32_at}
 use Rattle.sctp_wire.specs.Packets.{packet_at, partial_at}
 use Rattle.sctp_assoc.specs.Calls.{is_beginning}
 use Rattle.sctp_assoc.specs.Inbound.{taken_packet}
@@ -63,10 +64,21 @@ judged firsts.Other tag own peer begins = taken_if (tag == own)
 abbrev pub begins : Shown → Bool
 begins a = not a.lost && is_beginning a.state
 
+-- an INIT, the first of these chunks, has another initiate tag than the peer; that stands behind the four bytes of its
+-- header (RFC 4960 section 3.3.2)
+abbrev pub is_init_of_another : List ℕ → ℕ → Bool
+is_init_of_another bytes peer = if nat_lt (length bytes) 8 then false else not (u32_at bytes 4 == peer)
+
+-- an INIT past the handshake is a repeated one, or that of another (section 5.2.2)
+abbrev pub init_told : DatagramAnswer → Bool → DatagramAnswer
+init_told answers.RepeatedInit other = if other then answers.OtherInit else answers.RepeatedInit
+init_told answer other = answer
+
 abbrev pub judged_packet : Driving → PartialDecode → DatagramAnswer
 judged_packet d packet =
-    judged (first_chunk_of packet.remaining) packet.common_header.verification_tag d.own_tag
-    d.association.handshake.peer_verification_tag (begins d.association)
+    init_told (judged (first_chunk_of packet.remaining) packet.common_header.verification_tag d.own_tag
+    d.association.handshake.peer_verification_tag (begins d.association))
+    (is_init_of_another packet.remaining d.association.handshake.peer_verification_tag)
 
 abbrev pub answer_to_read : Driving → Result PartialDecode Fault → DatagramAnswer
 answer_to_read d (Ok packet) = judged_packet d packet

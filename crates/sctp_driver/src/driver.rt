@@ -21,7 +21,7 @@ ghost use Rattle.sctp_driver.specs.Tags.{answer_to, begins, judged_packet};
 use crate::messages::Kept;
 use crate::sending::{PollAnswer, packets_in, take_first};
 use crate::silence::time_out;
-use crate::tags::{DatagramAnswer, first_chunk, judge};
+use crate::tags::{DatagramAnswer, first_chunk, judge, tell_init};
 use bytes::Bytes;
 use sctp_assoc::{
     Association, AssociationError, AssociationEvent, AssociationState, ChunkInit, EndpointEvent,
@@ -273,13 +273,15 @@ impl Driver {
     fn judge(&self, packet: &PartialDecode) -> DatagramAnswer
         ensures { result ≡ judged_packet self.now packet.now }
     {
-        judge(
-            first_chunk(packet.remaining.as_slice()),
+        let (chunks, peer) = (packet.remaining.as_slice(), self.association.peer_tag());
+        let answer = judge(
+            first_chunk(chunks),
             packet.common_header.verification_tag,
             self.own_tag,
-            self.association.peer_tag(),
+            peer,
             begins(&self.association),
-        )
+        );
+        tell_init(answer, chunks, peer)
     }
 
     #[inline(always)]
@@ -401,8 +403,9 @@ impl Driver {
     /// stops are refused. What was accepted is still sent, and messages of the peer still come; go on with datagrams,
     /// moments and events. Once all DATA of both sides is acknowledged the association closes, as by `close`, and the
     /// peer's does; `Event::AssociationLost` tells it, for the reason `AssociationClosed`. Read what comes before that,
-    /// as the end of a stream takes unread messages with it. Where the peer is gone `handle_timeout` ends it by the
-    /// rules of the RFCs; by those of the port the peer is waited for without a limit of time.
+    /// as the end of a stream takes unread messages with it. A peer that is gone is waited for without a limit of
+    /// time, but for the two limits of `handle_timeout`, of DATA and of SHUTDOWN ACK: call `close` after a time of your
+    /// own.
     ///
     /// Refused, in this order with nothing changed: `ErrAssociationFailed`; `ErrShutdownNonEstablished` in any state
     /// but Established, so also where the peer began a shutdown. Takes no memory.

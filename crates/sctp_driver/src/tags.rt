@@ -1,7 +1,7 @@
 // Which packets are taken, by their verification tag (RFC 4960 section 8.5).
 ghost use Rattle.std.specs.Prelude.{◌≡◌};
 ghost use Rattle.sctp_driver.specs.Tags.{chunk_named, first_chunk_of, is_own_or_reflected, judged, judged_init};
-ghost use Rattle.sctp_driver.specs.Tags.{taken_if};
+ghost use Rattle.sctp_driver.specs.Tags.{init_told, is_init_of_another, taken_if};
 
 /// What became of a datagram that came.
 #[derive(Clone, Copy, Debug, PartialEq, Eq)]
@@ -12,8 +12,13 @@ pub enum DatagramAnswer {
     NoPacket,
     /// Its verification tag is not one that RFC 4960 section 8.5 accepts. Nothing changed.
     OtherTag,
-    /// It is an INIT, and the association is past its handshake. Nothing changed.
+    /// It is an INIT, and the association is past its handshake: one of this peer, by its initiate tag, or one that is
+    /// too short to have a tag. Nothing changed.
     RepeatedInit,
+    /// It is an INIT, the association is past its handshake, and its initiate tag is not the peer's: the peer was
+    /// started anew, or somebody else asks from its address (RFC 4960 section 5.2.2). Nothing changed; a server beside
+    /// this association can answer it.
+    OtherInit,
 }
 
 /// What the rule of verification tags looks at of a packet's first chunk (RFC 4960 section 8.5.1). `reflected` is its
@@ -75,6 +80,33 @@ pub(crate) fn judge(
         FirstChunk::ShutdownAck => take_if(tag == own),
         FirstChunk::Other => take_if(tag == own),
     }
+}
+
+/// The same where an INIT past the handshake is told apart by its initiate tag. `peer` is the peer's tag, and these are
+/// the chunks.
+pub(crate) fn tell_init(answer: DatagramAnswer, chunks: &[u8], peer: u32) -> DatagramAnswer
+    ensures { result ≡ init_told answer (is_init_of_another chunks.now peer) }
+{
+    match answer {
+        DatagramAnswer::RepeatedInit => {
+            if is_init_of_another(chunks, peer) {
+                DatagramAnswer::OtherInit
+            } else {
+                DatagramAnswer::RepeatedInit
+            }
+        }
+        judged => judged,
+    }
+}
+
+// Whether an INIT, the first of these chunks, has another initiate tag. That stands behind the four bytes of its header.
+fn is_init_of_another(chunks: &[u8], peer: u32) -> bool
+    ensures { result ≡ is_init_of_another chunks.now peer }
+{
+    if chunks.len() < 8 {
+        return false;
+    }
+    u32::from_be_bytes([chunks[4], chunks[5], chunks[6], chunks[7]]) != peer
 }
 
 fn judge_init(tag: u32, begins: bool) -> DatagramAnswer

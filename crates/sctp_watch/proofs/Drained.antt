@@ -107,6 +107,7 @@ module _ (d e : Driving) (now : ℕ) (alive : d.association.lost ≡ false) (los
   by_fate fates.NoPacket packet taken left = absurd (same_not (left (λ is. absurd cc)))
   by_fate fates.OtherTag packet taken left = absurd (same_not (left (λ is. absurd cc)))
   by_fate fates.RepeatedInit packet taken left = absurd (same_not (left (λ is. absurd cc)))
+  by_fate fates.OtherInit packet taken left = absurd (same_not (left (λ is. absurd cc)))
 
   by_error : (packet : Option Packet) (answer : Result DatagramAnswer Error)
       → (IsErrOf answer errors.ErrAssociationFailed → e ≡ d)
