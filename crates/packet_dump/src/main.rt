@@ -15,8 +15,6 @@ mod line;
 mod param;
 mod pcap;
 mod reading;
-#[cfg(test)]
-mod tests;
 
 use crate::export::Form;
 use anyhow::{Result, bail};

@@ -1,5 +1,4 @@
 // Datagrams worked out by hand after RFC 4960 section 3.
-use crate::export::{Form, export};
 use bytes::Bytes;
 use sctp_wire_queues::{Chunk, Error, Fault, Packet, Param, PartialDecode, check_packet};
 use std::alloc::{AllocError, Global};
@@ -116,39 +115,6 @@ fn unknown_parameters_are_kept(rt: HostRuntime) -> Result<(), Fail> {
                 );
             }
         }
-    }
-    Ok(())
-}
-
-// Two datagrams of 3 bytes and of 1, at 1.25 s and at no moment, in the forms of other programs, worked out by hand.
-const TWO: &[u8; 14] = b"1250 0a0b0c\nff";
-
-const TWO_IN_A_FILE: &[u8; 120] = b"a1b2c3d400020004000000000000000000040000000000f8\
-    000000010003d09000000003000000030a0b0c00000000000000000000000100000001ff";
-
-const TWO_AS_LINES: &str = "1.250\n000000 0a 0b 0c\n\n0.000\n000000 ff\n\n";
-
-fn exported(alloc: Global, form: Form, input: &[u8]) -> Result<Vec<u8>, AllocError> {
-    let mut written = Vec::new(alloc);
-    export(alloc, form, input, &mut written).map_err(|_| AllocError)?;
-    Ok(written)
-}
-
-#[test]
-fn datagrams_for_other_programs(rt: HostRuntime) -> Result<(), Fail> {
-    let alloc = rt.alloc();
-    let file = exported(alloc, Form::Pcap, TWO.as_slice())?;
-    assert_eq!(rt;
-        hex::encode(alloc, file.as_slice())?.as_bytes(),
-        TWO_IN_A_FILE.as_slice()
-    );
-    let lines = exported(alloc, Form::Text, TWO.as_slice())?;
-    assert_eq!(rt; lines.as_slice(), TWO_AS_LINES.as_bytes());
-    for input in ["0a0b0", "1250  0a", "4294967296 0a", "-1 0a"] {
-        assert!(rt;
-            exported(alloc, Form::Pcap, input.as_bytes()).is_err(),
-            "{input}"
-        );
     }
     Ok(())
 }
