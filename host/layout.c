@@ -1,7 +1,7 @@
 /* The size of each struct of the header, and offset and size of each of its fields, as host/layout.txt lists them. The
- * Rust crate compares its own with the same list, and host/layout.awk those of sctp_slots and sctp_c. That no field is
- * left out here is seen as this is compiled: each struct is filled by the place of its fields, of which -Wextra wants
- * neither fewer nor more. */
+ * Rust crate compares its own with the same list, and host/layout.awk those of sctp_slots and sctp_c, which have all
+ * structs but those that archive/ alone uses. That no field is left out here is seen as this is compiled: each struct
+ * is filled by the place of its fields, of which -Wextra wants neither fewer nor more. */
 #define SCTP_ASSOC_HEAP
 #include "sctp_assoc.h"
 
@@ -115,6 +115,26 @@ static void watch(void) {
     FIELD(sctp_assoc_watch, reason);
 }
 
+static void metrics(void) {
+    sctp_assoc_metrics filled = {{0, 0, 0, 0, 0, 0}, {0, 0, 0, 0, 0}, 0, 0, 0, 0, 0, 0, 0, 0, 0, 0, 0, 0};
+    (void)filled;
+    STRUCT(sctp_assoc_metrics);
+    FIELD(sctp_assoc_metrics, path);
+    FIELD(sctp_assoc_metrics, totals);
+    FIELD(sctp_assoc_metrics, rto_ms);
+    FIELD(sctp_assoc_metrics, datagrams_sent);
+    FIELD(sctp_assoc_metrics, bytes_sent);
+    FIELD(sctp_assoc_metrics, datagrams_received);
+    FIELD(sctp_assoc_metrics, bytes_received);
+    FIELD(sctp_assoc_metrics, next_timeout);
+    FIELD(sctp_assoc_metrics, timer_runs);
+    FIELD(sctp_assoc_metrics, established);
+    FIELD(sctp_assoc_metrics, closing);
+    FIELD(sctp_assoc_metrics, closed);
+    FIELD(sctp_assoc_metrics, drained);
+    FIELD(sctp_assoc_metrics, failed);
+}
+
 static void block(void) {
     sctp_assoc_block filled = {0, 0};
     (void)filled;
@@ -133,6 +153,7 @@ int main(void) {
     totals();
     path();
     watch();
+    metrics();
     block();
     return 0;
 }

@@ -1,5 +1,5 @@
-/* The calls that ask what was counted and which streams there are, and those that ask or set a stream's values: each
- * with every code that it has. */
+/* The calls that ask what was counted and which streams there are, all numbers at once, and those that ask or set a
+ * stream's values: each with every code that it has. */
 #include "support.h"
 
 static sctp_assoc ends[2];
@@ -27,8 +27,57 @@ static void about_stream(sctp_assoc *slot, uint16_t stream, sctp_assoc_code code
         CHECK(type == 77 && low == 77 && high == 77 && counters.bytes_sent == 77);
 }
 
+/* What is asked at once is what each call answers by itself, and of a watch what it counted. */
+static void at_once(sctp_assoc *slot, const sctp_assoc_watch *watch) {
+    sctp_assoc_metrics metrics;
+    sctp_assoc_path_values path;
+    uint64_t moment = 0;
+    bool answer;
+    memset(&metrics, 77, sizeof metrics);
+    CHECK(sctp_assoc_get_metrics(slot, watch, &metrics) == SCTP_ASSOC_DONE);
+    CHECK(done(sctp_assoc_path(slot, &path)) && memcmp(&metrics.path, &path, sizeof path) == 0);
+    CHECK(done(sctp_assoc_stats(slot, &totals)) && memcmp(&metrics.totals, &totals, sizeof totals) == 0);
+    CHECK(done(sctp_assoc_rto(slot, &ms)) && metrics.rto_ms == ms);
+    CHECK(metrics.timer_runs == done(sctp_assoc_poll_timeout(slot, &moment)) && metrics.next_timeout == moment);
+    CHECK(done(sctp_assoc_is_closing(slot, &answer)) && metrics.closing == answer);
+    CHECK(done(sctp_assoc_is_closed(slot, &answer)) && metrics.closed == answer);
+    CHECK(done(sctp_assoc_is_failed(slot, &answer)) && metrics.failed == answer);
+    CHECK(metrics.established == sctp_assoc_is_established(slot) && metrics.drained == sctp_assoc_is_drained(slot));
+    CHECK(metrics.datagrams_sent == (watch ? watch->datagrams_sent : 0));
+    CHECK(metrics.bytes_sent == (watch ? watch->bytes_sent : 0));
+    CHECK(metrics.datagrams_received == (watch ? watch->datagrams_received : 0));
+    CHECK(metrics.bytes_received == (watch ? watch->bytes_received : 0));
+}
+
+/* Numbers of a server that waits, of an end with a timer that runs, and of one that was closed. */
+static void numbers_at_once(void) {
+    sctp_assoc slot = SCTP_ASSOC_EMPTY;
+    sctp_assoc_watch watch = {1, 2, 3, 4, SCTP_ASSOC_END_CLOSED, 0, 0, {0}};
+    sctp_assoc_config config = default_config();
+    sctp_assoc_identity named = identity(3);
+    sctp_assoc_metrics metrics;
+    CHECK(done(sctp_assoc_server(&slot, &config, PAYLOAD_SIZE, &named, 0)));
+    at_once(&slot, NULL);
+    CHECK(done(sctp_assoc_get_metrics(&slot, &watch, &metrics)) && metrics.closed && !metrics.timer_runs);
+    CHECK(done(sctp_assoc_client(&slot, &config, PAYLOAD_SIZE, &named, 5)));
+    at_once(&slot, &watch);
+    CHECK(done(sctp_assoc_get_metrics(&slot, &watch, &metrics)) && !metrics.closed && !metrics.established);
+    CHECK(metrics.timer_runs && metrics.next_timeout == 5 + 3000 * MS && metrics.rto_ms == 3000);
+    CHECK(metrics.datagrams_sent == 1 && metrics.bytes_sent == 2 && metrics.datagrams_received == 3);
+    CHECK(metrics.bytes_received == 4 && metrics.path.mtu == PAYLOAD_SIZE + 28);
+    CHECK(done(sctp_assoc_close(&slot)));
+    at_once(&slot, &watch);
+    CHECK(done(sctp_assoc_get_metrics(&slot, NULL, &metrics)) && metrics.closed && metrics.drained);
+    CHECK(!metrics.timer_runs && metrics.next_timeout == 0 && metrics.datagrams_sent == 0 && !metrics.failed);
+    CHECK(sctp_assoc_free(&slot) == SCTP_ASSOC_DONE);
+}
+
 static void empty_slot(void) {
+    static const sctp_assoc_metrics zeros;
     sctp_assoc none = SCTP_ASSOC_EMPTY;
+    sctp_assoc_metrics metrics = zeros;
+    CHECK(sctp_assoc_get_metrics(&none, NULL, &metrics) == SCTP_ASSOC_EMPTY_SLOT);
+    CHECK(memcmp(&metrics, &zeros, sizeof zeros) == 0);
     about_stream(&none, 1, SCTP_ASSOC_EMPTY_SLOT);
     CHECK(sctp_assoc_stats(&none, &totals) == SCTP_ASSOC_EMPTY_SLOT);
     CHECK(sctp_assoc_rto(&none, &ms) == SCTP_ASSOC_EMPTY_SLOT);
@@ -108,6 +157,7 @@ static void counted(void) {
 
 /* An end that found no memory says so, and still tells what was counted. */
 static void failed_end(void) {
+    sctp_assoc_metrics metrics;
     CHECK(done(sctp_assoc_write(&ends[0], 7, SCTP_ASSOC_PPID_OF_STREAM, bytes, 1)));
     refused_from = growths + 1, refused_to = UINT64_MAX;
     CHECK(sctp_assoc_poll_transmit(&ends[0], 0, bytes, sizeof bytes, &count) == SCTP_ASSOC_NO_MEMORY);
@@ -117,17 +167,23 @@ static void failed_end(void) {
     CHECK(done(sctp_assoc_set_max_send_message_size(&ends[0], 1)));
     CHECK(done(sctp_assoc_stats(&ends[0], &totals)) && totals.sacks == 1);
     CHECK(done(sctp_assoc_rto(&ends[0], &ms)) && ms == 1000);
+    at_once(&ends[0], NULL);
+    CHECK(done(sctp_assoc_get_metrics(&ends[0], NULL, &metrics)) && metrics.failed && !metrics.timer_runs);
+    CHECK(metrics.established && metrics.totals.sacks == 1 && metrics.rto_ms == 1000);
 }
 
 int main(void) {
     sctp_assoc_config config = default_config();
     empty_slot();
+    numbers_at_once();
     shake_hands(ends, &config, 0);
     set_streams();
     list_streams();
     limit_messages();
     carry_message();
     counted();
+    for (int end = 0; end < 2; end++)
+        at_once(&ends[end], NULL);
     failed_end();
     free_both(ends);
     puts("questions: ok");

@@ -27,9 +27,9 @@
  * that C owes this:
  * - A slot begins with all its bytes 0 and is changed by these calls alone. It isn't copied while it holds an
  *   association (moving it is fine). One call at a time; it may go from one thread to another between calls.
- * - No pointer is NULL, except for bytes or identifiers of which there are 0, and what sctp_assoc_free gets. What a
- *   call writes to doesn't overlap anything else that it gets, and needs no value before, but for a watch
- *   (sctp_assoc_watch).
+ * - No pointer is NULL, except for bytes or identifiers of which there are 0, what sctp_assoc_free gets, and the watch
+ *   of sctp_assoc_get_metrics. What a call writes to doesn't overlap anything else that it gets, and needs no value
+ *   before, but for a watch (sctp_assoc_watch).
  * - A `bool` is 0 or 1. Nothing here is called from a signal handler, or from the child of a fork of a process with
  *   threads.
  * - The library takes memory by malloc and realloc and gives it back by free. A program that defines rattle_alloc,
@@ -583,6 +583,31 @@ sctp_assoc_code sctp_assoc_watched_poll_event(sctp_assoc *slot, sctp_assoc_watch
 sctp_assoc_code sctp_assoc_watched_close(sctp_assoc *slot, sctp_assoc_watch *watch);
 sctp_assoc_code sctp_assoc_watched_abort(sctp_assoc *slot, sctp_assoc_watch *watch, const uint8_t *reason,
                                          size_t length);
+
+/* ---- Metrics: the numbers of an association at once ---- */
+
+/* 128 bytes. Each field says by which call it can be asked by itself. */
+typedef struct sctp_assoc_metrics {
+    sctp_assoc_path_values path; /* sctp_assoc_path */
+    sctp_assoc_totals totals;    /* sctp_assoc_stats */
+    uint64_t rto_ms;             /* sctp_assoc_rto */
+    uint64_t datagrams_sent;     /* this and the next three: what the watch counted, 0 without one */
+    uint64_t bytes_sent;
+    uint64_t datagrams_received;
+    uint64_t bytes_received;
+    uint64_t next_timeout;       /* sctp_assoc_poll_timeout: when the next timer expires; 0 if none runs */
+    bool timer_runs;             /* a timer runs, so that `next_timeout` is one */
+    bool established;            /* sctp_assoc_is_established */
+    bool closing;                /* sctp_assoc_is_closing */
+    bool closed;                 /* sctp_assoc_is_closed */
+    bool drained;                /* sctp_assoc_is_drained */
+    bool failed;                 /* sctp_assoc_is_failed */
+} sctp_assoc_metrics;
+
+/* Writes all fields, such as for a dashboard, and changes nothing. `watch` is that of the slot, or NULL. Of a failed
+ * association `failed` is true and no timer runs; all else is what was known last, `established`, too, although nothing
+ * can be written any more. Codes: DONE, EMPTY_SLOT. */
+sctp_assoc_code sctp_assoc_get_metrics(sctp_assoc *slot, const sctp_assoc_watch *watch, sctp_assoc_metrics *metrics);
 
 /* ---- Names to print ----
  *

@@ -1,6 +1,6 @@
 use crate::{
     sctp_assoc, sctp_assoc_code, sctp_assoc_config, sctp_assoc_counters, sctp_assoc_event, sctp_assoc_identity,
-    sctp_assoc_path_values, sctp_assoc_token, sctp_assoc_totals, sctp_assoc_watch,
+    sctp_assoc_metrics, sctp_assoc_path_values, sctp_assoc_token, sctp_assoc_totals, sctp_assoc_watch,
 };
 use core::ffi::c_char;
 
@@ -211,6 +211,13 @@ extern "C" {
         watch: *mut sctp_assoc_watch,
         reason: *const u8,
         length: usize,
+    ) -> sctp_assoc_code;
+
+    /// Writes the numbers of the association at once. `watch` may be null.
+    pub fn sctp_assoc_get_metrics(
+        slot: *mut sctp_assoc,
+        watch: *const sctp_assoc_watch,
+        metrics: *mut sctp_assoc_metrics,
     ) -> sctp_assoc_code;
 
     /// The name of a code, without its prefix: constant text that ends with a byte 0.

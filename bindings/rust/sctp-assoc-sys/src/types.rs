@@ -183,3 +183,37 @@ impl sctp_assoc_watch {
         reason: [0; 128],
     };
 }
+
+/// The numbers of an association at once.
+#[repr(C)]
+#[derive(Clone, Copy, Debug, Default)]
+pub struct sctp_assoc_metrics {
+    /// How much the path to the peer takes, and how much is under way on it.
+    pub path: sctp_assoc_path_values,
+    /// What the association counted since it was made.
+    pub totals: sctp_assoc_totals,
+    /// The retransmission timeout, in ms.
+    pub rto_ms: u64,
+    /// Datagrams that the watch saw given out, 0 without one.
+    pub datagrams_sent: u64,
+    /// Their bytes.
+    pub bytes_sent: u64,
+    /// Datagrams that the watch saw handed in and taken, 0 without one.
+    pub datagrams_received: u64,
+    /// Their bytes.
+    pub bytes_received: u64,
+    /// The moment at which the next timer expires, 0 if none runs.
+    pub next_timeout: u64,
+    /// Whether a timer runs.
+    pub timer_runs: bool,
+    /// Whether the state is Established (RFC 4960 section 4).
+    pub established: bool,
+    /// Whether a shutdown has begun, at either side, and the association is not closed yet.
+    pub closing: bool,
+    /// Whether the state is Closed.
+    pub closed: bool,
+    /// Whether the association was lost.
+    pub drained: bool,
+    /// Whether an earlier call found no memory in its middle.
+    pub failed: bool,
+}

@@ -191,6 +191,24 @@ fn structs_are_laid_out_as_in_the_header() {
         reason_length,
         reason
     );
+    layout!(
+        listed,
+        sctp_assoc_metrics,
+        path,
+        totals,
+        rto_ms,
+        datagrams_sent,
+        bytes_sent,
+        datagrams_received,
+        bytes_received,
+        next_timeout,
+        timer_runs,
+        established,
+        closing,
+        closed,
+        drained,
+        failed
+    );
     // This crate names no heap of its own.
     let of_header = include_str!("../../../../host/layout.txt").lines().filter(|line| !line.contains("_block"));
     assert_eq!(listed.lines().collect::<Vec<_>>(), of_header.collect::<Vec<_>>());

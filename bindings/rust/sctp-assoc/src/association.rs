@@ -1,5 +1,7 @@
 use crate::slot::Slot;
-use crate::{Config, Direction, End, EndpointEvent, Error, Event, Identity, Path, PayloadType, Stream, Token, Traffic};
+use crate::{
+    Config, Direction, End, EndpointEvent, Error, Event, Identity, Metrics, Path, PayloadType, Stream, Token, Traffic,
+};
 use sctp_assoc_sys as sys;
 use std::fmt;
 use std::time::{Duration, Instant};
@@ -50,6 +52,18 @@ pub struct Totals {
     pub fast_retransmissions: u64,
 }
 
+impl Totals {
+    pub(crate) fn of(told: &sys::sctp_assoc_totals) -> Totals {
+        Totals {
+            data_chunks: told.data_chunks,
+            sacks: told.sacks,
+            retransmission_timeouts: told.retransmission_timeouts,
+            ack_timeouts: told.ack_timeouts,
+            fast_retransmissions: told.fast_retransmissions,
+        }
+    }
+}
+
 impl Association {
     /// Makes a client, whose INIT waits for [`poll_transmit`](Association::poll_transmit).
     ///
@@ -84,6 +98,11 @@ impl Association {
     // Nanoseconds since the association was made.
     fn nanos(&self, moment: Instant) -> u64 {
         u64::try_from(moment.saturating_duration_since(self.began).as_nanos()).unwrap_or(u64::MAX)
+    }
+
+    // The moment so many nanoseconds after that; None past the last one that there is.
+    fn moment(&self, nanos: u64) -> Option<Instant> {
+        self.began.checked_add(Duration::from_nanos(nanos))
     }
 
     /// Takes in one datagram that came at `now`: an SCTP packet from its common header on.
@@ -150,7 +169,7 @@ impl Association {
     /// The moment at which the next timer expires; None if no timer runs. If it is not after now,
     /// [`handle_timeout`](Association::handle_timeout) is due.
     pub fn poll_timeout(&self) -> Option<Instant> {
-        self.began.checked_add(Duration::from_nanos(self.slot.poll_timeout()?))
+        self.moment(self.slot.poll_timeout()?)
     }
 
     /// Does what the timers that expired by `now` ask for, and nothing if none did. By
@@ -264,20 +283,20 @@ impl Association {
 
     /// What the association counted. A failed one can be asked too.
     pub fn stats(&self) -> Totals {
-        let told = self.slot.stats();
-        Totals {
-            data_chunks: told.data_chunks,
-            sacks: told.sacks,
-            retransmission_timeouts: told.retransmission_timeouts,
-            ack_timeouts: told.ack_timeouts,
-            fast_retransmissions: told.fast_retransmissions,
-        }
+        Totals::of(&self.slot.stats())
     }
 
     /// The retransmission timeout (RFC 4960 section 6.3.1), in whole milliseconds. A failed association can be asked
     /// too.
     pub fn rto(&self) -> Duration {
         Duration::from_millis(self.slot.rto())
+    }
+
+    /// The numbers of the association at once: the path and the retransmission timeout, what was counted, the state and
+    /// the next timer. A failed association can be asked too.
+    pub fn metrics(&self) -> Metrics {
+        let told = self.slot.metrics();
+        Metrics::of(&told, told.timer_runs.then_some(told.next_timeout).and_then(|nanos| self.moment(nanos)))
     }
 
     /// The identifiers of the streams, ascending: those that this side opened, and those that the peer did.

@@ -74,6 +74,7 @@ pub mod channels;
 mod config;
 mod error;
 mod event;
+mod metrics;
 mod payload;
 #[allow(unsafe_code)]
 mod slot;
@@ -84,6 +85,7 @@ pub use association::{Association, Fate, Totals};
 pub use config::{Config, Identity, Profile, Token};
 pub use error::Error;
 pub use event::{Counters, EndpointEvent, Event, Reason};
+pub use metrics::Metrics;
 pub use payload::{PayloadType, Reliability};
 pub use stream::{Message, Stream};
 pub use watch::{Cause, Direction, End, Path, Traffic};

@@ -232,6 +232,13 @@ impl Slot {
         self.asked(sys::sctp_assoc_path)
     }
 
+    pub(crate) fn metrics(&self) -> sys::sctp_assoc_metrics {
+        let mut metrics = sys::sctp_assoc_metrics::default();
+        // SAFETY: as the file's head says.
+        unsafe { sys::sctp_assoc_get_metrics(self.raw(), &self.watch, &mut metrics) };
+        metrics
+    }
+
     /// How many identifiers there are, which stand at the front.
     pub(crate) fn stream_ids(&self, ids: &mut [u16]) -> Result<usize, Error> {
         let mut count = 0;

@@ -357,7 +357,9 @@ fn an_end_is_told_and_no_channel_is_left() -> Result<()> {
     for (side, told) in told.iter().enumerate() {
         assert_eq!(told, &[Event::Lost { reason: Reason::Closed }]);
         assert_eq!(sides.channel(side, 0).info(), Err(Error::NoChannel));
-        assert_eq!(sides.link.ends[side].end(), Some(End::ShutDown));
+        let end = &sides.link.ends[side];
+        assert_eq!((end.end(), end.metrics()), (Some(End::ShutDown), end.association().metrics()));
+        assert!(end.metrics().drained && end.metrics().traffic == end.association().traffic());
     }
     Ok(())
 }

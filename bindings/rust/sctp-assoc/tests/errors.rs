@@ -219,6 +219,8 @@ fn ends(link: &mut Link) -> Result<(), Error> {
     let mut buffer = [0; 200];
     assert_eq!(refusing(|| client.poll_transmit(now, &mut buffer).map(|_| ())), Err(Error::NoMemory));
     assert!(client.is_failed());
+    let metrics = client.metrics();
+    assert!(metrics.failed && metrics.established && metrics.next_timeout.is_none());
     assert_eq!(client.poll_event(), Err(Error::Failed));
     assert_eq!(client.handle_timeout(now), Err(Error::Failed));
     assert_eq!(client.shutdown(), Err(Error::Failed));

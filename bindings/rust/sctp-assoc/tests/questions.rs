@@ -1,7 +1,7 @@
 //! What is counted, which streams there are, and the values of a stream that are asked and set.
 mod support;
 
-use sctp_assoc::{Config, Error, Event, PayloadType, Stream};
+use sctp_assoc::{Association, Config, Error, Event, PayloadType, Stream};
 use std::time::Duration;
 use support::{counters, Link};
 
@@ -53,6 +53,42 @@ fn streams_are_listed_and_set() -> Result<(), Error> {
     let read = link.ends[1].stream(7).read_vec()?;
     assert_eq!(read, Some((PayloadType::String, b"short".to_vec())));
     refuses(&mut link.ends[0].stream(8));
+    Ok(())
+}
+
+/// What is asked at once is what each call answers by itself.
+fn assert_metrics_agree(end: &Association) {
+    let metrics = end.metrics();
+    assert_eq!((metrics.path, metrics.rto, metrics.totals), (end.path(), end.rto(), end.stats()));
+    assert_eq!((metrics.traffic, metrics.next_timeout), (end.traffic(), end.poll_timeout()));
+    assert_eq!((metrics.established, metrics.drained), (end.is_established(), end.is_drained()));
+    let state = (metrics.closing, metrics.closed, metrics.failed);
+    assert_eq!(state, (end.is_closing(), end.is_closed(), end.is_failed()));
+}
+
+#[test]
+fn all_numbers_are_asked_at_once() -> Result<(), Error> {
+    let mut link = Link::new(&Config::default())?;
+    link.ends.iter().for_each(assert_metrics_agree);
+    link.settle()?;
+    link.ends[0].open_stream(7, PayloadType::Binary)?.write(&[7; 100])?;
+    link.settle()?;
+    link.ends.iter().for_each(assert_metrics_agree);
+    let metrics = link.ends[0].metrics();
+    assert_eq!((metrics.traffic.datagrams_sent, metrics.totals.sacks), (3, 1));
+    assert!(metrics.established && !metrics.closed && metrics.next_timeout.is_none());
+
+    link.ends[0].stream(7).write(&[7; 100])?;
+    link.ends[0].poll_transmit(link.now, &mut [0; sctp_assoc::MAX_DATAGRAM])?;
+    assert_metrics_agree(&link.ends[0]);
+    let in_flight = link.ends[0].metrics();
+    assert_eq!((in_flight.path.bytes_in_flight, in_flight.next_timeout), (100, Some(link.now + metrics.rto)));
+
+    link.ends[0].close()?;
+    assert_metrics_agree(&link.ends[0]);
+    let closed = link.ends[0].metrics();
+    assert!(closed.closed && closed.drained && !closed.established && closed.next_timeout.is_none());
+    assert_ne!(closed, metrics);
     Ok(())
 }
 

@@ -1,5 +1,5 @@
 use super::{Channel, Error, Event, Kind, Role};
-use crate::{Association, End, Fate, Reason};
+use crate::{Association, End, Fate, Metrics, Reason};
 use std::time::Instant;
 
 /// An association and its data channels.
@@ -146,6 +146,11 @@ impl Connection {
     /// Why the association ended, as [`Association::end`] says; None as long as it has not.
     pub fn end(&self) -> Option<End> {
         self.association.end()
+    }
+
+    /// The numbers of the association at once, as [`Association::metrics`] says.
+    pub fn metrics(&self) -> Metrics {
+        self.association.metrics()
     }
 }
 
