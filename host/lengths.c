@@ -1,6 +1,6 @@
 /* How long the datagrams get that grow with what they name, as the header says it, and that one which does not fit
- * stays: the room that it asks for is enough. An empty message of a peer that breaks the rules is read and not written
- * back. */
+ * stays: the room that it asks for is enough. The length of a message before it is read. An empty message of a peer
+ * that breaks the rules is read and not written back. */
 #include "support.h"
 
 #define GAPS 400
@@ -154,18 +154,140 @@ static void long_cookie(size_t more) {
     free_both(ends);
 }
 
-/* DATA without a byte, after the last that came, is an empty message. */
-static void empty_message(void) {
-    size_t length, read = 1;
-    uint32_t type;
-    begin(1);
+/* A message of one byte comes without it: DATA of no byte, which is an empty message. */
+static void bring_empty(void) {
+    size_t length;
     write_one(FIRST);
     CHECK(poll(0, &length) && length == 32);
     datagram[15] = 16; /* the length of the chunk, without its payload */
     seal(datagram, 28);
     hand_in(1, 28);
+}
+
+static void empty_message(void) {
+    size_t read = 1;
+    uint32_t type;
+    begin(1);
+    bring_empty();
     CHECK(done(sctp_assoc_read(&ends[1], FIRST, datagram, sizeof datagram, &read, &type)) && read == 0);
     CHECK(sctp_assoc_write(&ends[1], FIRST, type, datagram, read) == SCTP_ASSOC_EMPTY_MESSAGE);
+    free_both(ends);
+}
+
+/* ---- The length of the next message ---- */
+
+static uint8_t message[65536];
+
+/* A message of so many bytes comes, and what acknowledges it goes. */
+static void bring(size_t length) {
+    fill(message, length, (uint32_t)length);
+    CHECK(done(sctp_assoc_write(&ends[0], FIRST, SCTP_ASSOC_PPID_OF_STREAM, message, length)));
+    for (int turn = 0; turn < 8; turn++)
+        go_on(200);
+}
+
+/* So many bytes are next, also where that is asked again. */
+static void is_next(size_t expected) {
+    for (int i = 0; i < 2; i++) {
+        size_t length = 0;
+        CHECK(done(sctp_assoc_next_length(&ends[1], FIRST, &length)) && length == expected);
+    }
+}
+
+/* The call answers this code, and writes nothing. */
+static void has_no_length(sctp_assoc *end, sctp_assoc_code code) {
+    size_t length = 77;
+    CHECK(sctp_assoc_next_length(end, FIRST, &length) == code && length == 77);
+}
+
+/* The message that came last is read into as many bytes, and not into fewer. */
+static void reads(size_t expected) {
+    static uint8_t read[65536];
+    size_t length;
+    uint32_t type;
+    CHECK(sctp_assoc_read(&ends[1], FIRST, read, expected - 1, &length, &type) == SCTP_ASSOC_NO_ROOM);
+    CHECK(length == expected);
+    CHECK(done(sctp_assoc_read(&ends[1], FIRST, read, expected, &length, &type)));
+    CHECK(length == expected && type == SCTP_ASSOC_PPID_BINARY && memcmp(read, message, expected) == 0);
+}
+
+/* Messages of each length, with every code of the call. One whose length was asked counts as read, takes memory, and
+ * stays until it is read, also in an end that is lost. */
+static void next_length(void) {
+    static const size_t lengths[] = {1, 1200, 65536};
+    sctp_assoc none = SCTP_ASSOC_EMPTY;
+    sctp_assoc_counters counters;
+    has_no_length(&none, SCTP_ASSOC_EMPTY_SLOT);
+    begin(1);
+    has_no_length(&ends[0], SCTP_ASSOC_NOTHING);
+    bring(10);
+    refused_from = growths + 1, refused_to = UINT64_MAX;
+    has_no_length(&ends[1], SCTP_ASSOC_NO_MEMORY);
+    refused_from = refused_to = 0;
+    is_next(10);
+    CHECK(done(sctp_assoc_stream_stats(&ends[1], FIRST, &counters)) && counters.messages_received == 1);
+    reads(10);
+    for (size_t i = 0; i < sizeof lengths / sizeof *lengths; i++) {
+        has_no_length(&ends[1], SCTP_ASSOC_NOTHING);
+        bring(lengths[i]);
+        is_next(lengths[i]);
+        reads(lengths[i]);
+    }
+    bring(20);
+    is_next(20);
+    CHECK(done(sctp_assoc_close(&ends[1])));
+    is_next(20);
+    reads(20);
+    has_no_length(&ends[1], SCTP_ASSOC_NO_STREAM);
+    free_both(ends);
+}
+
+/* A stop drops a message whose length was asked. In a failed end no length is told. */
+static void no_next_length(void) {
+    size_t length;
+    begin(1);
+    bring(10);
+    is_next(10);
+    CHECK(done(sctp_assoc_stop(&ends[1], FIRST)));
+    has_no_length(&ends[1], SCTP_ASSOC_STREAM_CLOSED);
+    write_one(FIRST);
+    refused_from = growths + 1, refused_to = UINT64_MAX;
+    CHECK(sctp_assoc_poll_transmit(&ends[0], now, datagram, sizeof datagram, &length) == SCTP_ASSOC_NO_MEMORY);
+    refused_from = refused_to = 0;
+    has_no_length(&ends[0], SCTP_ASSOC_FAILED);
+    free_both(ends);
+}
+
+/* Of a buffer of 4,000 bytes 3,000 are unread, and that is told. Once the length is asked the window is open, which a
+ * SACK tells at once. */
+static void next_length_opens_window(void) {
+    sctp_assoc_config config = default_config();
+    size_t length;
+    config.max_receive_buffer_size = 4000;
+    now = 0;
+    shake_hands(ends, &config, now);
+    open_streams(1);
+    bring(3000);
+    CHECK(!poll(1, &length));
+    is_next(3000);
+    comes(1, SACK, 28);
+    CHECK(!poll(1, &length));
+    reads(3000);
+    CHECK(!poll(1, &length));
+    free_both(ends);
+}
+
+/* Empty messages are dropped, and the length is that of the one behind them. */
+static void next_length_drops_empty(void) {
+    begin(1);
+    bring_empty();
+    bring_empty();
+    has_no_length(&ends[1], SCTP_ASSOC_NOTHING);
+    bring_empty();
+    bring(1);
+    is_next(1);
+    reads(1);
+    has_no_length(&ends[1], SCTP_ASSOC_NOTHING);
     free_both(ends);
 }
 
@@ -176,6 +298,10 @@ int main(void) {
     long_heartbeat(9000);
     long_cookie(1000);
     empty_message();
+    next_length();
+    no_next_length();
+    next_length_opens_window();
+    next_length_drops_empty();
     puts("lengths: ok");
     return 0;
 }

@@ -92,7 +92,7 @@ typedef uint32_t sctp_assoc_code;
  *   sctp_assoc_poll_transmit                 the association has failed, and what was due is lost
  *   sctp_assoc_abort                         nothing changed, or the association has failed
  *   sctp_assoc_close, _stop, _close_stream   the association has failed
- *   sctp_assoc_read                          the message stays, or the association has failed
+ *   sctp_assoc_read, _next_length            the message stays, or the association has failed
  *   all other calls                          nothing changed
  * A watched call leaves what the call leaves that it makes. sctp_assoc_is_failed tells whether the association has
  * failed. Then it is over, and each later call that has the code SCTP_ASSOC_FAILED answers that. */
@@ -463,6 +463,18 @@ sctp_assoc_code sctp_assoc_write(sctp_assoc *slot, uint16_t stream, uint32_t pay
  * SCTP_ASSOC_PROFILE_PORT no read makes one due. */
 sctp_assoc_code sctp_assoc_read(sctp_assoc *slot, uint16_t stream, uint8_t *buffer, size_t room, size_t *length,
                                 uint32_t *payload_type);
+
+/* Writes the length of the next message of a stream, 1 or more. The message stays, and a read with that much room gives
+ * it. Messages of length 0 are dropped on the way. Codes: DONE, EMPTY_SLOT, NOTHING, FAILED, NO_STREAM, STREAM_CLOSED,
+ * NO_MEMORY (the message stays, or the association has failed).
+ *
+ * It is a read without room, and leaves what one leaves that answers NO_ROOM: the message is out of the receive buffer.
+ * So it counts as read (sctp_assoc_stream_stats), and if that opens the window, an acknowledgement is due: poll for
+ * datagrams after it. If it is the last one of a stream that the peer ended, that end is told before it is read. It can
+ * be read after a loss, too; sctp_assoc_stop drops it. Until then it takes some bytes of memory besides its own, and
+ * nothing is copied. To call this again changes nothing. A call takes a step for each stream whose next message waits
+ * so, as a read does. */
+sctp_assoc_code sctp_assoc_next_length(sctp_assoc *slot, uint16_t stream, size_t *length);
 
 /* Closes the write half of a stream. What was accepted goes out as before; the peer isn't told. Codes: DONE,
  * EMPTY_SLOT, FAILED, NO_STREAM. */

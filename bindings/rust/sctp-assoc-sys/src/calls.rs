@@ -128,6 +128,9 @@ extern "C" {
         length: *mut usize,
         payload_type: *mut u32,
     ) -> sctp_assoc_code;
+    /// Writes the length of the next message of a stream, 1 or more, which a read with that much room gives. It is a read
+    /// without room: poll for datagrams after it, too. Messages of length 0 are dropped.
+    pub fn sctp_assoc_next_length(slot: *mut sctp_assoc, stream: u16, length: *mut usize) -> sctp_assoc_code;
     /// Closes the write half of a stream.
     pub fn sctp_assoc_finish(slot: *mut sctp_assoc, stream: u16) -> sctp_assoc_code;
     /// Closes the read half of a stream and asks for a reset of it (RFC 6525).

@@ -293,6 +293,13 @@ impl Slot {
         Ok(done_or_nothing(code, length)?.then_some((length, number)))
     }
 
+    pub(crate) fn next_length(&mut self, stream: u16) -> Result<Option<usize>, Error> {
+        let mut length = 0;
+        // SAFETY: as the file's head says.
+        let code = unsafe { sys::sctp_assoc_next_length(self.raw(), stream, &mut length) };
+        Ok(done_or_nothing(code, length)?.then_some(length))
+    }
+
     pub(crate) fn finish(&mut self, stream: u16) -> Result<(), Error> {
         // SAFETY: as the file's head says.
         done(unsafe { sys::sctp_assoc_finish(self.raw(), stream) })

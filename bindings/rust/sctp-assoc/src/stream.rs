@@ -77,6 +77,23 @@ impl Stream<'_> {
         Ok(payload_type.map(|payload_type| (payload_type, bytes)))
     }
 
+    /// The length of the next message, 1 or more; None if none is ready. The message stays, and a
+    /// [`read`](Stream::read) into that many bytes gives it. Messages of length 0, which come only from a peer that
+    /// sends DATA without a byte, are dropped on the way.
+    ///
+    /// This leaves what a read leaves that answers `NoRoom`: the message is out of the receive buffer. So it counts as
+    /// read ([`stats`](Stream::stats)), and an acknowledgement may be due as behind a read: call
+    /// [`poll_transmit`](Association::poll_transmit) after it. If it is the last one of a stream that the peer ended,
+    /// that end is told before it is read. It can be read after a loss, too; [`stop`](Stream::stop) drops it. To ask
+    /// again changes nothing.
+    ///
+    /// # Errors
+    ///
+    /// `Failed`, `NoStream`, `StreamClosed`; `NoMemory`: the message stays, or the association failed.
+    pub fn next_length(&mut self) -> Result<Option<usize>, Error> {
+        self.association.slot.next_length(self.id)
+    }
+
     /// Closes the write half. What was accepted goes out as before, and the peer is not told.
     ///
     /// # Errors

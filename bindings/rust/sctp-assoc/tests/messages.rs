@@ -88,6 +88,34 @@ fn an_association_goes_to_another_thread() -> Result<(), Error> {
     moved.join().expect("the thread ended well")
 }
 
+#[test]
+fn a_length_is_known_before_the_message_is_read() -> Result<(), Error> {
+    let mut link = Link::established(&Config::default())?;
+    assert_eq!(link.ends[1].stream(3).next_length(), Err(Error::NoStream));
+    link.ends[0].open_stream(3, PayloadType::Binary)?;
+    for (number, length) in [1, 1200, 65536].into_iter().enumerate() {
+        let sent = message(length, number);
+        link.ends[0].stream(3).write(&sent)?;
+        link.settle()?;
+        let mut stream = link.ends[1].stream(3);
+        assert_eq!((stream.next_length()?, stream.next_length()?), (Some(length), Some(length)));
+        let mut buffer = vec![0; length];
+        assert_eq!(stream.read(&mut buffer[1..]), Err(Error::NoRoom { needed: length }));
+        assert!(stream.read(&mut buffer)?.is_some_and(|message| message.bytes == sent));
+        assert_eq!(stream.next_length()?, None);
+    }
+
+    link.ends[0].stream(3).write(b"last")?;
+    link.settle()?;
+    assert_eq!(link.ends[1].stream(3).next_length()?, Some(4));
+    link.ends[1].close()?;
+    let mut stream = link.ends[1].stream(3);
+    assert_eq!(stream.next_length()?, Some(4));
+    assert_eq!(stream.read_vec()?, Some((PayloadType::Binary, b"last".to_vec())));
+    assert_eq!(stream.next_length(), Err(Error::NoStream));
+    Ok(())
+}
+
 /// CRC32c of a packet whose checksum is 0 (RFC 4960 appendix B).
 fn checksum(packet: &[u8]) -> [u8; 4] {
     let fold = |sum: u32, _| (sum >> 1) ^ (if sum & 1 == 1 { 0x82f6_3b78 } else { 0 });
@@ -95,9 +123,8 @@ fn checksum(packet: &[u8]) -> [u8; 4] {
     (!sum).to_le_bytes()
 }
 
-/// A peer that breaks the rules sends DATA without a byte: that is a message, too, and none that can be written.
-#[test]
-fn an_empty_message_is_read() -> Result<(), Error> {
+/// A client that breaks the rules opens the stream 1 by DATA without a byte.
+fn after_an_empty_message() -> Result<Link, Error> {
     let mut link = Link::established(&Config::default())?;
     link.ends[0].open_stream(1, PayloadType::Binary)?.write(b"x")?;
     let mut buffer = [0; sctp_assoc::MAX_DATAGRAM];
@@ -109,9 +136,32 @@ fn an_empty_message_is_read() -> Result<(), Error> {
     let sum = checksum(packet);
     packet[8..12].copy_from_slice(&sum);
     link.ends[1].handle_datagram(link.now, packet)?;
+    Ok(link)
+}
+
+/// That is a message, too, and none that can be written.
+#[test]
+fn an_empty_message_is_read() -> Result<(), Error> {
+    let mut link = after_an_empty_message()?;
     let mut stream = link.ends[1].stream(1);
     assert_eq!(stream.read_vec()?, Some((PayloadType::Binary, Vec::new())));
     assert_eq!(stream.read_vec()?, None);
     assert_eq!(stream.write(b""), Err(Error::EmptyMessage));
+    Ok(())
+}
+
+#[test]
+fn an_empty_message_has_no_length_and_is_dropped() -> Result<(), Error> {
+    let mut link = after_an_empty_message()?;
+    assert_eq!(link.ends[1].stream(1).next_length()?, None);
+    assert_eq!(link.ends[1].stream(1).read_vec()?, None);
+
+    let mut link = after_an_empty_message()?;
+    link.ends[0].stream(1).write(b"next")?;
+    link.settle()?;
+    let mut stream = link.ends[1].stream(1);
+    assert_eq!(stream.next_length()?, Some(4));
+    assert_eq!(stream.read_vec()?, Some((PayloadType::Binary, b"next".to_vec())));
+    assert_eq!(stream.read_vec()?, None);
     Ok(())
 }
