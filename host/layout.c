@@ -135,6 +135,16 @@ static void metrics(void) {
     FIELD(sctp_assoc_metrics, failed);
 }
 
+static void heap(void) {
+    sctp_assoc_heap filled = {0, 0, 0, 0};
+    (void)filled;
+    STRUCT(sctp_assoc_heap);
+    FIELD(sctp_assoc_heap, allocate);
+    FIELD(sctp_assoc_heap, reallocate);
+    FIELD(sctp_assoc_heap, release);
+    FIELD(sctp_assoc_heap, user);
+}
+
 static void block(void) {
     sctp_assoc_block filled = {0, 0};
     (void)filled;
@@ -154,6 +164,7 @@ int main(void) {
     path();
     watch();
     metrics();
+    heap();
     block();
     return 0;
 }

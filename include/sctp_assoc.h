@@ -3,8 +3,9 @@
  *
  * One association lies in one slot. Datagrams, moments and calls of the application go in; datagrams, events and the
  * next moment come out. No call reads a clock, a socket or a random source, blocks, calls back, or keeps anything
- * outside of the slot, but for one that nobody has to make: sctp_assoc_random_identity asks the system for random
- * bytes. `./library` builds the archive to link with; docs/GUIDE.md shows how to use it.
+ * outside of the slot, but for two that nobody has to make: sctp_assoc_random_identity asks the system for random
+ * bytes, and sctp_assoc_set_heap keeps, for the whole process, the functions that are called for memory from then on.
+ * `./library` builds the archive to link with; docs/GUIDE.md shows how to use it.
  *
  * One turn of the loop, at the moment `now`:
  *   1. If sctp_assoc_poll_timeout gives a moment that isn't after now, call sctp_assoc_handle_timeout.
@@ -27,19 +28,19 @@
  * that C owes this:
  * - A slot begins with all its bytes 0 and is changed by these calls alone. It isn't copied while it holds an
  *   association (moving it is fine). One call at a time; it may go from one thread to another between calls.
- * - No pointer is NULL, except for bytes or identifiers of which there are 0, what sctp_assoc_free gets, and the watch
- *   of sctp_assoc_get_metrics. What a call writes to doesn't overlap anything else that it gets, and needs no value
- *   before, but for a watch (sctp_assoc_watch).
+ * - No pointer is NULL, except for bytes or identifiers of which there are 0, what sctp_assoc_free and _set_heap get,
+ *   and the watch of sctp_assoc_get_metrics. What a call writes to doesn't overlap anything else that it gets, and
+ *   needs no value before, but for a watch (sctp_assoc_watch).
  * - A `bool` is 0 or 1. Nothing here is called from a signal handler, or from the child of a fork of a process with
  *   threads.
- * - The library takes memory by malloc and realloc and gives it back by free. A program that defines rattle_alloc,
- *   rattle_realloc and rattle_dealloc itself (SCTP_ASSOC_HEAP below) has those called in their place.
+ * - The library takes memory by malloc and realloc and gives it back by free. A program can have it call other
+ *   functions in their place: see the end of this header, and what those owe.
  *
  * sctp_assoc_code_name gives the name of a code to print, and four calls beside it those of fates, events, reasons and
  * ends.
  *
  * Moments (`now`) are nanoseconds from one that the program chooses. Lengths and sizes are bytes. Numbers are in the
- * host's byte order. Bytes that go in are copied, and no pointer is kept after a call.
+ * host's byte order. Bytes that go in are copied, and no pointer is kept after a call but those in a heap.
  */
 #ifndef SCTP_ASSOC_H
 #define SCTP_ASSOC_H
@@ -663,12 +664,32 @@ static inline sctp_assoc_code sctp_assoc_observed_poll_transmit(sctp_assoc *slot
 
 /* ---- A heap of the program's own ----
  *
- * A program that defines all three has the library take its memory from them; `#define SCTP_ASSOC_HEAP` before this
+ * It is set by a call, or its functions are defined under the names by which the library calls them, which spares an
+ * indirect call for each block. In either case they are called by each thread that makes calls here, by several at a
+ * time if several do, and make no call of this library themselves.
+ */
+
+/* 32 bytes. None of the three functions is NULL, and each is handed `user`. `size` is 1 or more, `align` a power of two
+ * up to 16. `allocate` answers a block. `reallocate` answers one that has the first `kept` bytes of the block `at`,
+ * which is given back by that. Both answer NULL if they refuse, and then `at` stays as it was. */
+typedef struct sctp_assoc_heap {
+    void *(*allocate)(void *user, size_t size, size_t align);
+    void *(*reallocate)(void *user, void *at, size_t kept, size_t size, size_t align);
+    void (*release)(void *user, void *at); /* gives a block back, never NULL */
+    void *user;                            /* the program's own, which may be NULL */
+} sctp_assoc_heap;
+
+/* Sets the heap of the process; NULL sets malloc, realloc and free again, as at first. The struct is copied. Call this
+ * before the first association or channels are made, and again only while there are none: each block is given back to
+ * the heap that is set at that time. No other thread makes a call of this library meanwhile. A program that defines the
+ * functions below cannot be linked with this call. Answers SCTP_ASSOC_DONE. */
+sctp_assoc_code sctp_assoc_set_heap(const sctp_assoc_heap *heap);
+
+/* A program that defines all three has the library take its memory from them; `#define SCTP_ASSOC_HEAP` before this
  * header declares them. Give the linker the program's definitions before the archive. `align` is a power of two up to
  * 16, and a block of `size` 0 has an address of its own too. What rattle_realloc answers keeps its first `kept` bytes.
  * The first two answer ok = false if they refuse; then the old block stays as it was, and `at` leads anywhere but to
- * NULL. None of the three calls the library.
- */
+ * NULL. */
 #ifdef SCTP_ASSOC_HEAP
 typedef struct sctp_assoc_block {
     bool ok;

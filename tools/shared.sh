@@ -70,4 +70,4 @@ END
 # shellcheck disable=SC2034 # host/run and host/aarch64 read it
 c_tests="edges messages long_message codes names questions identities tokens handshake sacks requests hostile datagrams
     lengths gap_blocks in_flight timeouts resets streams windows window stopped limits giving_up shutdown watching
-    channels dcep closing early refused_memory mutated heal"
+    channels dcep closing early heap refused_memory mutated heal"

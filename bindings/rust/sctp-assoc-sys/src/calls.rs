@@ -1,6 +1,7 @@
 use crate::{
-    sctp_assoc, sctp_assoc_code, sctp_assoc_config, sctp_assoc_counters, sctp_assoc_event, sctp_assoc_identity,
-    sctp_assoc_metrics, sctp_assoc_path_values, sctp_assoc_token, sctp_assoc_totals, sctp_assoc_watch,
+    sctp_assoc, sctp_assoc_code, sctp_assoc_config, sctp_assoc_counters, sctp_assoc_event, sctp_assoc_heap,
+    sctp_assoc_identity, sctp_assoc_metrics, sctp_assoc_path_values, sctp_assoc_token, sctp_assoc_totals,
+    sctp_assoc_watch,
 };
 use core::ffi::c_char;
 
@@ -128,8 +129,8 @@ extern "C" {
         length: *mut usize,
         payload_type: *mut u32,
     ) -> sctp_assoc_code;
-    /// Writes the length of the next message of a stream, 1 or more, which a read with that much room gives. It is a read
-    /// without room: poll for datagrams after it, too. Messages of length 0 are dropped.
+    /// Writes the length of the next message of a stream, 1 or more, which a read with that much room gives. It is a
+    /// read without room: poll for datagrams after it, too. Messages of length 0 are dropped.
     pub fn sctp_assoc_next_length(slot: *mut sctp_assoc, stream: u16, length: *mut usize) -> sctp_assoc_code;
     /// Closes the write half of a stream.
     pub fn sctp_assoc_finish(slot: *mut sctp_assoc, stream: u16) -> sctp_assoc_code;
@@ -233,4 +234,10 @@ extern "C" {
     pub fn sctp_assoc_reason_name(reason: u32) -> *const c_char;
     /// That of the end that a watch noted.
     pub fn sctp_assoc_end_name(end: u32) -> *const c_char;
+
+    /// Sets the heap of the process, of which a copy is kept; null sets that of the C library again, as at first. This
+    /// is called while there are neither associations nor channels, and no other thread makes a call. The functions are
+    /// called by each thread that makes calls, and make none themselves. A program that defines `rattle_alloc`,
+    /// `rattle_realloc` and `rattle_dealloc` cannot be linked with this call.
+    pub fn sctp_assoc_set_heap(heap: *const sctp_assoc_heap) -> sctp_assoc_code;
 }

@@ -4,8 +4,8 @@
 //! The header of that library, `include/sctp_assoc.h` in its checkout, says in full what each call does. Its head says
 //! what a caller owes, and each call here is unsafe for that: pointers lead to what their types say, for reading or
 //! writing; a slot begins as [`sctp_assoc::EMPTY`], is changed by these calls alone and is not copied while it holds an
-//! association; and a slot is used by one call at a time. Null may be what [`sctp_assoc_free`] gets, and the watch of
-//! [`sctp_assoc_get_metrics`].
+//! association; and a slot is used by one call at a time. Null may be what [`sctp_assoc_free`] and
+//! [`sctp_assoc_set_heap`] get, and the watch of [`sctp_assoc_get_metrics`].
 //!
 //! To be linked with, it needs the archive that `./library` builds in a checkout of `sctp_assoc`, and that a release
 //! has. It takes the file that the environment variable `SCTP_ASSOC_ARCHIVE` names, or finds it in the checkout or the

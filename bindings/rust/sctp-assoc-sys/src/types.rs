@@ -217,3 +217,21 @@ pub struct sctp_assoc_metrics {
     /// Whether an earlier call found no memory in its middle.
     pub failed: bool,
 }
+
+/// A heap for [`sctp_assoc_set_heap`](crate::sctp_assoc_set_heap), which has all three functions. A size is 1 or more,
+/// and `align` a power of two up to 16.
+#[repr(C)]
+#[derive(Clone, Copy, Debug)]
+pub struct sctp_assoc_heap {
+    /// Answers a block of this size and alignment, or null.
+    pub allocate: Option<unsafe extern "C" fn(user: *mut c_void, size: usize, align: usize) -> *mut c_void>,
+    /// Answers a block of this size that has the first `kept` bytes of the block `at`, which is given back by that; or
+    /// null, and then that stays as it was.
+    pub reallocate: Option<
+        unsafe extern "C" fn(user: *mut c_void, at: *mut c_void, kept: usize, size: usize, align: usize) -> *mut c_void,
+    >,
+    /// Gives a block back.
+    pub release: Option<unsafe extern "C" fn(user: *mut c_void, at: *mut c_void)>,
+    /// What each function is handed.
+    pub user: *mut c_void,
+}

@@ -60,7 +60,9 @@
 //! Data channels (RFC 8832) are in the module `channels`, with the cargo feature of that name: a `Connection` there owns
 //! an association and its channels.
 //!
-//! Moments are of `std::time::Instant`, so the crate needs `std`; `sctp-assoc-sys` does not.
+//! Moments are of `std::time::Instant`, so the crate needs `std`; `sctp-assoc-sys` does not. Memory is that of the C
+//! library's `malloc`, and not of Rust's global allocator, unless the program sets another heap by
+//! [`sctp_assoc_set_heap`](sctp_assoc_sys::sctp_assoc_set_heap) of that crate.
 #![deny(missing_docs, unsafe_op_in_unsafe_fn, unsafe_code)]
 
 use sctp_assoc_sys as sys;

@@ -24,7 +24,8 @@ pub(crate) struct Slot {
     watch: sctp_assoc_watch,
 }
 
-// SAFETY: the library keeps nothing but in the slot, and may be called from any thread, one call at a time.
+// SAFETY: the library keeps nothing but in the slot, and may be called from any thread, one call at a time. A heap that
+// the program sets beside it is for every thread, which whoever sets one owes.
 unsafe impl Send for Slot {}
 
 impl Drop for Slot {
