@@ -43,6 +43,7 @@ const char *sctp_assoc_fate_name(uint32_t fate) {
     case SCTP_ASSOC_NO_PACKET: return "NO_PACKET";
     case SCTP_ASSOC_OTHER_TAG: return "OTHER_TAG";
     case SCTP_ASSOC_REPEATED_INIT: return "REPEATED_INIT";
+    case SCTP_ASSOC_OTHER_INIT: return "OTHER_INIT";
     default: return "unknown fate";
     }
 }

@@ -196,8 +196,8 @@ static void no_room(void) {
     CHECK(sctp_assoc_read(&ends[1], 1, whole, 100, &length, &number) == SCTP_ASSOC_NOTHING);
 }
 
-/* An INIT that comes again changes nothing. */
-static void repeated_init(void) {
+/* An INIT that comes again changes nothing, and neither does one with another initiate tag. */
+static void later_inits(void) {
     sctp_assoc_config config = default_config();
     sctp_assoc_identity client = identity(1), server = identity(2);
     uint8_t init[200], datagram[300];
@@ -224,6 +224,10 @@ static void repeated_init(void) {
     CHECK(sctp_assoc_is_established(&ends[1]));
     CHECK(done(sctp_assoc_handle_datagram(&ends[1], 0, init, init_length, &number)));
     CHECK(number == SCTP_ASSOC_REPEATED_INIT);
+    init[16] ^= 1;
+    seal(init, init_length);
+    CHECK(done(sctp_assoc_handle_datagram(&ends[1], 0, init, init_length, &number)));
+    CHECK(number == SCTP_ASSOC_OTHER_INIT);
     CHECK(!done(sctp_assoc_poll_transmit(&ends[1], 0, datagram, sizeof datagram, &length)));
     CHECK(sctp_assoc_is_established(&ends[1]));
     free_both(ends);
@@ -329,7 +333,7 @@ int main(void) {
     unusable_configurations();
     tag_of_0();
     refused_begin();
-    repeated_init();
+    later_inits();
     shake_hands(ends, &config, 0);
     const_slot();
     refused_streams();

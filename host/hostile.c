@@ -122,6 +122,8 @@ static void add_fate(uint32_t fate) {
         add_item("other tag");
     if (fate == SCTP_ASSOC_REPEATED_INIT)
         add_item("repeated INIT");
+    if (fate == SCTP_ASSOC_OTHER_INIT)
+        add_item("other INIT");
 }
 
 /* ---- What goes out, and what is told ---- */
@@ -436,11 +438,12 @@ static void the_table_has_each_packet_in_each_state_once(void) {
             CHECK(count_rows(packets[i], ways[j].name) == 1);
 }
 
-/* What follows a packet whose first chunk is of this type, given as in a packet, once the association was lost. */
-static const char *behind_a_loss(const char *type) {
-    if (strncmp(type, "01", 2) == 0)
-        return "repeated INIT";
-    return strncmp(type, "08", 2) == 0 ? "sends SHUTDOWN_COMPLETE" : "nothing";
+/* What follows a packet with this first chunk, given as in a packet, once the association was lost. The peer of each
+ * way has the initiate tag 1. */
+static const char *behind_a_loss(const char *chunk) {
+    if (strncmp(chunk, "01", 2) == 0)
+        return strncmp(chunk + 8, "00000001", 8) == 0 ? "repeated INIT" : "other INIT";
+    return strncmp(chunk, "08", 2) == 0 ? "sends SHUTDOWN_COMPLETE" : "nothing";
 }
 
 /* However the association was lost, these packets change nothing. A SHUTDOWN ACK is answered (RFC 4960 section 8.4). */
@@ -449,7 +452,7 @@ static void after_a_loss_nothing_counts(void) {
     for (size_t i = 0; i < COUNT_OF(ways); i++) {
         for (size_t j = 0; j < COUNT_OF(packets) && is_lost(&ways[i]); j++) {
             bool is_shutdown_ack = strncmp(packets[j], "to-2 SHUTDOWN_ACK ", 18) == 0;
-            check_case(&ways[i], packets[j], behind_a_loss(j == 0 ? "01" : is_shutdown_ack ? "08" : ""));
+            check_case(&ways[i], packets[j], behind_a_loss(j == 0 ? hex_of("INIT") : is_shutdown_ack ? "08" : ""));
         }
         for (size_t j = 0; j < COUNT_OF(chunks) && is_lost(&ways[i]); j++) {
             bool is_init = strncmp(chunks[j].hex, "01", 2) == 0;

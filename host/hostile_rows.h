@@ -209,7 +209,7 @@ static const struct row greetings[] = {
     {"from-port-0 HEARTBEAT", "Closed Established", "nothing"},
     {"to-0 INIT_OF_TAG_0", "new Closed", "nothing"},
     {"to-0 INIT_OF_TAG_0", "CookieWait", "lost closed, is Closed, no timer"},
-    {"to-0 INIT_OF_TAG_0", "Established", "repeated INIT"},
+    {"to-0 INIT_OF_TAG_0", "Established", "other INIT"},
     {"to-0 INIT_WITHOUT_STREAMS", "new Closed", "nothing"},
     {"to-0 INIT_WITHOUT_STREAMS", "CookieWait", "lost closed, is Closed, no timer"},
     {"to-0 INIT_OF_SMALL_WINDOW", "new Closed", "nothing"},

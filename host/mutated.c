@@ -136,7 +136,7 @@ static void hand_in(int end, const struct datagram *came, bool is_honest) {
     look(end, &before);
     CHECK(done(sctp_assoc_handle_datagram(&ends[end], now, came->bytes, came->length, &fate)));
     CHECK((fate == SCTP_ASSOC_NO_PACKET) == !is_right);
-    CHECK(fate <= SCTP_ASSOC_REPEATED_INIT);
+    CHECK(fate <= SCTP_ASSOC_OTHER_INIT);
     if (was_lost && fate == SCTP_ASSOC_TAKEN && came->length > 12 && came->bytes[12] == 8) {
         CHECK(drain(end) <= 1); /* a SHUTDOWN ACK behind the end is answered */
         return;

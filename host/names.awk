@@ -13,7 +13,7 @@
         row("channels_code", name)
         if (library == "assoc")
             row("assoc_code", name)
-    } else if (name ~ /^(TAKEN|NO_PACKET|OTHER_TAG|REPEATED_INIT)$/)
+    } else if (name ~ /^(TAKEN|NO_PACKET|OTHER_TAG|REPEATED_INIT|OTHER_INIT)$/)
         row("assoc_fate", name)
     else if (group !~ /^(VERSION|PROFILE|PPID|MAX)$/ && name !~ /^(NO_LIMIT|RELIABLE|REXMIT|TIMED|CLIENT|SERVER)$/) {
         print "host/names.awk: has " $2 " a name to print?" > "/dev/stderr"

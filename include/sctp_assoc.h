@@ -266,12 +266,20 @@ sctp_assoc_code sctp_assoc_abort(sctp_assoc *slot, const uint8_t *reason, size_t
 #define SCTP_ASSOC_TAKEN 0         /* its tag is accepted, and it went to the association */
 #define SCTP_ASSOC_NO_PACKET 1     /* no SCTP packet, or a wrong checksum; nothing changed */
 #define SCTP_ASSOC_OTHER_TAG 2     /* a verification tag that RFC 4960 section 8.5 refuses; nothing changed */
-#define SCTP_ASSOC_REPEATED_INIT 3 /* an INIT after the handshake; nothing changed */
+#define SCTP_ASSOC_REPEATED_INIT 3 /* an INIT after the handshake that has the peer's initiate tag, or is too short to
+                                    * have one; nothing changed */
+#define SCTP_ASSOC_OTHER_INIT 4    /* an INIT after the handshake with another initiate tag; nothing changed */
 
 /* Takes in one datagram that came at `now`: an SCTP packet from its common header on. `fate` says what became of it.
  * Behind the end nothing counts any more, but a SHUTDOWN ACK is answered (by SCTP_ASSOC_PROFILE_RFC), as the last
- * datagram of this side may have been lost: sctp_assoc_poll_transmit gives the answer. Codes: DONE, EMPTY_SLOT, FAILED,
- * NO_MEMORY (all is as before, or the association has failed). */
+ * datagram of this side may have been lost: sctp_assoc_poll_transmit gives the answer.
+ *
+ * At OTHER_INIT the peer was started anew, or somebody else asks from its address (RFC 4960 section 5.2.2). The
+ * association doesn't begin anew; a server in a slot beside it can answer. Hand that INIT to it, and then all that this
+ * association leaves by OTHER_INIT or OTHER_TAG. Only SCTP_ASSOC_EVENT_CONNECTED of that server shows that the peer
+ * took part in the handshake, since an INIT can be forged: free this association then, and not before.
+ *
+ * Codes: DONE, EMPTY_SLOT, FAILED, NO_MEMORY (all is as before, or the association has failed). */
 sctp_assoc_code sctp_assoc_handle_datagram(sctp_assoc *slot, uint64_t now, const uint8_t *datagram, size_t length,
                                            uint32_t *fate);
 
@@ -629,7 +637,7 @@ sctp_assoc_code sctp_assoc_get_metrics(sctp_assoc *slot, const sctp_assoc_watch 
  * is constant, and nobody frees it. These calls touch no slot and may be made at any time, from any thread.
  */
 const char *sctp_assoc_code_name(sctp_assoc_code code);
-const char *sctp_assoc_fate_name(uint32_t fate);     /* SCTP_ASSOC_TAKEN and the three after it */
+const char *sctp_assoc_fate_name(uint32_t fate);     /* SCTP_ASSOC_TAKEN and the four after it */
 const char *sctp_assoc_event_name(uint32_t kind);    /* SCTP_ASSOC_EVENT_.. */
 const char *sctp_assoc_reason_name(uint32_t reason); /* SCTP_ASSOC_REASON_.. */
 const char *sctp_assoc_end_name(uint32_t end);       /* SCTP_ASSOC_END_.. */

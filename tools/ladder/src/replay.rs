@@ -100,6 +100,7 @@ impl Replay {
             Ok(Fate::NoPacket) => Some("no packet"),
             Ok(Fate::OtherTag) => Some("other tag"),
             Ok(Fate::RepeatedInit) => Some("repeated INIT"),
+            Ok(Fate::OtherInit) => Some("other INIT"),
             _ => None,
         };
         self.story.push(Happening::Came { side, number, dropped });

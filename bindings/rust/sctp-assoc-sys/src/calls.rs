@@ -64,7 +64,7 @@ extern "C" {
     /// Closes the association at once, and tells the peer by an ABORT with this reason (RFC 4960 section 9.1).
     pub fn sctp_assoc_abort(slot: *mut sctp_assoc, reason: *const u8, length: usize) -> sctp_assoc_code;
 
-    /// Takes in one datagram that came at `now`; `fate` says what became of it, by one of the four from
+    /// Takes in one datagram that came at `now`; `fate` says what became of it, by one of the five from
     /// [`SCTP_ASSOC_TAKEN`](crate::SCTP_ASSOC_TAKEN) on.
     pub fn sctp_assoc_handle_datagram(
         slot: *mut sctp_assoc,

@@ -76,8 +76,10 @@ pub const SCTP_ASSOC_TAKEN: u32 = 0;
 pub const SCTP_ASSOC_NO_PACKET: u32 = 1;
 /// Its verification tag is one that RFC 4960 section 8.5 refuses. Nothing changed.
 pub const SCTP_ASSOC_OTHER_TAG: u32 = 2;
-/// It is an INIT after the handshake. Nothing changed.
+/// It is an INIT after the handshake, with the peer's initiate tag or too short to have one. Nothing changed.
 pub const SCTP_ASSOC_REPEATED_INIT: u32 = 3;
+/// It is an INIT after the handshake with another initiate tag. Nothing changed.
+pub const SCTP_ASSOC_OTHER_INIT: u32 = 4;
 
 /// Established: messages can be written from now on.
 pub const SCTP_ASSOC_EVENT_CONNECTED: u32 = 1;

@@ -32,8 +32,17 @@ pub enum Fate {
     NoPacket,
     /// Its verification tag is one that RFC 4960 section 8.5 refuses. Nothing changed.
     OtherTag,
-    /// It is an INIT, and the handshake is over. Nothing changed.
+    /// It is an INIT, the handshake is over, and it has the peer's initiate tag or is too short to have one. Nothing
+    /// changed.
     RepeatedInit,
+    /// It is an INIT, the handshake is over, and it has another initiate tag: the peer was started anew, or somebody
+    /// else asks from its address (RFC 4960 section 5.2.2). Nothing changed.
+    ///
+    /// The association does not begin anew; a server beside it can answer. Hand that INIT to it, and then all that this
+    /// association leaves by `OtherInit` or [`OtherTag`](Fate::OtherTag). Only [`Event::Connected`] of that server
+    /// shows that the peer took part in the handshake, since an INIT can be forged: drop this association then, and not
+    /// before.
+    OtherInit,
 }
 
 /// What an association counted since it was made. A number that reaches `u64::MAX` stays there.
@@ -118,6 +127,7 @@ impl Association {
             }
             sys::SCTP_ASSOC_OTHER_TAG => Fate::OtherTag,
             sys::SCTP_ASSOC_REPEATED_INIT => Fate::RepeatedInit,
+            sys::SCTP_ASSOC_OTHER_INIT => Fate::OtherInit,
             _ => Fate::NoPacket,
         })
     }

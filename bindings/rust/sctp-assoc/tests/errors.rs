@@ -185,6 +185,30 @@ fn handshakes() -> Result<(), Error> {
     Ok(())
 }
 
+/// The client was started anew. Its INIT leaves the server as it was, and a server beside that one answers it.
+fn begins_anew() -> Result<(), Error> {
+    let config = Config::default();
+    let Link { ends: [_, mut old], now } = Link::established(&config)?;
+    let mut client = Association::client(&config, &identity(3), now)?;
+    let mut beside = Association::server(&config, &identity(4), now)?;
+    let mut buffer = [0; 1500];
+    let init = client.poll_transmit(now, &mut buffer)?.expect("an INIT is due").to_vec();
+    assert_eq!(old.handle_datagram(now, &init)?, Fate::OtherInit);
+    assert!(old.is_established() && old.poll_timeout().is_none());
+    assert_eq!((old.poll_event()?, old.poll_transmit(now, &mut buffer)?), (None, None));
+
+    assert_eq!(beside.handle_datagram(now, &init)?, Fate::Taken);
+    pass_on(&mut beside, &mut client, now)?;
+    let echo = client.poll_transmit(now, &mut buffer)?.expect("a COOKIE ECHO is due").to_vec();
+    assert_eq!(old.handle_datagram(now, &echo)?, Fate::OtherTag);
+    assert_eq!(beside.handle_datagram(now, &echo)?, Fate::Taken);
+    assert_eq!(beside.poll_event()?, Some(Event::Connected));
+    assert_eq!(beside.handle_datagram(now, &init)?, Fate::RepeatedInit);
+    old.close()?;
+    assert_eq!(old.handle_datagram(now, &init)?, Fate::OtherInit);
+    Ok(())
+}
+
 /// Memory is refused to channels. Each call can be made again, and the association goes on.
 #[cfg(feature = "channels")]
 fn refused_channels() -> Result<(), sctp_assoc::channels::Error> {
@@ -232,6 +256,7 @@ fn ends(link: &mut Link) -> Result<(), Error> {
 fn each_error_once() -> Result<(), Error> {
     refused_begin();
     handshakes()?;
+    begins_anew()?;
     let mut link = Link::established(&Config::default())?;
     refused_streams(&mut link)?;
     no_room(&mut link)?;
