@@ -30,6 +30,7 @@
 
 #define CLIENTS 16    /* that a server has at a time */
 #define SILENT 60     /* seconds without a datagram, after which a client may lose its place to a new one */
+#define PLACES (2 * CLIENTS)
 
 /* One association, and the peer at the other end of it. */
 struct end {
@@ -39,7 +40,9 @@ struct end {
     uint64_t heard;  /* when a datagram came last that was for it */
 };
 
-static struct end ends[CLIENTS]; /* a client has the first alone */
+/* A client has the first alone. CLIENTS behind that of a server's client there is one beside it, for the same peer, if
+ * that begins anew. */
+static struct end ends[PLACES];
 static sctp_assoc_config config;
 static int udp;
 static bool is_client, is_ending;
@@ -183,18 +186,27 @@ static void send_all(struct end *end) {
         sendto(udp, datagram, length, 0, (struct sockaddr *)&end->peer, sizeof end->peer);
 }
 
-/* What is due at an end, until there is neither an event nor a datagram: each may bring the other. That of a server
- * whose association is over is free for another client then. */
+/* A server lets an association go. The one beside it, if there is any, takes its place. */
+static void let_go(struct end *end) {
+    if (end->is_up)
+        puts("an association ended");
+    fflush(stdout);
+    done(sctp_assoc_free(&end->slot));
+    if (end >= ends + CLIENTS)
+        return;
+    *end = end[CLIENTS]; /* a slot may be moved */
+    end[CLIENTS].slot = (sctp_assoc)SCTP_ASSOC_EMPTY;
+}
+
+/* What is due at an end, until there is neither an event nor a datagram: each may bring the other. A server lets an
+ * association go that is over. */
 static void serve(struct end *end) {
     take_events(end);
     do
         send_all(end);
     while (take_events(end));
-    if (is_client || !sctp_assoc_is_drained(&end->slot))
-        return;
-    puts("an association ended");
-    fflush(stdout);
-    done(sctp_assoc_free(&end->slot));
+    if (!is_client && sctp_assoc_is_drained(&end->slot))
+        let_go(end);
 }
 
 static struct end *find(const struct sockaddr_in *from) {
@@ -218,11 +230,10 @@ static struct end *place(void) {
 }
 
 /* A stranger gets a place only by a packet that a server answers: an INIT, whole and with the right checksum. So it is
- * handed to an association of its own first, and whoever is served goes on being served. One that begins anew, after it
- * was silent for long, gets its old place. */
-static void meet(const struct sockaddr_in *from, const uint8_t *datagram, size_t length, struct end *old) {
+ * handed to an association of its own first, and whoever is served goes on being served. */
+static void meet(const struct sockaddr_in *from, const uint8_t *datagram, size_t length, struct end *chosen) {
     static uint8_t answer[SCTP_ASSOC_MAX_DATAGRAM];
-    struct end stranger = {.slot = SCTP_ASSOC_EMPTY}, *chosen = old ? old : place();
+    struct end stranger = {.slot = SCTP_ASSOC_EMPTY};
     uint32_t fate;
     if (!chosen || length <= 12 || datagram[12] != 1) /* the type of the first chunk; 1 is INIT */
         return;
@@ -233,9 +244,36 @@ static void meet(const struct sockaddr_in *from, const uint8_t *datagram, size_t
         return;
     }
     sendto(udp, answer, length, 0, (const struct sockaddr *)from, sizeof *from);
-    if (is_live(chosen))
-        done(sctp_assoc_free(&chosen->slot));
-    *chosen = stranger; /* a slot may be moved */
+    while (is_live(chosen))
+        let_go(chosen);
+    *chosen = stranger;
+}
+
+/* Hands a datagram in, and does what is due then. Answers what became of it. */
+static uint32_t hand_in(struct end *end, const uint8_t *datagram, size_t length) {
+    uint32_t fate;
+    done(sctp_assoc_handle_datagram(&end->slot, now(), datagram, length, &fate));
+    if (fate == SCTP_ASSOC_TAKEN)
+        end->heard = now();
+    serve(end);
+    return fate;
+}
+
+/* A client that begins anew, as after a crash, is answered by an association beside its old one. That goes on being
+ * served, as an INIT can be forged, and is let go once the new handshake is done. An INIT that comes meanwhile goes to
+ * the one beside it, too: a copy is answered as the first one was, and a newer one takes its place. */
+static void receive(const struct sockaddr_in *from, const uint8_t *datagram, size_t length) {
+    struct end *end = find(from);
+    uint32_t fate = end ? hand_in(end, datagram, length) : SCTP_ASSOC_OTHER_INIT;
+    if (is_client || (fate != SCTP_ASSOC_OTHER_INIT && fate != SCTP_ASSOC_OTHER_TAG))
+        return; /* it was for this association, or is for none */
+    if (end && is_live(end + CLIENTS)) {
+        hand_in(end + CLIENTS, datagram, length);
+        if (end[CLIENTS].is_up)
+            let_go(end);
+    } else if (fate == SCTP_ASSOC_OTHER_INIT && !is_ending) {
+        meet(from, datagram, length, end ? end + CLIENTS : place());
+    }
 }
 
 static void receive_all(void) {
@@ -243,25 +281,14 @@ static void receive_all(void) {
     struct sockaddr_in from;
     socklen_t size = sizeof from;
     ssize_t length;
-    while ((length = recvfrom(udp, datagram, sizeof datagram, MSG_DONTWAIT, (struct sockaddr *)&from, &size)) >= 0) {
-        struct end *end = find(&from);
-        uint32_t fate = SCTP_ASSOC_NO_PACKET; /* what is not for this association is left */
-        if (end) {
-            done(sctp_assoc_handle_datagram(&end->slot, now(), datagram, (size_t)length, &fate));
-            if (fate == SCTP_ASSOC_TAKEN)
-                end->heard = now();
-            serve(end);
-        }
-        if (!is_client && !is_ending &&
-            (!end || (fate == SCTP_ASSOC_REPEATED_INIT && now() - end->heard > SILENT * SECOND)))
-            meet(&from, datagram, (size_t)length, end);
-    }
+    while ((length = recvfrom(udp, datagram, sizeof datagram, MSG_DONTWAIT, (struct sockaddr *)&from, &size)) >= 0)
+        receive(&from, datagram, (size_t)length);
 }
 
 /* The next moment at which a timer of any association expires, or the end has to be; UINT64_MAX if there is none. */
 static uint64_t next_due(void) {
     uint64_t next = is_ending ? end_until : UINT64_MAX, due;
-    for (struct end *end = ends; end < ends + CLIENTS; end++)
+    for (struct end *end = ends; end < ends + PLACES; end++)
         if (sctp_assoc_poll_timeout(&end->slot, &due) == SCTP_ASSOC_DONE && due < next)
             next = due;
     return next;
@@ -277,7 +304,7 @@ static void wait_for_any(void) {
 
 static void meet_timers(void) {
     uint64_t due;
-    for (struct end *end = ends; end < ends + CLIENTS; end++) {
+    for (struct end *end = ends; end < ends + PLACES; end++) {
         if (sctp_assoc_poll_timeout(&end->slot, &due) == SCTP_ASSOC_DONE && due <= now()) {
             done(sctp_assoc_handle_timeout(&end->slot, now()));
             serve(end);
@@ -285,12 +312,13 @@ static void meet_timers(void) {
     }
 }
 
-/* At Ctrl-C: what is up is shut down, and what is not yet is let go. */
+/* At Ctrl-C: what is up is shut down, and what is not yet is freed, as all that is beside another one. */
 static void meet_interrupt(void) {
     if (!is_interrupted || is_ending)
         return;
     begin_to_end();
-    for (struct end *end = ends; end < ends + CLIENTS; end++) {
+    for (size_t place = PLACES; place-- > 0;) {
+        struct end *end = &ends[place];
         if (!is_live(end))
             continue;
         if (end->is_up) {
@@ -303,7 +331,7 @@ static void meet_interrupt(void) {
 }
 
 static bool is_any_left(void) {
-    for (struct end *end = ends; end < ends + CLIENTS; end++)
+    for (struct end *end = ends; end < ends + PLACES; end++)
         if (!sctp_assoc_is_drained(&end->slot))
             return true;
     return false;

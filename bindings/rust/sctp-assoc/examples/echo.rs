@@ -28,6 +28,8 @@ type Result<T> = std::result::Result<T, Box<dyn Error>>;
 struct Echo {
     udp: UdpSocket,
     ends: Vec<End>,
+    /// Of a server: for a client that begins anew an end beside its old one, until the new handshake is done.
+    besides: Vec<End>,
     client: Option<Client>,
     /// Room for a datagram, of either way.
     buffer: Vec<u8>,
@@ -105,6 +107,15 @@ impl End {
             let _ = udp.send_to(datagram, self.peer); // what the socket does not take is lost, as on the way
         }
         Ok(())
+    }
+
+    /// Answers what became of the datagram.
+    fn hand_in(&mut self, datagram: &[u8]) -> Result<Fate> {
+        let fate = self.association.handle_datagram(Instant::now(), datagram)?;
+        if fate == Fate::Taken {
+            self.heard = Instant::now();
+        }
+        Ok(fate)
     }
 
     /// Whether it may give way to a new client.
@@ -212,22 +223,34 @@ impl Echo {
         Ok(!is_over)
     }
 
-    /// A server lets an association go that is over.
+    /// A server lets an association go that is over, or whose client began anew.
     fn serve_all(&mut self) -> Result<()> {
-        for end in &mut self.ends {
+        for end in self.ends.iter_mut().chain(&mut self.besides) {
             end.serve(&self.udp, &mut self.client, &mut self.buffer)?;
         }
         if self.client.is_none() {
             let before = self.ends.len();
-            self.ends.retain(|end| !end.association.is_drained());
+            let began_anew = |peer| self.besides.iter().any(|beside| beside.peer == peer && beside.is_up);
+            self.ends.retain(|end| !end.association.is_drained() && !began_anew(end.peer));
             (self.ends.len()..before).for_each(|_| println!("an association ended"));
+            self.move_up();
         }
         Ok(())
     }
 
+    /// What is beside no other end any more takes the place of the old one.
+    fn move_up(&mut self) {
+        for beside in mem::take(&mut self.besides) {
+            let is_beside = self.ends.iter().any(|end| end.peer == beside.peer);
+            let ends = if is_beside { &mut self.besides } else { &mut self.ends };
+            ends.push(beside);
+        }
+    }
+
     /// Until a datagram comes, which is handed in, or a timer expires.
     fn wait(&mut self) -> Result<()> {
-        let due = self.ends.iter().filter_map(|end| end.association.poll_timeout()).min();
+        let ends = self.ends.iter().chain(&self.besides);
+        let due = ends.filter_map(|end| end.association.poll_timeout()).min();
         let left = due.map(|due| due.saturating_duration_since(Instant::now()).max(Duration::from_millis(1)));
         self.udp.set_read_timeout(left)?;
         let mut buffer = mem::take(&mut self.buffer);
@@ -243,7 +266,7 @@ impl Echo {
 
     fn meet_timers(&mut self) -> Result<()> {
         let now = Instant::now();
-        for end in &mut self.ends {
+        for end in self.ends.iter_mut().chain(&mut self.besides) {
             if end.association.poll_timeout().is_some_and(|due| due <= now) {
                 end.association.handle_timeout(now)?;
             }
@@ -251,20 +274,22 @@ impl Echo {
         Ok(())
     }
 
+    /// A client that begins anew, as after a crash, is answered by an association beside its old one. That goes on
+    /// being served, as an INIT can be forged, until the new handshake is done. An INIT that comes meanwhile goes to
+    /// the one beside it, too: a copy is answered as the first one was, and a newer one takes its place.
     fn receive(&mut self, datagram: &[u8], from: SocketAddr) -> Result<()> {
-        let Some(index) = self.ends.iter().position(|end| end.peer == from) else {
-            return if self.client.is_none() { self.meet(datagram, from) } else { Ok(()) };
-        };
-        let end = &mut self.ends[index];
-        match end.association.handle_datagram(Instant::now(), datagram)? {
-            Fate::Taken => end.heard = Instant::now(),
-            Fate::RepeatedInit if self.client.is_none() && end.heard.elapsed() > SILENT => {
-                self.ends.swap_remove(index); // it begins anew
-                self.meet(datagram, from)?;
+        let mut fate = Fate::OtherInit;
+        for ends in [&mut self.ends, &mut self.besides] {
+            let Some(end) = ends.iter_mut().find(|end| end.peer == from) else { continue };
+            fate = end.hand_in(datagram)?;
+            if !matches!(fate, Fate::OtherInit | Fate::OtherTag) {
+                return Ok(()); // it was for this association, or is for none
             }
-            _ => {} // what is not for it is left
         }
-        Ok(())
+        match (fate, &self.client) {
+            (Fate::OtherInit, None) => self.meet(datagram, from),
+            _ => Ok(()), // what is not for it is left
+        }
     }
 
     /// A stranger gets a place only by a packet that a server answers: an INIT, whole and with the right checksum. So
@@ -280,11 +305,13 @@ impl Echo {
         }
         let mut answer = [0; MAX_DATAGRAM];
         let Some(answer) = stranger.association.poll_transmit(now, &mut answer)? else { return Ok(()) };
-        if !self.make_place() {
+        let is_beside = self.ends.iter().any(|end| end.peer == from);
+        if !is_beside && !self.make_place() {
             return Ok(());
         }
         let _ = self.udp.send_to(answer, from);
-        self.ends.push(stranger);
+        let ends = if is_beside { &mut self.besides } else { &mut self.ends };
+        ends.push(stranger);
         Ok(())
     }
 
@@ -295,7 +322,8 @@ impl Echo {
         }
         let idle = self.ends.iter().enumerate().filter(|(_, end)| end.is_idle());
         let Some((index, _)) = idle.min_by_key(|(_, end)| end.heard) else { return false };
-        self.ends.swap_remove(index);
+        let lost = self.ends.swap_remove(index);
+        self.besides.retain(|beside| beside.peer != lost.peer);
         true
     }
 }
@@ -309,7 +337,7 @@ fn be_server(port: &str) -> Result<Echo> {
     let port: u16 = port.parse().map_err(|_| format!("{port} is no port: a number from 0 to 65535"))?;
     let udp = UdpSocket::bind(("0.0.0.0", port)).map_err(|error| format!("no UDP socket at port {port}: {error}"))?;
     println!("serving on port {}", udp.local_addr()?.port());
-    Ok(Echo { udp, ends: Vec::new(), client: None, buffer: vec![0; MAX_DATAGRAM] })
+    Ok(Echo { udp, ends: Vec::new(), besides: Vec::new(), client: None, buffer: vec![0; MAX_DATAGRAM] })
 }
 
 /// An address to which something can be sent from the client's socket.
@@ -326,6 +354,7 @@ fn be_client(peer: &str, count: &str) -> Result<Echo> {
     Ok(Echo {
         udp: UdpSocket::bind("0.0.0.0:0")?,
         ends: vec![End::new(peer, association)],
+        besides: Vec::new(),
         client: Some(Client { count, sent: 0, echoed: 0, ends_until: None }),
         buffer: vec![0; MAX_DATAGRAM],
     })
