@@ -69,5 +69,5 @@ END
 # The C tests in host/ that run over an archive by themselves, each of which ends with 0 if it passed.
 # shellcheck disable=SC2034 # host/run and host/aarch64 read it
 c_tests="edges messages long_message codes names questions identities tokens handshake sacks requests hostile datagrams
-    lengths gap_blocks in_flight timeouts resets streams windows window stopped limits giving_up shutdown watching
-    channels dcep closing early heap refused_memory mutated heal"
+    restart lengths gap_blocks in_flight timeouts resets streams windows window stopped limits giving_up shutdown
+    watching channels dcep closing early heap refused_memory mutated heal"
