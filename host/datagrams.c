@@ -1,6 +1,6 @@
 /* Datagrams that are left, and some of which each byte is known: under another verification tag (RFC 4960 section 8.5)
- * or with a wrong checksum, an INIT that comes again, an INIT for which there is no room, the answer to a HEARTBEAT and
- * the ABORT of a side that gives a reason. Those in hex were spelled apart from the library. */
+ * or with a wrong checksum, an INIT that comes again, an INIT for which there is no room, HEARTBEATs and their answers,
+ * and the ABORT of a side that gives a reason. Those in hex were spelled apart from the library. */
 #include "support.h"
 
 /* HEARTBEAT under the tag 2, which is the server's, with the information 01 02 03, and its answer under the tag 1. */
@@ -158,12 +158,49 @@ static void aborts(void) {
     free_both(ends);
 }
 
+/* A HEARTBEAT of one's own has the moment in it and is answered, and neither changes anything else. Before the handshake,
+ * behind the beginning of a shutdown and of an empty slot it is refused. By the port's rules nothing goes out. */
+static void asks(uint32_t profile) {
+    static const uint8_t heartbeat[] = {4, 0, 0, 16, 0, 1, 0, 12, 1, 2, 3, 4, 5, 6, 7, 8};
+    bool is_sent = profile == SCTP_ASSOC_PROFILE_RFC;
+    config.profile = profile;
+    CHECK(sctp_assoc_heartbeat(&ends[0], 0) == SCTP_ASSOC_EMPTY_SLOT);
+    begin();
+    CHECK(sctp_assoc_heartbeat(&ends[0], 0) == SCTP_ASSOC_NOT_ESTABLISHED);
+    CHECK(sctp_assoc_heartbeat(&ends[1], 0) == SCTP_ASSOC_NOT_ESTABLISHED);
+    for (int i = 0; i < 2; i++) {
+        pass_on(&ends[0], &ends[1], 0);
+        pass_on(&ends[1], &ends[0], 0);
+    }
+    for (int end = 0; end < 2; end++) {
+        CHECK(done(sctp_assoc_heartbeat(&ends[end], UINT64_C(0x0102030405060708))));
+        CHECK(sends(end) == is_sent);
+        if (!is_sent)
+            continue;
+        CHECK(length == 28 && memcmp(bytes + 12, heartbeat, sizeof heartbeat) == 0 && !sends(end));
+        CHECK(done(sctp_assoc_handle_datagram(&ends[!end], 0, bytes, length, &fate)) && fate == SCTP_ASSOC_TAKEN);
+        CHECK(sends(!end) && length == 28 && bytes[12] == 5 && memcmp(bytes + 13, heartbeat + 1, 15) == 0);
+        CHECK(done(sctp_assoc_handle_datagram(&ends[end], 0, bytes, length, &fate)) && fate == SCTP_ASSOC_TAKEN);
+        CHECK(!sends(0) && !sends(1) && sctp_assoc_is_established(&ends[end]));
+    }
+    CHECK(done(sctp_assoc_shutdown(&ends[0])));
+    CHECK(sctp_assoc_heartbeat(&ends[0], 0) == SCTP_ASSOC_NOT_ESTABLISHED);
+    free_both(ends);
+    config = default_config();
+}
+
+static void asks_the_peer(void) {
+    asks(SCTP_ASSOC_PROFILE_RFC);
+    asks(SCTP_ASSOC_PROFILE_PORT);
+}
+
 int main(void) {
     config = default_config();
     TRY(by_tag());
     TRY(leaves_init());
     TRY(init_finds_room());
     TRY(aborts());
+    TRY(asks_the_peer());
     puts("datagrams: ok");
     return 0;
 }

@@ -116,7 +116,7 @@ typedef uint32_t sctp_assoc_code;
 #define SCTP_ASSOC_NO_STREAM_LEFT 13        /* 2^64 streams were opened; none can be any more */
 #define SCTP_ASSOC_NO_STREAM 14             /* there is no such stream */
 #define SCTP_ASSOC_SHUTDOWN_NOT_ESTABLISHED 15 /* a shutdown begins in Established alone (RFC 4960 section 9.2) */
-#define SCTP_ASSOC_NOT_ESTABLISHED 16       /* messages are written in Established alone (RFC 4960 section 4) */
+#define SCTP_ASSOC_NOT_ESTABLISHED 16       /* messages and HEARTBEATs are for Established alone (RFC 4960 section 4) */
 #define SCTP_ASSOC_CANNOT_RESET 17          /* the reset of a stream is asked for in Established alone */
 #define SCTP_ASSOC_STREAM_CLOSED 26         /* this half of the stream is closed */
 #define SCTP_ASSOC_MESSAGE_TOO_LONG 27      /* longer than max_send_message_size; or a reason of over 65,527 bytes */
@@ -315,6 +315,13 @@ sctp_assoc_code sctp_assoc_poll_timeout(sctp_assoc *slot, uint64_t *moment);
  * max_init_retransmits (RFC 4960 sections 8.1 and 9.2). Codes: DONE, EMPTY_SLOT, FAILED, NO_MEMORY (the association
  * has failed). */
 sctp_assoc_code sctp_assoc_handle_timeout(sctp_assoc *slot, uint64_t now);
+
+/* Asks the peer whether it is there: a HEARTBEAT waits to go out behind the datagrams that wait (RFC 4960 section 8.3).
+ * A peer that is there answers within a round trip by a datagram that is SCTP_ASSOC_TAKEN and changes nothing else. No
+ * timer runs for it, and it isn't sent again: docs/GUIDE.md shows how to keep a timer of silence. By
+ * SCTP_ASSOC_PROFILE_PORT nothing goes out, as the answer would end the association. Codes: DONE, EMPTY_SLOT, FAILED,
+ * NOT_ESTABLISHED, NO_MEMORY (nothing changed). */
+sctp_assoc_code sctp_assoc_heartbeat(sctp_assoc *slot, uint64_t now);
 
 /* ---- Events ---- */
 

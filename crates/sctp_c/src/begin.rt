@@ -8,6 +8,7 @@ ghost use Rattle.sctp_assoc.specs.Created.{client, create_refusal, join_refusal,
 ghost use Rattle.sctp_assoc.specs.Shutdown.{shutdown_begun, shutdown_refusal};
 ghost use Rattle.sctp_driver.specs.Aborting.{Aborts, IsTooLong};
 ghost use Rattle.sctp_driver.specs.Driving.{RunsOutOfMemory, begun_with, by_rfcs, timeout_refusal, with_association};
+ghost use Rattle.sctp_driver.specs.Heartbeats.{heartbeat_refusal, with_heartbeat};
 ghost use Rattle.sctp_slots.specs.Codes.{code_of};
 ghost use Rattle.sctp_c.specs.Configs.{config_refusal, settings_of, side_refusal, token_chunk};
 ghost use Rattle.sctp_c.specs.Slots.{IsCode, IsCodeOrLacksMemory, IsPlaced, OnHeld, RefusesBy};
@@ -198,6 +199,22 @@ pub extern "C" fn sctp_assoc_shutdown(slot: &mut Slot, alloc: Global) -> u32
         return EMPTY_SLOT;
     };
     let answer = driver.shutdown();
+    slot.put(driver);
+    code_of(answer)
+}
+
+/// Asks the peer whether it is there.
+#[unsafe(no_mangle)]
+#[tactic(auto, using(crate::proofs::Refusals::of_refusal_or_memory, crate::proofs::Refusals::when_done, crate::proofs::Refusals::when_refused))]
+pub extern "C" fn sctp_assoc_heartbeat(slot: &mut Slot, alloc: Global, now: u64) -> u32
+    ensures code { RefusesOrLacksMemoryBy (λ d. heartbeat_refusal d.association) slot.old.handle.driver result }
+    ensures done { result ≡ 0 → OnHeld slot.old.handle.driver slot.new.handle.driver (λ d e. e ≡ with_heartbeat d now) }
+    ensures left { result ≢ 0 → slot.new.handle.driver ≡ slot.old.handle.driver }
+{
+    let Some(mut driver) = slot.take(alloc) else {
+        return EMPTY_SLOT;
+    };
+    let answer = driver.heartbeat(now);
     slot.put(driver);
     code_of(answer)
 }

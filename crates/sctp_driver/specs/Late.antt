@@ -1,6 +1,7 @@
 -- What a driver makes of a datagram that it takes, also of one that comes to an association that is over.
 use Rattle.std.specs.Prelude.{ℕ, Bool, true, false, ◌==◌, ◌&&◌, if◌then◌else◌, not, length, List, [], ◌∷◌, ◌++◌}
 use Rattle.std.specs.Prelude.{Option, Some, None, Result, Ok, Err}
+use Rattle.sctp_wire_types.specs.declared.chunk.Chunk.{Chunk}
 use Rattle.sctp_wire_types.specs.declared.chunk.Chunk.TheVariants as chunks
 use Rattle.sctp_wire_types.specs.declared.error.Fault.{Fault}
 use Rattle.sctp_wire_types.specs.Config.{is_rfc}
@@ -18,9 +19,13 @@ abbrev pub spelled : Result (List ℕ) Fault → Option (List ℕ)
 spelled (Ok datagram) = Some datagram
 spelled (Err fault) = None
 
--- the datagram with a SHUTDOWN COMPLETE
+-- the datagram of a side with this chunk alone
+abbrev pub datagram_of : Shown → Chunk → Option (List ℕ)
+datagram_of a chunk = spelled (written (packet_with (header_of a.handshake) (chunk ∷ [])))
+
+-- that with a SHUTDOWN COMPLETE
 abbrev pub complete_of : Shown → Option (List ℕ)
-complete_of a = spelled (written (packet_with (header_of a.handshake) (chunks.ShutdownComplete ∷ [])))
+complete_of a = datagram_of a chunks.ShutdownComplete
 
 abbrev pub behind : List (List ℕ) → Option (List ℕ) → List (List ℕ)
 behind waiting None = waiting

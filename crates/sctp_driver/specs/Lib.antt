@@ -1,5 +1,6 @@
 pub mod Aborting
 pub mod Driving
+pub mod Heartbeats
 pub mod Late
 pub mod Messages
 pub mod Paths

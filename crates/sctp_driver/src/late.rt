@@ -1,6 +1,6 @@
 // What a driver answers for an association that is over.
 ghost use Rattle.std.specs.Prelude.{◌≡◌, Err, IfOk, OnErr, OnOk};
-ghost use Rattle.sctp_driver.specs.Late.{answers_late, behind, complete_of, is_shutdown_ack};
+ghost use Rattle.sctp_driver.specs.Late.{answers_late, behind, complete_of, datagram_of, is_shutdown_ack};
 
 use crate::Driver;
 use crate::aborting::header_of;
@@ -43,7 +43,19 @@ fn complete_of(alloc: Global, association: &Association) -> Result<Option<Bytes>
     ensures ok { IfOk result (λ datagram. datagram ≡ complete_of association.now) }
     ensures only { OnErr result (result ≡ Err Error.ErrNoMemory) }
 {
-    match marshal(alloc, &header_of(association), &[Chunk::ShutdownComplete]) {
+    datagram_of(alloc, association, Chunk::ShutdownComplete)
+}
+
+/// The datagram with this chunk alone; None where it cannot be spelled.
+pub(crate) fn datagram_of(
+    alloc: Global,
+    association: &Association,
+    chunk: Chunk,
+) -> Result<Option<Bytes>, Error>
+    ensures ok { IfOk result (λ datagram. datagram ≡ datagram_of association.now chunk) }
+    ensures only { OnErr result (result ≡ Err Error.ErrNoMemory) }
+{
+    match marshal(alloc, &header_of(association), &[chunk]) {
         Ok(datagram) => Ok(Some(datagram)),
         Err(Error::Malformed(_)) => Ok(None),
         // What is written is refused by a fault, or for want of memory.

@@ -29,6 +29,7 @@
 
 mod aborting;
 mod driver;
+mod heartbeats;
 mod late;
 mod lending;
 mod messages;

@@ -59,6 +59,8 @@ extern "C" {
     pub fn sctp_assoc_free(slot: *mut sctp_assoc) -> sctp_assoc_code;
     /// Begins to end the association gracefully (RFC 4960 section 9.2).
     pub fn sctp_assoc_shutdown(slot: *mut sctp_assoc) -> sctp_assoc_code;
+    /// Asks the peer whether it is there, by a HEARTBEAT (RFC 4960 section 8.3).
+    pub fn sctp_assoc_heartbeat(slot: *mut sctp_assoc, now: u64) -> sctp_assoc_code;
     /// Closes the association at once; nothing is told to the peer.
     pub fn sctp_assoc_close(slot: *mut sctp_assoc) -> sctp_assoc_code;
     /// Closes the association at once, and tells the peer by an ABORT with this reason (RFC 4960 section 9.1).

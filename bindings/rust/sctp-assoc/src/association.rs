@@ -226,6 +226,19 @@ impl Association {
         self.slot.shutdown()
     }
 
+    /// Asks the peer whether it is there: a HEARTBEAT waits to go out behind the datagrams that wait (RFC 4960 section
+    /// 8.3). A peer that is there answers within a round trip by a datagram that is [`Fate::Taken`] and changes nothing
+    /// else. No timer runs for it, and it is not sent again. By [`Profile::Port`](crate::Profile::Port) nothing goes
+    /// out, as the answer would end the association.
+    ///
+    /// # Errors
+    ///
+    /// `Failed`; `NotEstablished`; `NoMemory`, with nothing changed.
+    pub fn heartbeat(&mut self, now: Instant) -> Result<(), Error> {
+        let now = self.nanos(now);
+        self.slot.heartbeat(now)
+    }
+
     /// Closes the association at once. The peer is told nothing, and each stream ends. A datagram that waits, and a
     /// message that did not fit a buffer, can still be taken.
     ///

@@ -167,6 +167,11 @@ impl Slot {
         done(unsafe { sys::sctp_assoc_shutdown(self.raw()) })
     }
 
+    pub(crate) fn heartbeat(&mut self, now: u64) -> Result<(), Error> {
+        // SAFETY: as the file's head says.
+        done(unsafe { sys::sctp_assoc_heartbeat(self.raw(), now) })
+    }
+
     pub(crate) fn close(&mut self) -> Result<(), Error> {
         let (slot, watch) = self.watched();
         // SAFETY: as the file's head says.
