@@ -1,6 +1,7 @@
 /* Runs the C code of docs/GUIDE.md, which host/run takes out of the page: a client and a server, whose datagrams go
  * through two queues, shake hands, exchange a message in each direction, close the stream and shut down. Two others are
- * watched, and one aborts. Of two more one keeps a timer of silence, and the other loses the consent of ICE. */
+ * watched, and one aborts. Of two more one keeps a timer of silence, and the other loses the consent of ICE. Of
+ * the last two the client is started anew. */
 #define _DEFAULT_SOURCE
 #include "support.h"
 
@@ -35,6 +36,46 @@ static void take_message(sctp_assoc *slot, uint16_t stream, const uint8_t *messa
 }
 
 #include "guide.h"
+
+/* The rest the guide says in words. */
+
+/* ICE has no consent any more. */
+static void lose_consent(sctp_assoc *slot) {
+    sctp_assoc_close(slot); /* an ABORT may not go out */
+    take_events(slot);      /* LOST is one of them */
+}
+
+/* Takes in and sends, as the turn does, and has the observer write of it. */
+static void exchange(sctp_assoc *slot, sctp_assoc_watch *watch, FILE *lines, uint64_t now, const uint8_t *datagram,
+                     size_t length) {
+    static uint8_t out[SCTP_ASSOC_MAX_DATAGRAM];
+    uint32_t fate;
+    if (length > 0)
+        sctp_assoc_observed_handle_datagram(slot, watch, write_line, lines, now, datagram, length, &fate);
+    while (sctp_assoc_observed_poll_transmit(slot, watch, write_line, lines, now, out, sizeof out, &length) ==
+           SCTP_ASSOC_DONE)
+        send_datagram(slot, out, length);
+}
+
+static const char *end_of(const sctp_assoc_watch *watch) {
+    switch (watch->end) {
+    case SCTP_ASSOC_END_NONE:
+        return "it goes on";
+    case SCTP_ASSOC_END_CLOSED:
+    case SCTP_ASSOC_END_ABORTED:
+        return "it was ended here";
+    case SCTP_ASSOC_END_SHUT_DOWN:
+        return "it was shut down";
+    case SCTP_ASSOC_END_ABORT_CAME:
+        return "the peer aborted it"; /* watch->cause and watch->reason say why */
+    case SCTP_ASSOC_END_BUFFER_EXHAUSTED:
+        return "a message is longer than the receive buffer";
+    case SCTP_ASSOC_END_SILENT:
+        return "the peer is silent";
+    default:
+        return "the peer broke the protocol";
+    }
+}
 
 /* A turn of an end, which leaves neither an event nor a datagram. */
 static void turn_of(int end, uint64_t now, const uint8_t *bytes, size_t length) {
@@ -96,10 +137,10 @@ static void watched(void) {
     free_both(ends);
 }
 
-/* The peer is asked once it was silent for 10 s, and after 30 s the association ends. A datagram that is taken begins
- * the time anew, one with another tag does not. */
+/* The peer is asked once it was silent for 10 s, and each 5 s from then on; after 30 s the association ends. A datagram
+ * that is taken begins the time anew, one with another tag does not. */
 static void silent(void) {
-    struct silence silence = {0, false};
+    struct silence silence = {0, 0};
     uint8_t datagram[PAYLOAD_SIZE + 28];
     size_t length;
     begin(&ends[0], true, 0);
@@ -107,13 +148,12 @@ static void silent(void) {
     go_on(0);
     for (int tenths = 1; tenths <= 10; tenths++)
         go_on((uint64_t)tenths * 100 * MS);
-    CHECK(done(sctp_assoc_open_stream(&ends[0], PROBES, SCTP_ASSOC_PPID_BINARY)));
     hear(&silence, SCTP_ASSOC_TAKEN, SECOND);
     hear(&silence, SCTP_ASSOC_OTHER_TAG, 2 * SECOND);
     CHECK(look_at_silence(&ends[0], &silence, 10 * SECOND) == 11 * SECOND);
     CHECK(!done(sctp_assoc_poll_transmit(&ends[0], 10 * SECOND, datagram, sizeof datagram, &length)));
     for (int looks = 0; looks < 2; looks++)
-        CHECK(look_at_silence(&ends[0], &silence, 11 * SECOND) == 31 * SECOND);
+        CHECK(look_at_silence(&ends[0], &silence, 11 * SECOND) == 16 * SECOND);
     CHECK(done(sctp_assoc_poll_transmit(&ends[0], 11 * SECOND, datagram, sizeof datagram, &length)));
     CHECK(!done(sctp_assoc_poll_transmit(&ends[0], 11 * SECOND, datagram, sizeof datagram, &length)));
     CHECK(look_at_silence(&ends[0], &silence, 30 * SECOND) == 31 * SECOND && !sctp_assoc_is_drained(&ends[0]));
@@ -125,9 +165,37 @@ static void silent(void) {
     came = 0;
 }
 
+/* The client is started anew. A server beside the old one answers its INIT, and takes its place. */
+static void started_anew(void) {
+    static struct datagram taken[WAITING];
+    sctp_assoc beside = SCTP_ASSOC_EMPTY;
+    begin(&ends[0], true, 0);
+    begin(&ends[1], false, 0);
+    go_on(0);
+    CHECK(came == 2);
+    begin(&ends[0], true, 0);
+    turn(&ends[0], 0, NULL, 0);
+    for (int end = 1; waiting[0] + waiting[1] > 0; end = !end) {
+        size_t count = waiting[end];
+        memcpy(taken, queues[end], sizeof taken);
+        waiting[end] = 0;
+        for (size_t i = 0; i < count; i++) {
+            if (end == 1)
+                receive(&ends[1], &beside, 0, taken[i].bytes, taken[i].length);
+            else
+                turn(&ends[0], 0, taken[i].bytes, taken[i].length);
+        }
+    }
+    CHECK(came == 4 && !beside.live);
+    CHECK(sctp_assoc_is_established(&ends[0]) && sctp_assoc_is_established(&ends[1]));
+    free_both(ends);
+    came = 0;
+}
+
 int main(void) {
     watched();
     silent();
+    started_anew();
     begin(&ends[0], true, 0);
     begin(&ends[1], false, 0);
     go_on(0);

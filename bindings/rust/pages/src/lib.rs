@@ -49,6 +49,99 @@ fn take_message(end: &mut End, stream: u16, message: Vec<u8>) {
 
 include!(concat!(env!("OUT_DIR"), "/guide.rs"));
 
+// What the guide says in words, or shows in C alone.
+
+/// Makes a client or a server.
+fn begin(is_client: bool, now: Instant) -> Result<Association, Error> {
+    let made = if is_client { Association::client } else { Association::server };
+    made(&Config::default(), &Identity::random()?, now)
+}
+
+fn turn(end: &mut End, now: Instant, datagram: Option<&[u8]>) -> Result<(), Error> {
+    if end.association.poll_timeout().is_some_and(|due| due <= now) {
+        end.association.handle_timeout(now)?;
+    }
+    if let Some(datagram) = datagram {
+        end.association.handle_datagram(now, datagram)?;
+    }
+    take_events(end)?;
+    let mut buffer = vec![0; MAX_DATAGRAM];
+    loop {
+        while let Some(datagram) = end.association.poll_transmit(now, &mut buffer)? {
+            send_datagram(&mut end.network, datagram);
+        }
+        if !take_events(end)? {
+            return Ok(());
+        }
+    }
+}
+
+/// The loop of one end.
+fn drive(end: &mut End) -> Result<(), Error> {
+    turn(end, Instant::now(), None)?;
+    while !end.association.is_drained() {
+        let datagram = next_datagram(end);
+        turn(end, Instant::now(), datagram.as_deref())?;
+    }
+    Ok(())
+}
+
+/// ICE has no consent any more.
+fn lose_consent(end: &mut End) -> Result<(), Error> {
+    end.association.close()?; // an ABORT may not go out
+    take_events(end)?; // Lost is one of them
+    Ok(())
+}
+
+struct Silence {
+    /// When a datagram was taken last.
+    heard: Instant,
+    /// When a HEARTBEAT was sent last.
+    asked: Option<Instant>,
+}
+
+impl Silence {
+    /// After each datagram that was handed in.
+    fn hear(&mut self, fate: Fate, now: Instant) {
+        if fate == Fate::Taken {
+            self.heard = now;
+        }
+    }
+
+    /// In each turn, before it takes events. Answers until when to sleep at most; None once the association ended.
+    fn look(&mut self, association: &mut Association, now: Instant) -> Result<Option<Instant>, Error> {
+        let (again, gone) = (Duration::from_secs(5), self.heard + Duration::from_secs(30));
+        if now >= gone {
+            association.abort(b"silent")?;
+            return Ok(None);
+        }
+        let first = self.heard + Duration::from_secs(10);
+        let mut ask = self.asked.map_or(first, |asked| first.max(asked + again));
+        if now >= ask {
+            let _ = association.heartbeat(now); // refused where the association ends
+            self.asked = Some(now);
+            ask = now + again;
+        }
+        Ok(Some(ask.min(gone)))
+    }
+}
+
+fn end_of(association: &Association) -> String {
+    match association.end() {
+        None => "it goes on".into(),
+        Some(sctp_assoc::End::AbortCame(cause)) => format!("the peer aborted it: {cause:?}"),
+        Some(end) => format!("{end:?}"),
+    }
+}
+
+fn drive_both(first: &mut End, second: &mut End) -> Result<(), Error> {
+    thread::scope(|scope| {
+        let other = scope.spawn(|| drive(second));
+        drive(first)?;
+        other.join().expect("no call panics")
+    })
+}
+
 mod readme {
     include!(concat!(env!("OUT_DIR"), "/readme.rs"));
 }
@@ -122,14 +215,13 @@ fn the_guide_asks_a_silent_peer_and_ends() -> Result<(), Box<dyn std::error::Err
     let at = |seconds| began + Duration::from_secs(seconds);
     let [mut end, mut peer] = ends_that_said_hello(began)?;
     let (end, mut datagram) = (&mut end.association, [0; MAX_DATAGRAM]);
-    end.open_stream(PROBES, PayloadType::Binary)?;
-    let mut silence = Silence { heard: began, is_probed: false };
+    let mut silence = Silence { heard: began, asked: None };
     silence.hear(Fate::Taken, at(1));
     silence.hear(Fate::OtherTag, at(2));
     assert_eq!(silence.look(end, at(10))?, Some(at(11)));
     assert!(end.poll_transmit(at(10), &mut datagram)?.is_none());
     for _ in 0..2 {
-        assert_eq!(silence.look(end, at(11))?, Some(at(31)));
+        assert_eq!(silence.look(end, at(11))?, Some(at(16)));
     }
     assert!(end.poll_transmit(at(11), &mut datagram)?.is_some());
     assert!(end.poll_transmit(at(11), &mut datagram)?.is_none());
@@ -140,6 +232,27 @@ fn the_guide_asks_a_silent_peer_and_ends() -> Result<(), Box<dyn std::error::Err
     lose_consent(&mut peer)?;
     assert_eq!(peer.association.end(), Some(sctp_assoc::End::Closed));
     assert_eq!(peer.association.poll_event()?, None);
+    Ok(())
+}
+
+#[test]
+fn the_guide_answers_a_peer_that_starts_anew() -> Result<(), Box<dyn std::error::Error>> {
+    let began = Instant::now();
+    let now = began + Duration::from_secs(2);
+    let [mut client, mut server] = ends_that_said_hello(began)?;
+    let mut beside = None;
+    client.association = begin(true, now)?;
+    turn(&mut client, now, None)?;
+    while !client.network.sent.is_empty() || !server.network.sent.is_empty() {
+        for datagram in std::mem::take(&mut client.network.sent) {
+            receive(&mut server, &mut beside, now, &datagram)?;
+        }
+        for datagram in std::mem::take(&mut server.network.sent) {
+            turn(&mut client, now, Some(&datagram))?;
+        }
+    }
+    assert!(beside.is_none() && client.association.is_established() && server.association.is_established());
+    assert_eq!([client.messages.len(), server.messages.len()], [2, 2]);
     Ok(())
 }
 
