@@ -7,10 +7,10 @@
  *   heal CASE [v]                one case; v prints each step with its chunks
  *   heal CLASS FIRST LAST [v]    these seeds of a class, and each that does not end well
  *
- * Classes: 0 all at random, 1 no loss, 2 no pauses, 3 black-outs, 4 refused memory, 5 two clients. 6 to 9 keep out what
- * has a class of its own: handshakes and resets are never given up, the first message of each stream is reliable, and
- * streams are closed once they are read. 6 is 0 so, 7 has the default configuration, 8 also two clients and refused
- * memory, 9 the default configuration and megabytes.
+ * Classes: 0 all at random, 1 no loss, 2 no pauses, 3 black-outs, 4 refused memory, 5 two clients. 6 to 10 keep out
+ * what has a class of its own: handshakes and resets are never given up, the first message of each stream is reliable,
+ * and streams are closed once they are read. 6 is 0 so, 7 has the default configuration, 8 also two clients and refused
+ * memory, 9 the default configuration and megabytes, 10 programs that crash and are started anew.
  *
  * What is known not to go well stands in open_cases (heal_kinds.h). A case that does not hold and is not listed fails,
  * so does one that holds and is listed, and a seed that ends in a kind that no listed case explains. */
@@ -45,6 +45,8 @@ static const struct {
     CASE(no_rto),
     CASE(two_tags),
     CASE(two_clients),
+    CASE(late_init),
+    CASE(late_echo),
     CASE(shut_early),
     CASE(lost_complete),
     CASE(channels_reused),

@@ -26,6 +26,9 @@ static struct {
     bool only_closes;          /* no finish and no stop */
     bool shuts_down_connected; /* not before both are */
     bool has_default_times;
+    bool drops_beside; /* a server beside the association, if that hears of its peer once more */
+    int crashes;       /* of programs, at most; those of the server by this chance: */
+    unsigned server_crashes;
     uint64_t growths_for_refusal; /* one of so many is refused; 0 if none is */
 } set;
 
@@ -51,15 +54,17 @@ struct stream {
 struct application {
     struct stream streams[STREAMS];
     bool is_connected, is_handshake_failed, has_shut_down, is_over, has_failed_resets;
-    bool is_paused; /* reads nothing */
-    bool is_deaf;   /* and takes no events */
+    bool is_crossed; /* a server that the COOKIE ECHO of another client connected than that whose INIT it took last */
+    bool is_paused;  /* reads nothing */
+    bool is_deaf;    /* and takes no events */
     uint64_t pause_end, next_act, accepted_bytes;
 };
 
 struct message {
     uint8_t writer, place; /* the latter of the stream */
     bool is_ordered, is_reliable, was_read;
-    bool is_excused; /* its reader closed the stream, or is over */
+    bool is_excused; /* its reader closed the stream, or is over; or the client crashed */
+    unsigned generation;
     uint32_t length;
 };
 
@@ -117,6 +122,11 @@ static void excuse(int reader, int place) {
         }
 }
 
+/* Whether the client was started anew, and the server stands for an earlier one. */
+static bool are_apart(void) {
+    return generations[A] != generations[B];
+}
+
 static void add_message(int end, int place, uint32_t length, bool is_reliable) {
     struct stream *stream = &applications[end].streams[place];
     if (message_count == message_room) {
@@ -124,12 +134,14 @@ static void add_message(int end, int place, uint32_t length, bool is_reliable) {
         messages = realloc(messages, message_room * sizeof *messages);
         CHECK(messages != NULL);
     }
-    messages[message_count++] = (struct message){.writer = (uint8_t)end,
-                                                 .place = (uint8_t)place,
-                                                 .is_ordered = !stream->is_unordered,
-                                                 .is_reliable = is_reliable,
-                                                 .is_excused = applications[!end].streams[place].is_stopping,
-                                                 .length = length};
+    messages[message_count++] =
+        (struct message){.writer = (uint8_t)end,
+                         .place = (uint8_t)place,
+                         .is_ordered = !stream->is_unordered,
+                         .is_reliable = is_reliable,
+                         .is_excused = applications[!end].streams[place].is_stopping || are_apart(),
+                         .generation = generations[end],
+                         .length = length};
     if (!messages[message_count - 1].is_excused) {
         stream->unread_bytes += length;
         stream->owed += is_reliable;
@@ -154,6 +166,9 @@ static void look_at(int reader, int place, size_t length) {
     if (message->writer == reader || message->place != place || message->length != length ||
         memcmp(wanted, bytes, length) != 0)
         find(READ_WRONG, "%c stream %u message %u", "AB"[reader], stream_ids[place], number);
+    if (message->generation != generations[reader])
+        find(READ_OLD, "%c stream %u message %u of client %u as of %u", "AB"[reader], stream_ids[place], number,
+             message->generation, generations[reader]);
     if (message->was_read)
         find(READ_TWICE, "%c stream %u message %u", "AB"[reader], stream_ids[place], number);
     if (message->is_ordered && number < stream->next_number)
@@ -358,7 +373,7 @@ static void stop_reading(int end) {
 /* Something of what an application does. One that takes no events does nothing else. */
 static void act(int end) {
     struct application *own = &applications[end];
-    if (is_failed[end] || own->is_deaf)
+    if (!is_running(end) || own->is_deaf)
         return;
     if (sctp_assoc_is_established(&ends[end].assoc) && !own->has_shut_down) {
         if (happens(set.writes))

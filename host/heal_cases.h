@@ -381,6 +381,56 @@ static void two_clients(void) {
     end_pair();
 }
 
+/* What a client sent that crashed, and that comes late. */
+static uint8_t late[2000];
+static size_t late_length;
+
+static void send_late(void) {
+    CHECK(done(sctp_assoc_watched_poll_transmit(&ends[A].assoc, &watches[A], now, late, sizeof late, &late_length)));
+}
+
+static void late_comes(void) {
+    uint32_t fate;
+    show("comes", A, late, late_length);
+    CHECK(done(sctp_assoc_watched_handle_datagram(&ends[B].assoc, &watches[B], now, late, late_length, &fate)));
+    CHECK(fate == SCTP_ASSOC_TAKEN);
+}
+
+/* The client's program crashes, and is started anew. */
+static void start_client_anew(void) {
+    sctp_assoc_identity other = identity(3);
+    say("A is started anew");
+    CHECK(done(sctp_assoc_client(&ends[A].assoc, &config, PAYLOAD_SIZE, &other, now)));
+}
+
+/* A client is started anew, and the INIT of the old one comes once the new one's was answered. */
+static void late_init(void) {
+    meet(false);
+    send_late();
+    start_client_anew();
+    hand_over(A, UINT8_MAX);
+    hand_over(B, UINT8_MAX);
+    late_comes();
+    pass(60000);
+    HOLDS(is_established(A) && is_established(B));
+    end_pair();
+}
+
+/* A client is started anew, the answer to its INIT is lost, and then the COOKIE ECHO of the old one comes. */
+static void late_echo(void) {
+    meet(false);
+    hand_over(A, UINT8_MAX);
+    hand_over(B, UINT8_MAX);
+    send_late();
+    start_client_anew();
+    hand_over(A, UINT8_MAX);
+    hand_over(B, 2); /* INIT ACK */
+    late_comes();
+    pass(60000);
+    HOLDS(is_established(A) && is_established(B));
+    end_pair();
+}
+
 /* The server shuts down before the client has a COOKIE ACK. What the server wrote before comes, and both end. */
 static void shut_early(void) {
     meet(false);

@@ -36,7 +36,7 @@ static void take_channel_events(int side) {
 }
 
 static void join_sides(void) {
-    static const struct run channel_run = {take_channel_events, send_in_case, look_at_nothing};
+    static const struct run channel_run = {take_channel_events, send_in_case, look_at_nothing, NULL};
     join_for(&channel_run);
     CHECK(done(sctp_channels_begin(&ends[A], SCTP_CHANNELS_CLIENT)));
     CHECK(done(sctp_channels_begin(&ends[B], SCTP_CHANNELS_SERVER)));

@@ -16,25 +16,29 @@
 
 enum { A, B };
 
-/* What a run does with what the loop of an end brings. */
-struct run {
-    void (*take_events)(int end);
-    void (*send)(int from, const uint8_t *datagram, size_t length);
-    void (*look)(int end); /* after each turn */
-};
-
 struct datagram {
     struct datagram *before, *after;
     uint64_t at; /* when it comes */
     int to;
+    unsigned generation; /* of its sender as it went out */
     size_t length;
     uint8_t bytes[];
 };
 
+/* What a run does with what the loop of an end brings. */
+struct run {
+    void (*take_events)(int end);
+    void (*send)(int from, const uint8_t *datagram, size_t length);
+    void (*look)(int end);                                    /* after each turn */
+    void (*meet)(const struct datagram *came, uint32_t fate); /* NULL if no fate matters */
+};
+
 static sctp_peer ends[2]; /* of channels only the tests of those know */
 static sctp_assoc_watch watches[2];
-static bool is_failed[2];   /* for want of memory */
-static bool may_be_refused; /* memory, in this run */
+static bool is_failed[2];       /* for want of memory */
+static bool is_down[2];         /* its program crashed, and was not started anew yet: the slot is empty */
+static unsigned generations[2]; /* how often the client's program was started anew; a server has that of its client */
+static bool may_be_refused;     /* memory, in this run */
 static uint64_t now;
 static uint64_t timer_slack[2]; /* how late an end looks at its timers if nothing else happens */
 static uint64_t last_expiry[2];
@@ -110,6 +114,7 @@ static inline void put_on_way(int to, uint64_t at, const uint8_t *bytes, size_t 
     struct datagram *put = malloc(sizeof *put + length), *before = last_on_way;
     CHECK(put != NULL);
     put->at = at, put->to = to, put->length = length;
+    put->generation = generations[!to];
     memcpy(put->bytes, bytes, length);
     while (before && before->at > at)
         before = before->before;
@@ -160,9 +165,14 @@ static inline void send_all(int end) {
     }
 }
 
+/* Whether an end has an association whose loop goes on. */
+static inline bool is_running(int end) {
+    return !is_failed[end] && !is_down[end];
+}
+
 static inline void turn(int end) {
     uint64_t due;
-    if (is_failed[end])
+    if (!is_running(end))
         return;
     if (done(sctp_assoc_poll_timeout(&ends[end].assoc, &due)) && due <= now)
         expire(end);
@@ -180,7 +190,7 @@ static inline void turn_both(void) {
 /* When the timer of an end expires next. */
 static inline uint64_t due_at(int end) {
     uint64_t due;
-    return !is_failed[end] && done(sctp_assoc_poll_timeout(&ends[end].assoc, &due)) ? due : NEVER;
+    return is_running(end) && done(sctp_assoc_poll_timeout(&ends[end].assoc, &due)) ? due : NEVER;
 }
 
 /* The moment of the next timer or datagram, unless another one comes first. */
@@ -201,10 +211,12 @@ static inline void deliver_due(void) {
         struct datagram *came = take_first();
         int end = came->to;
         uint32_t fate;
-        if (!is_failed[end]) {
+        if (is_running(end)) {
             show("comes", !end, came->bytes, came->length);
-            went(end, sctp_assoc_watched_handle_datagram(&ends[end].assoc, &watches[end], now, came->bytes,
-                                                         came->length, &fate));
+            if (went(end, sctp_assoc_watched_handle_datagram(&ends[end].assoc, &watches[end], now, came->bytes,
+                                                             came->length, &fate)) &&
+                run->meet)
+                run->meet(came, fate);
         }
         free(came);
         turn(end);
@@ -230,7 +242,8 @@ static inline void begin_pair(const struct run *begun) {
     may_be_refused = false;
     memset(watches, 0, sizeof watches);
     for (int end = 0; end < 2; end++) {
-        is_failed[end] = false;
+        is_failed[end] = is_down[end] = false;
+        generations[end] = 0;
         timer_slack[end] = last_expiry[end] = 0;
         expiries_at_once[end] = 0;
     }

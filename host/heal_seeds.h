@@ -3,14 +3,14 @@
 #ifndef HEAL_SEEDS_H
 #define HEAL_SEEDS_H
 
-#include "heal_waiting.h"
+#include "heal_crashes.h"
 
-#define CLASSES 10
+#define CLASSES 11
 #define HEALED_DELAY (10 * MS)
 #define MOST_AFTER_HEALING (600 * SECOND)
 #define MOST_STEPS 3000000
 
-enum { ANY, NO_LOSS, NO_PAUSES, BLACK_OUTS, MEMORY, TWO, TAME, TAME_DEFAULT, TAME_TWO, TAME_LONG };
+enum { ANY, NO_LOSS, NO_PAUSES, BLACK_OUTS, MEMORY, TWO, TAME, TAME_DEFAULT, TAME_TWO, TAME_LONG, CRASHES };
 
 static int class;
 static uint64_t seed, healed_at;
@@ -73,6 +73,8 @@ static uint64_t next_act(uint64_t other) {
         if (own->is_paused && own->pause_end < next)
             next = own->pause_end;
     }
+    if (!is_healed && next_crash < next)
+        next = next_crash;
     return !is_healed && next_black < next ? next_black : next;
 }
 
@@ -102,6 +104,8 @@ static void live(uint64_t limit) {
             find(STORM, "at %llu ms", (unsigned long long)(now / MS));
         if (!is_healed && now >= next_black)
             go_black();
+        if (!is_healed && now >= next_crash)
+            crash_or_start();
         deliver_due();
         for (int end = 0; end < 2; end++) {
             act_if_due(end);
@@ -144,7 +148,7 @@ static void judge_handshake(void) {
         return;
     bool is_told = applications[down].is_handshake_failed;
     if (is_up[!down] && !is_told && !applications[down].is_over && !(set.join == SERVED && down == B))
-        find(HALF_OPEN, "%c is not connected", "AB"[down]);
+        find(applications[B].is_crossed ? HANDSHAKE_CROSSED : HALF_OPEN, "%c is not connected", "AB"[down]);
     else if (!is_up[!down] && !is_told)
         find(set.join == TWO_CLIENTS ? HANDSHAKE_TWO : HANDSHAKE, "neither is connected");
 }
@@ -211,7 +215,7 @@ static void judge_use(void) {
 static void judge_healing(void) {
     uint64_t unread = 0, wait = 0;
     for (uint32_t i = 0; i < message_count; i++)
-        unread += messages[i].was_read ? 0 : messages[i].length;
+        unread += messages[i].was_read || messages[i].generation != generations[A] ? 0 : messages[i].length;
     for (int end = 0; end < 2; end++)
         if (due_at(end) != NEVER && due_at(end) > now + wait)
             wait = due_at(end) - now;
@@ -275,13 +279,22 @@ static void choose_applications(bool is_tame) {
     set.is_first_reliable = is_tame || happens(700);
     set.is_gentle = is_tame || happens(600);
     set.has_deaf_pauses = !is_tame;
-    set.shuts_down_connected = class >= TAME_TWO;
+    set.shuts_down_connected = class == TAME_TWO || class == TAME_LONG;
     if (class == MEMORY || (class == TAME_TWO && happens(300)))
         set.growths_for_refusal = growths_for_refusals[pick(COUNT_OF(growths_for_refusals))];
     if (class == TAME_LONG) {
         set.losses = (unsigned)pick(100);
         set.pauses = (unsigned)pick(20);
     }
+}
+
+/* More comes late than elsewhere, as of a client that crashed. */
+static void choose_crashes(void) {
+    set.repeats += (unsigned)pick(200);
+    set.delays += (unsigned)pick(300);
+    set.crashes = (int)pick_between(1, 5);
+    set.server_crashes = happens(400) ? (unsigned)pick(700) : 0;
+    set.drops_beside = happens(500);
 }
 
 static void choose(void) {
@@ -295,6 +308,8 @@ static void choose(void) {
     set.max_init_retransmits = is_tame ? SCTP_ASSOC_NO_LIMIT : 8;
     if (!is_tame && !happens(700))
         set.max_init_retransmits = happens(500) ? SCTP_ASSOC_NO_LIMIT : pick(5);
+    if (class == CRASHES)
+        choose_crashes();
 }
 
 static sctp_assoc_config choose_config(int end) {
@@ -311,17 +326,7 @@ static sctp_assoc_config choose_config(int end) {
     return config;
 }
 
-/* Any numbers but 0; the TSNs of one in ten wrap soon. */
-static sctp_assoc_identity choose_identity(void) {
-    sctp_assoc_identity chosen = {.tag = (uint32_t)pick(UINT32_MAX) + 1};
-    chosen.initial_tsn = happens(100) ? UINT32_MAX - (uint32_t)pick(50) : (uint32_t)pick(UINT32_MAX) + 1;
-    for (size_t i = 0; i < sizeof chosen.cookie; i++)
-        chosen.cookie[i] = (uint8_t)pick(256);
-    return chosen;
-}
-
 static void make_ends(void) {
-    sctp_assoc_config configs[2];
     sctp_assoc_identity identities[2];
     sctp_assoc_token tokens[2];
     for (int end = 0; end < 2; end++) {
@@ -342,10 +347,15 @@ static void make_ends(void) {
     }
 }
 
+/* A number of each seed of each class. Those of the first ten stay, however many classes there are. */
+static uint64_t first_number(void) {
+    return seed * 10 + (uint64_t) class % 10 + 1 + ((uint64_t) class / 10 << 40);
+}
+
 static void begin_seed(void) {
-    static const struct run seed_run = {take_events_of, send_over_network, look_at_end};
+    static const struct run seed_run = {take_events_of, send_over_network, look_at_end, meet_datagram};
     begin_pair(&seed_run);
-    random_state = (seed * CLASSES + (uint64_t) class + 1) * UINT64_C(0x9e3779b97f4a7c15);
+    random_state = first_number() * UINT64_C(0x9e3779b97f4a7c15);
     for (int i = 0; i < 8; i++)
         pick(2);
     memset(applications, 0, sizeof applications);
@@ -357,6 +367,7 @@ static void begin_seed(void) {
     found = WELL;
     choose();
     make_ends();
+    begin_crashes();
     may_be_refused = set.growths_for_refusal > 0;
     growths = refused_from = refused_to = 0;
 }
@@ -380,6 +391,7 @@ static void run_seed(void) {
     turn_both();
     live(set.chaos_end);
     refused_from = refused_to = UINT64_MAX;
+    end_crashes();
     healed_at = now;
     is_healed = true;
     for (int end = 0; end < 2; end++) {
@@ -400,6 +412,7 @@ static void run_seed(void) {
         judge_timers();
     if (found == WELL)
         judge_use();
+    drop_beside();
     end_pair();
 }
 

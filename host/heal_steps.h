@@ -88,7 +88,7 @@ static inline void join_for(const struct run *case_run) {
         CHECK(done(sctp_assoc_joined(&ends[end].assoc, &config, PAYLOAD_SIZE, &tokens[end], &tokens[!end])));
 }
 
-static const struct run case_run = {take_case_events, send_in_case, look_at_nothing};
+static const struct run case_run = {take_case_events, send_in_case, look_at_nothing, NULL};
 
 /* Two ends that tokens join. */
 static inline void join(void) {

@@ -72,6 +72,10 @@ static enum kind what_waits(void) {
     waiting_end = applications[A].is_connected ? B : A, waiting_place = 0;
     if (has_no_handshake(A) || has_no_handshake(B))
         return WELL; /* who was told so has to end it */
+    if (applications[B].is_crossed && !applications[A].is_connected)
+        return HANDSHAKE_CROSSED;
+    if (are_apart())
+        return HANDSHAKE_ANEW;
     if (is_any_ending() && applications[A].is_connected != applications[B].is_connected && !is_any_failed())
         return HANDSHAKE_SHUT_DOWN;
     for (int pass = 0; pass < 2; pass++)

@@ -66,7 +66,7 @@ static void begin(uint32_t profile, enum network chosen, const struct run *count
 /* ---- Streams ---- */
 
 typedef sctp_assoc_code ending_call(sctp_assoc *slot, uint16_t stream);
-static const struct run stream_run = {take_case_events, send_in_network, account};
+static const struct run stream_run = {take_case_events, send_in_network, account, NULL};
 
 /* Whether B reads a message, if A's stream is there already. */
 static bool reads_one(void) {
@@ -185,7 +185,7 @@ static void take_channel_events(int side) {
     }
 }
 
-static const struct run channel_run = {take_channel_events, send_in_network, account};
+static const struct run channel_run = {take_channel_events, send_in_network, account, NULL};
 
 static void open_channel(uint16_t *id) {
     CHECK(done(sctp_channels_open(&ends[A], &reliable, (const uint8_t *)"channel", 7, NULL, 0, id)));
