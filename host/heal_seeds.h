@@ -5,6 +5,9 @@
 
 #include "heal_crashes.h"
 
+#include <sys/wait.h>
+#include <unistd.h>
+
 #define CLASSES 11
 #define HEALED_DELAY (10 * MS)
 #define MOST_AFTER_HEALING (600 * SECOND)
@@ -384,6 +387,43 @@ static void count_round_trips(uint64_t timers_end) {
     say("all is there %llu round trips past the timers", (unsigned long long)round_trips);
 }
 
+/* Has an end's timers expire that hears nothing, and answers when the last of those did that ran at first. Of each kind
+ * that is its first expiry: retransmission, acknowledgement, and all others. */
+static uint64_t expire_all(int end) {
+    uint64_t first[3] = {0}, last = healed_at, due;
+    for (int expiries = 0; expiries < 16 && (due = due_at(end)) != NEVER; expiries++) {
+        sctp_assoc_totals before, after;
+        CHECK(done(sctp_assoc_stats(&ends[end].assoc, &before)));
+        sctp_assoc_handle_timeout(&ends[end].assoc, due);
+        CHECK(done(sctp_assoc_stats(&ends[end].assoc, &after)));
+        bool is_data = after.retransmission_timeouts > before.retransmission_timeouts;
+        int kind = is_data ? 0 : after.ack_timeouts > before.ack_timeouts ? 1 : 2;
+        if (first[kind] == 0)
+            first[kind] = due;
+        last = first[kind] > last ? first[kind] : last;
+    }
+    return last;
+}
+
+/* When all timers of an end that run now will have expired. The library tells of the next one alone, so a process of its
+ * own has them expire. */
+static uint64_t last_due_at(int end) {
+    uint64_t last;
+    int ways[2];
+    CHECK(pipe(ways) == 0);
+    fflush(stdout);
+    pid_t child = fork();
+    CHECK(child >= 0);
+    if (child == 0) {
+        last = expire_all(end);
+        _exit(write(ways[1], &last, sizeof last) != (ssize_t)sizeof last);
+    }
+    close(ways[1]);
+    CHECK(read(ways[0], &last, sizeof last) == (ssize_t)sizeof last && waitpid(child, NULL, 0) == child);
+    close(ways[0]);
+    return last;
+}
+
 /* Runs the seed of the class, and leaves in `found` how it ended. */
 static void run_seed(void) {
     begin_seed();
@@ -399,9 +439,10 @@ static void run_seed(void) {
         timer_slack[end] = 0;
     }
     uint64_t timers_end = healed_at;
-    for (int end = 0; end < 2; end++)
-        if (due_at(end) != NEVER && due_at(end) > timers_end)
-            timers_end = due_at(end);
+    for (int end = 0; end < 2; end++) {
+        uint64_t last = due_at(end) == NEVER ? healed_at : last_due_at(end);
+        timers_end = last > timers_end ? last : timers_end;
+    }
     if (found == WELL)
         judge_healing();
     if (found == WELL)
