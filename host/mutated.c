@@ -240,11 +240,15 @@ static void write_one(int end) {
         is_channel_open[end] = is_done(sctp_assoc_close_stream(&ends[end], stream));
 }
 
+/* No timer ends an association. It can be over before that is told: a close of a stream may find that forged DATA
+ * exhausted the receive buffer. */
 static void expire(int end) {
-    bool was_lost = is_lost[end];
+    bool was_drained = sctp_assoc_is_drained(&ends[end]);
+    CHECK(is_lost[end] == was_drained || !is_plain());
     CHECK(done(sctp_assoc_handle_timeout(&ends[end], now)));
     drain(end);
-    CHECK(is_lost[end] == was_lost);
+    CHECK(is_lost[end] == was_drained);
+    CHECK(!is_lost[end] || lost_reason[end] == SCTP_ASSOC_REASON_BUFFER_EXHAUSTED || was_drained);
 }
 
 static void deliver(int to) {
